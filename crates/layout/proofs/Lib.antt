@@ -1,0 +1,4 @@
+mod Digits
+mod Fields
+mod Runs
+mod Rooms

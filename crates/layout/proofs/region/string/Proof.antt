@@ -1,0 +1,9 @@
+use Rattle.layout.specs.Steps.{reads}
+use Rattle.layout.proofs.region.string.Statement.{statement}
+use Rattle.layout.proofs.region.string.Tie as tie
+
+pub string-spec : {M : Type 1} → statement M
+string-spec =
+    tie.close
+    (tie.spec
+    (λ _ _. tt) (λ _ _. tt) (λ c. search reads))

@@ -1,0 +1,187 @@
+// Numbers: what comes next, and past it.
+ghost use mathlib.Core.Path.{_≡_};
+ghost use mathlib.Core.List.{[], _∷_};
+ghost use Prim.Native.Nat.{_≤_, _-_, min};
+ghost use lib.ListN.{length, take, drop};
+ghost use Rattle.layout.specs.Layout.{little, big, the-number, a-version, a-bool, at-most, one-of};
+ghost use Rattle.layout.specs.Conventions as grammar;
+ghost use Rattle.layout.specs.Read.{undigits};
+ghost use Rattle.layout.specs.Reads as spec;
+ghost use Rattle.layout.specs.Reads.{Reads, order, verdict};
+use crate::Step;
+
+// How many bytes there are from a position on.
+pub fn left(s: &[u8], at: usize) -> usize
+    ensures { λ r. ⌜ r ≡ length (now (s .entry)) - at ⌝ }
+{
+    if at <= s.len() { s.len() - at } else { 0 }
+}
+
+// The number that w bytes spell, the lowest first.
+fn low_first(s: &[u8], at: usize, w: usize) -> u64
+    requires { ⌜ (w ≤ length (now s) - at) × (w ≤ 8) ⌝ }
+    ensures { λ r. ⌜ r ≡ undigits little (take w (drop at (now (s .entry)))) ⌝ }
+{
+    let mut v: u64 = 0;
+    let mut i = w;
+    while 0 < i {
+        i -= 1;
+        v = v * 256 + s[at + i] as u64;
+    }
+    v
+}
+
+// The number that w bytes spell, the highest first.
+fn high_first(s: &[u8], at: usize, w: usize) -> u64
+    requires { ⌜ (w ≤ length (now s) - at) × (w ≤ 8) ⌝ }
+    ensures { λ r. ⌜ r ≡ undigits big (take w (drop at (now (s .entry)))) ⌝ }
+{
+    let mut v: u64 = 0;
+    let mut i = 0;
+    while i < w {
+        v = v * 256 + s[at + i] as u64;
+        i += 1;
+    }
+    v
+}
+
+// A width that a 64-bit number has: a greater one counts as 8.
+pub fn width(w: usize) -> usize
+    ensures { λ r. ⌜ r ≡ min w 8 ⌝ }
+{
+    if w <= 8 { w } else { 8 }
+}
+
+fn number(s: &[u8], st: Step, high: bool, w: usize) -> u64
+    requires { ⌜ w ≤ 8 ⌝ }
+    ensures { λ r. ⌜ r ≡ spec.peek (order high) w (now (s .entry)) st ⌝ }
+{
+    let Step::Next(at) = st else {
+        return 0;
+    };
+    let fits = w <= left(s, at);
+    if fits {
+        if high {
+            high_first(s, at, w)
+        } else {
+            low_first(s, at, w)
+        }
+    } else {
+        0
+    }
+}
+
+// The number of w bytes that comes next; 0 where there is none.
+pub fn peek(s: &[u8], st: Step, high: bool, w: usize) -> u64
+    ensures { λ r. ⌜ r ≡ spec.peek (order high) (min w 8) (now (s .entry)) st ⌝ }
+{
+    number(s, st, high, width(w))
+}
+
+// Past w bytes, which get the refusal c unless it is 0.
+pub fn field(s: &[u8], st: Step, w: usize, c: u32) -> Step
+    ensures { λ r. ⌜ r ≡ spec.field w c (now (s .entry)) st ⌝ }
+{
+    let Step::Next(at) = st else {
+        return st;
+    };
+    let inside = w <= left(s, at);
+    let good = c == 0;
+    if inside {
+        if good {
+            Step::Next(at + w)
+        } else {
+            Step::Refused(c, at)
+        }
+    } else {
+        Step::Refused(2, at)
+    }
+}
+
+// ---- verdicts
+
+pub fn only(v: u64, n: u64) -> u32
+    ensures { λ c. ⌜ c ≡ verdict (the-number n) v ⌝ }
+{
+    let same = v == n;
+    if same { 0 } else { 3 }
+}
+
+pub fn flag(v: u64) -> u32
+    ensures { λ c. ⌜ c ≡ verdict a-bool v ⌝ }
+{
+    let small = v <= 1;
+    if small { 0 } else { 5 }
+}
+
+pub fn limit(v: u64, n: u64) -> u32
+    ensures { λ c. ⌜ c ≡ verdict (at-most n) v ⌝ }
+{
+    let small = v <= n;
+    if small { 0 } else { 7 }
+}
+
+pub fn known(v: u64, n: u64) -> u32
+    ensures { λ c. ⌜ c ≡ verdict (a-version (n ∷ [])) v ⌝ }
+{
+    let same = v == n;
+    if same { 0 } else { 4 }
+}
+
+pub fn either(v: u64, a: u64, b: u64) -> u32
+    ensures { λ c. ⌜ c ≡ verdict (one-of (a ∷ b ∷ [])) v ⌝ }
+{
+    let first = v == a;
+    let second = v == b;
+    if first {
+        0
+    } else if second {
+        0
+    } else {
+        3
+    }
+}
+
+// ---- fields
+
+// A field of w bytes of any value, in either order.
+pub fn any(s: &[u8], st: Step, w: usize) -> Step
+    ensures { λ r. ⌜ r ≡ spec.field w 0 (now (s .entry)) st ⌝ }
+{
+    field(s, st, w, 0)
+}
+
+// The number n in w bytes.
+pub fn fixed(s: &[u8], st: Step, high: bool, w: usize, n: u64) -> Step
+    ensures { λ r. ⌜ Reads (grammar.field (order high) (min w 8) (the-number n)) (now (s .entry)) st r ⌝ }
+{
+    let w = width(w);
+    field(s, st, w, only(number(s, st, high, w), n))
+}
+
+pub fn boolean(s: &[u8], st: Step) -> Step
+    ensures { λ r. ⌜ Reads grammar.bool (now (s .entry)) st r ⌝ }
+{
+    field(s, st, 1, flag(number(s, st, false, 1)))
+}
+
+// The version n, in four bytes.
+pub fn version(s: &[u8], st: Step, n: u64) -> Step
+    ensures { λ r. ⌜ Reads (grammar.field little 4 (a-version (n ∷ []))) (now (s .entry)) st r ⌝ }
+{
+    field(s, st, 4, known(number(s, st, false, 4), n))
+}
+
+// A count of four bytes, which is at most n.
+pub fn count(s: &[u8], st: Step, n: u64) -> Step
+    ensures { λ r. ⌜ Reads (grammar.field little 4 (at-most n)) (now (s .entry)) st r ⌝ }
+{
+    field(s, st, 4, limit(number(s, st, false, 4), n))
+}
+
+// One of two bytes.
+pub fn one_of_two(s: &[u8], st: Step, a: u64, b: u64) -> Step
+    ensures { λ r. ⌜ Reads (grammar.field little 1 (one-of (a ∷ b ∷ []))) (now (s .entry)) st r ⌝ }
+{
+    field(s, st, 1, either(number(s, st, false, 1), a, b))
+}

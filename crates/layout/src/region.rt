@@ -1,0 +1,154 @@
+// Strings and counted regions: a count, and as many bytes.
+ghost use mathlib.Core.Path.{_≡_};
+ghost use Prim.Native.Nat.{_+_, min};
+ghost use Rattle.layout.specs.Layout.{exact, optional, open-ended, string, times};
+ghost use Rattle.layout.specs.Reads as spec;
+ghost use Rattle.layout.specs.Reads.{Reads, order};
+use crate::Span;
+use crate::Step;
+use crate::number::left;
+use crate::number::peek;
+use crate::number::width;
+
+// Where the bytes lie that a count of w bytes announces.
+pub fn part(s: &[u8], st: Step, high: bool, w: usize) -> Span
+    ensures { λ r. ⌜ r ≡ spec.part (order high) (min w 8) (now (s .entry)) st ⌝ }
+{
+    let n = peek(s, st, high, w) as usize;
+    let w = width(w);
+    match st {
+        Step::Next(at) => {
+            let room = left(s, at);
+            let head = w <= room;
+            if head {
+                let fits = n <= room - w;
+                if fits {
+                    Span::Of(at + w, at + w + n)
+                } else {
+                    Span::Not(2, at)
+                }
+            } else {
+                Span::Not(2, at)
+            }
+        }
+        Step::Refused(r, p) => Span::Not(r, p),
+    }
+}
+
+// The bytes of a part; none where it does not lie inside the slice.
+pub fn bytes(s: &[u8], p: Span) -> &[u8]
+    ensures { λ r. ⌜ now r ≡ spec.bytes (now (s .entry)) p ⌝ }
+{
+    let Span::Of(b, e) = p else {
+        return &s[..0];
+    };
+    if b <= e {
+        if e <= s.len() { &s[b..e] } else { &s[..0] }
+    } else {
+        &s[..0]
+    }
+}
+
+pub fn past(p: Span) -> Step
+    ensures { λ r. ⌜ r ≡ spec.past p ⌝ }
+{
+    match p {
+        Span::Of(_, e) => Step::Next(e),
+        Span::Not(r, p) => Step::Refused(r, p),
+    }
+}
+
+// A position of a part, in the slice that the part is of.
+fn place(b: usize, e: usize, p: usize) -> usize
+    ensures { λ r. ⌜ r ≡ min (b + p) e ⌝ }
+{
+    if p <= e {
+        if b <= e - p { b + p } else { e }
+    } else {
+        e
+    }
+}
+
+// After the content of a region, which fills it.
+pub fn close(p: Span, i: Step) -> Step
+    ensures { λ r. ⌜ r ≡ spec.close exact p i ⌝ }
+{
+    match p {
+        Span::Of(b, e) => match i {
+            Step::Next(p) => {
+                let at = place(b, e, p);
+                let full = at == e;
+                if full {
+                    Step::Next(e)
+                } else {
+                    Step::Refused(6, at)
+                }
+            }
+            Step::Refused(r, p) => Step::Refused(r, place(b, e, p)),
+        },
+        Span::Not(r, p) => Step::Refused(r, p),
+    }
+}
+
+// After the content of a region that is empty or filled.
+pub fn close_optional(p: Span, i: Step) -> Step
+    ensures { λ r. ⌜ r ≡ spec.close optional p i ⌝ }
+{
+    match p {
+        Span::Of(b, e) => {
+            let none = b == e;
+            if none {
+                Step::Next(e)
+            } else {
+                close(Span::Of(b, e), i)
+            }
+        }
+        Span::Not(r, p) => Step::Refused(r, p),
+    }
+}
+
+// After the content of a region that has bytes of any value after it.
+pub fn close_open(p: Span, i: Step) -> Step
+    ensures { λ r. ⌜ r ≡ spec.close open-ended p i ⌝ }
+{
+    match p {
+        Span::Of(b, e) => match i {
+            Step::Next(_) => Step::Next(e),
+            Step::Refused(r, p) => Step::Refused(r, place(b, e, p)),
+        },
+        Span::Not(r, p) => Step::Refused(r, p),
+    }
+}
+
+// A string, its length in w bytes.
+pub fn string(s: &[u8], st: Step, high: bool, w: usize) -> Step
+    ensures { λ r. ⌜ Reads (string (order high) (min w 8)) (now (s .entry)) st r ⌝ }
+{
+    past(part(s, st, high, w))
+}
+
+// n strings.
+pub fn strings(s: &[u8], st: Step, high: bool, w: usize, n: u64) -> Step
+    ensures { λ r. ⌜ Reads (times n (string (order high) (min w 8))) (now (s .entry)) st r ⌝ }
+{
+    let mut at = st;
+    let mut k = n;
+    while 0 < k {
+        if let Step::Refused(_, _) = at {
+            return at;
+        }
+        at = string(s, at, high, w);
+        k -= 1;
+    }
+    at
+}
+
+// What nothing has: a limit is passed.
+pub fn nothing(st: Step) -> Step
+    ensures { λ r. ⌜ r ≡ spec.refused st ⌝ }
+{
+    match st {
+        Step::Next(at) => Step::Refused(7, at),
+        Step::Refused(r, p) => Step::Refused(r, p),
+    }
+}

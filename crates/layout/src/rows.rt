@@ -1,0 +1,44 @@
+// Rows of fields of any value, skipped without visiting each: the first that does not fit is found by division.
+ghost use mathlib.Core.Path.{_≡_};
+ghost use Rattle.layout.specs.Layout.{little, any-number, times};
+ghost use Rattle.layout.specs.Conventions as grammar;
+ghost use Rattle.layout.specs.Reads as spec;
+ghost use Rattle.layout.specs.Reads.{Reads, order};
+use crate::Step;
+use crate::number::any;
+use crate::number::left;
+
+// How many of n rows of that size fit.
+pub fn fitting(s: &[u8], st: Step, n: u64, size: usize) -> u64
+    ensures { λ r. ⌜ r ≡ spec.fitting size n (now (s .entry)) st ⌝ }
+{
+    let Step::Next(at) = st else {
+        return 0;
+    };
+    let none = size == 0;
+    if none {
+        return n;
+    }
+    let room = (left(s, at) / size) as u64;
+    if n <= room { n } else { room }
+}
+
+// Past the rows that fit, of n rows of that size.
+pub fn rows(s: &[u8], st: Step, n: u64, size: usize) -> Step
+    ensures { λ r. ⌜ r ≡ spec.rows size n (now (s .entry)) st ⌝ }
+{
+    let k = fitting(s, st, n, size);
+    match st {
+        Step::Next(at) => Step::Next(at + k as usize * size),
+        Step::Refused(r, p) => Step::Refused(r, p),
+    }
+}
+
+// n fields of w bytes of any value.
+pub fn fields(s: &[u8], st: Step, high: bool, n: u64, w: usize) -> Step
+    ensures { λ r. ⌜ Reads (times n (grammar.field (order high) w any-number)) (now (s .entry)) st r ⌝ }
+{
+    let k = fitting(s, st, n, w);
+    let at = rows(s, st, n, w);
+    if k == n { at } else { any(s, at, w) }
+}
