@@ -2,3 +2,4 @@ mod Digits
 mod Fields
 mod Runs
 mod Rooms
+mod Many

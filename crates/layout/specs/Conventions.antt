@@ -84,6 +84,18 @@ either a x b y = number little 1 (one-of (a ∷ b ∷ [])) (λ n. pick (eqb n a)
 abbrev pub if31 : Layout → Layout
 if31 x = either 0x31 x 0x58 empty
 
+-- A | B | ..., each known by its first byte
+abbrev pub choose : List (ℕ × Layout) → ℕ → Layout
+choose [] n = empty
+choose (c ∷ cs) n = pick (eqb n (c .0)) (c .1) (choose cs n)
+
+abbrev pub keys : List (ℕ × Layout) → List ℕ
+keys [] = []
+keys (c ∷ cs) = c .0 ∷ keys cs
+
+abbrev pub alternatives : List (ℕ × Layout) → Layout
+alternatives cs = number little 1 (one-of (keys cs)) (choose cs)
+
 -- count(X), becount(X)
 abbrev pub count : Layout → Layout
 count x = region little exact x

@@ -3,7 +3,7 @@ ghost use mathlib.Core.Path.{_≡_};
 ghost use mathlib.Core.List.{[], _∷_};
 ghost use Prim.Native.Nat.{_≤_, _-_, min};
 ghost use lib.ListN.{length, take, drop};
-ghost use Rattle.layout.specs.Layout.{little, big, the-number, a-version, a-bool, at-most, one-of};
+ghost use Rattle.layout.specs.Layout.{little, big, any-number, the-number, a-version, a-bool, at-most, one-of};
 ghost use Rattle.layout.specs.Conventions as grammar;
 ghost use Rattle.layout.specs.Read.{undigits};
 ghost use Rattle.layout.specs.Reads as spec;
@@ -144,9 +144,10 @@ pub fn either(v: u64, a: u64, b: u64) -> u32
 
 // ---- fields
 
-// A field of w bytes of any value, in either order.
+// A field of w bytes of any value: the same in either order.
 pub fn any(s: &[u8], st: Step, w: usize) -> Step
-    ensures { λ r. ⌜ r ≡ spec.field w 0 (now (s .entry)) st ⌝ }
+    ensures low { λ r. ⌜ Reads (grammar.field little w any-number) (now (s .entry)) st r ⌝ }
+    ensures high { λ r. ⌜ Reads (grammar.field big w any-number) (now (s .entry)) st r ⌝ }
 {
     field(s, st, w, 0)
 }

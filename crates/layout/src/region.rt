@@ -1,11 +1,12 @@
 // Strings and counted regions: a count, and as many bytes.
 ghost use mathlib.Core.Path.{_≡_};
 ghost use Prim.Native.Nat.{_+_, min};
-ghost use Rattle.layout.specs.Layout.{exact, optional, open-ended, string, times};
+ghost use Rattle.layout.specs.Layout.{any-number, exact, optional, open-ended, number, string, times};
 ghost use Rattle.layout.specs.Reads as spec;
 ghost use Rattle.layout.specs.Reads.{Reads, order};
 use crate::Span;
 use crate::Step;
+use crate::number::any;
 use crate::number::left;
 use crate::number::peek;
 use crate::number::width;
@@ -141,6 +142,14 @@ pub fn strings(s: &[u8], st: Step, high: bool, w: usize, n: u64) -> Step
         k -= 1;
     }
     at
+}
+
+// A count of four bytes and as many strings, their lengths in w bytes.
+pub fn many_strings(s: &[u8], st: Step, high: bool, w: usize) -> Step
+    ensures { λ r. ⌜ Reads (number (order high) 4 any-number (λ n. times n (string (order high) (min w 8)))) (now (s .entry)) st r ⌝ }
+{
+    let n = peek(s, st, high, 4);
+    strings(s, any(s, st, 4), high, w, n)
 }
 
 // What nothing has: a limit is passed.

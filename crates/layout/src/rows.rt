@@ -1,12 +1,14 @@
 // Rows of fields of any value, skipped without visiting each: the first that does not fit is found by division.
 ghost use mathlib.Core.Path.{_≡_};
-ghost use Rattle.layout.specs.Layout.{little, any-number, times};
+ghost use Rattle.layout.specs.Layout.{any-number, number, times};
 ghost use Rattle.layout.specs.Conventions as grammar;
 ghost use Rattle.layout.specs.Reads as spec;
 ghost use Rattle.layout.specs.Reads.{Reads, order};
 use crate::Step;
 use crate::number::any;
+use crate::number::field;
 use crate::number::left;
+use crate::number::peek;
 
 // How many of n rows of that size fit.
 pub fn fitting(s: &[u8], st: Step, n: u64, size: usize) -> u64
@@ -40,5 +42,13 @@ pub fn fields(s: &[u8], st: Step, high: bool, n: u64, w: usize) -> Step
 {
     let k = fitting(s, st, n, w);
     let at = rows(s, st, n, w);
-    if k == n { at } else { any(s, at, w) }
+    if k == n { at } else { field(s, at, w, 0) }
+}
+
+// A count of four bytes and as many fields of w bytes of any value.
+pub fn many(s: &[u8], st: Step, high: bool, w: usize) -> Step
+    ensures { λ r. ⌜ Reads (number (order high) 4 any-number (λ n. times n (grammar.field (order high) w any-number))) (now (s .entry)) st r ⌝ }
+{
+    let n = peek(s, st, high, 4);
+    fields(s, any(s, st, 4), high, n, w)
 }

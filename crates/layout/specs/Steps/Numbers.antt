@@ -1,17 +1,18 @@
 -- Numbers, their tests, and what a number asks for.
 use mathlib.Core.Path.{_≡_, refl, sym, _∙_}
 use mathlib.Core.Bool.{Bool, true, false}
-use mathlib.Core.List.{List}
+use mathlib.Core.List.{List, [], _∷_}
 use Prim.Native.Nat.{ℕ, _+_, _-_}
 use lib.ListN.{length, take, drop}
 use lib.Seq.{drop-drop}
 use lib.Dec.{eqb, leb}
 use Rattle.layout.specs.declared.Step.{Step}
 use Rattle.layout.specs.declared.Step.the-variants.{Next, Refused}
-use Rattle.layout.specs.Layout.{Order, little, Test, any-number, the-number, a-version, a-bool, at-most, one-of, a-color, passes, Layout, empty, number, Tree}
-use Rattle.layout.specs.Read.{got, no, refusal, too-short, pick, bind, undigits, readNumber, read}
+use Rattle.layout.specs.Layout.{Order, little, Test, any-number, the-number, a-version, a-bool, at-most, one-of, a-color, among, passes, Layout, empty, number, Tree}
+use borrow.Author.Tests.{ne-eqb}
+use Rattle.layout.specs.Read.{Got, got, no, refusal, too-short, pick, bind, undigits, readNumber, read}
 use Rattle.layout.specs.Reads.{forget, step, chain, Reads, numberOf, peek, verdict, judged, field}
-use Rattle.layout.specs.Steps.Chain.{forget-map}
+use Rattle.layout.specs.Steps.Chain.{forget-map, kept}
 
 broken : (test : Test) (v : ℕ) → passes test v ≡ false → eqb (refusal test) 0 ≡ false
 unfolding passes refusal
@@ -110,3 +111,61 @@ yes-of b y e h = rw e h
 pub no-of : {y : Layout} {s : List ℕ} {st r : Step} (b : Bool) (x : Layout) → b ≡ false → Reads y s st r → Reads (pick b x y) s st r
 unfolding pick
 no-of b x e h = rw e h
+
+-- ---- an arm for each first byte
+
+verdict-passed : (test : Test) (v : ℕ) → passes test v ≡ true → 0 ≡ verdict test v
+unfolding verdict pick
+verdict-passed test v e = rw e
+
+verdict-broken : (test : Test) (v : ℕ) → passes test v ≡ false → refusal test ≡ verdict test v
+unfolding verdict pick
+verdict-broken test v e = rw e
+
+-- a number of any value, as a field with no refusal
+free-field : {o : Order} {w : ℕ} {s : List ℕ} {st q : Step} → Reads (number o w any-number (λ _. empty)) s st q → q ≡ field w 0 s st
+unfolding verdict passes pick
+free-field {o} {w} {s} {st} e = e .is ∙ sym (tested o w any-number s st)
+
+-- the number is n, which passes
+pub arm-of : {o : Order} {w : ℕ} {test : Test} {k : ℕ → Layout} {s : List ℕ} {st q r : Step} {v n : ℕ}
+    → v ≡ n → passes test n ≡ true → Reads (k n) s q r → v ≡ peek o w s st → Reads (number o w any-number (λ _. empty)) s st q
+    → Reads (number o w test k) s st r
+arm-of {test = test} {k = k} {v = v} e t h f g =
+    switch-key {k = k} e h f (tested-of (free-field g) (verdict-passed test v (rw e t)) f)
+
+data Refuses : Step → Type 0 where
+  refuses : {r p : ℕ} → Refuses (Refused r p)
+
+broken-refuses : (w c : ℕ) (s : List ℕ) (st : Step) → eqb c 0 ≡ false → Refuses (field w c s st)
+unfolding field pick
+broken-refuses w c s (Next at) e = go (readNumber little w (drop at s) at)
+  where
+    go : (x : Got ℕ) → Refuses (judged c at x)
+    go (got n r p) = rw e refuses
+    go (no r p) = refuses
+broken-refuses w c s (Refused r p) e = refuses
+
+refused-keeps : {g : Layout} {s : List ℕ} {st : Step} → Refuses st → Reads g s st st
+refused-keeps refuses = kept refl
+
+-- the number is none that passes
+pub other-of : {o : Order} {w : ℕ} {test : Test} {k : ℕ → Layout} {s : List ℕ} {st r : Step} {v : ℕ}
+    → passes test v ≡ false → v ≡ peek o w s st → r ≡ field w (refusal test) s st → Reads (number o w test k) s st r
+other-of {o} {w} {test} {k} {s} {st} {r} {v} t f g =
+    let n : Refuses r = rw g (broken-refuses w (refusal test) s st (broken test v t)) in
+    switch-of {k = k} {v = v} (refused-keeps n) f (tested-of g (verdict-broken test v t) f)
+
+-- the last arm of a `match`: x is none of the numbers. `None` is the type of the arm's `.rest`
+abbrev pub None : Type 0 → List ℕ → ℕ → Type 0
+None T [] x = T
+None T (k ∷ ks) x = None (T × (x ≡ k → ⊥)) ks x
+
+none-first : {T : Type 0} (ks : List ℕ) (x : ℕ) → None T ks x → T
+none-first [] x t = t
+none-first (k ∷ ks) x t = (none-first ks x t) .0
+
+pub among-none : (T : Type 0) (ks : List ℕ) (x : ℕ) → None T ks x → among x ks ≡ false
+unfolding among
+among-none T [] x t = refl
+among-none T (k ∷ ks) x t = rw (ne-eqb x k ((none-first ks x t) .1)) (among-none (T × (x ≡ k → ⊥)) ks x t)

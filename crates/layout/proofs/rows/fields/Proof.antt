@@ -9,4 +9,4 @@ fields-spec =
     (tie.spec
     (λ _ _. tt) (λ _ _. tt) (λ _ _. tt)
     (λ c. rows-all flat-field (c .before .before .fitting .ensures) (c .before .rows .ensures) (c .if1 .taken))
-    (λ c. rows-some flat-field (c .before .before .before .fitting .ensures) (c .before .before .rows .ensures) (c .before .if1 .left) (free-of (c .any .ensures))))
+    (λ c. rows-some flat-field (c .before .before .before .fitting .ensures) (c .before .before .rows .ensures) (c .before .if1 .left) (free-of (c .field .ensures))))
