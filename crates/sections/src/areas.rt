@@ -1,0 +1,67 @@
+// Areas.
+ghost use Rattle.layout.specs.Reads.{Reads};
+ghost use Rattle.sections.specs.Sections as grammar;
+use layout::LITTLE;
+use layout::Step;
+use layout::number::any;
+use layout::number::boolean;
+use layout::number::fixed;
+use layout::region::string;
+use layout::run::skip;
+
+fn font(s: &[u8], st: Step, index: u64) -> Step
+    ensures { λ r. ⌜ Reads (grammar.AreaFont index) (now (s .entry)) st r ⌝ }
+{
+    let st = fixed(s, st, LITTLE, 1, index);
+    let st = fixed(s, st, LITTLE, 1, 0x31);
+    let st = string(s, st, LITTLE, 4);
+    let st = any(s, st, 4);
+    let st = any(s, st, 4);
+    let st = boolean(s, st);
+    let st = any(s, st, 4);
+    any(s, st, 4)
+}
+
+fn colors(s: &[u8], st: Step) -> Step
+    ensures { λ r. ⌜ Reads grammar.AreaColors (now (s .entry)) st r ⌝ }
+{
+    let st = string(s, st, LITTLE, 4);
+    let st = string(s, st, LITTLE, 4);
+    let st = boolean(s, st);
+    let st = string(s, st, LITTLE, 4);
+    string(s, st, LITTLE, 4)
+}
+
+fn margins(s: &[u8], st: Step) -> Step
+    ensures { λ r. ⌜ Reads grammar.AreaMargins (now (s .entry)) st r ⌝ }
+{
+    let st = any(s, st, 4);
+    let st = any(s, st, 4);
+    let st = any(s, st, 4);
+    any(s, st, 4)
+}
+
+fn area(s: &[u8], st: Step, index: u64) -> Step
+    ensures { λ r. ⌜ Reads (grammar.Area index) (now (s .entry)) st r ⌝ }
+{
+    margins(s, colors(s, font(s, st, index)))
+}
+
+fn eight(s: &[u8], st: Step) -> Step
+    ensures { λ r. ⌜ Reads grammar.EightAreas (now (s .entry)) st r ⌝ }
+{
+    let st = area(s, st, 1);
+    let st = area(s, st, 2);
+    let st = area(s, st, 3);
+    let st = area(s, st, 4);
+    let st = area(s, st, 5);
+    let st = area(s, st, 6);
+    let st = area(s, st, 7);
+    area(s, st, 8)
+}
+
+pub fn areas(s: &[u8], st: Step) -> Step
+    ensures { λ r. ⌜ Reads grammar.Areas (now (s .entry)) st r ⌝ }
+{
+    eight(s, skip(s, st, 0x00, 1))
+}

@@ -1,0 +1,41 @@
+// Footnotes.
+ghost use Rattle.layout.specs.Layout.{times};
+ghost use Rattle.layout.specs.Reads.{Reads};
+ghost use Rattle.sections.specs.Sections as grammar;
+use crate::titles::optional_value;
+use layout::LITTLE;
+use layout::Step;
+use layout::number::any;
+use layout::number::count;
+use layout::number::peek;
+use value::value;
+
+fn footnote(s: &[u8], st: Step) -> Step
+    ensures { λ r. ⌜ Reads grammar.Footnote (now (s .entry)) st r ⌝ }
+{
+    let st = value(s, st);
+    let st = optional_value(s, st);
+    any(s, st, 4)
+}
+
+fn notes(s: &[u8], st: Step, n: u64) -> Step
+    ensures { λ r. ⌜ Reads (times n grammar.Footnote) (now (s .entry)) st r ⌝ }
+{
+    let mut at = st;
+    let mut k = n;
+    while 0 < k {
+        if let Step::Refused(_, _) = at {
+            return at;
+        }
+        at = footnote(s, at);
+        k -= 1;
+    }
+    at
+}
+
+pub fn footnotes(s: &[u8], st: Step) -> Step
+    ensures { λ r. ⌜ Reads grammar.Footnotes (now (s .entry)) st r ⌝ }
+{
+    let n = peek(s, st, LITTLE, 4);
+    notes(s, count(s, st, 256), n)
+}
