@@ -1,0 +1,72 @@
+-- Source document 003, "Dimensions", "Categories", "Axes" and "Cells", for version 3, with document 01's choices.
+use mathlib.Core.List.{List, [], _∷_}
+use Prim.Native.Nat.{ℕ, zero, suc, _^_, _-_}
+use Rattle.layout.specs.Layout.{little, any-number, one-of, Layout, empty, number, _▸_, times, nothing}
+use Rattle.layout.specs.Conventions.{field, fixed, i, byte, bool, int32, int64, at-most-many, many}
+use Rattle.value.specs.Value.{Value}
+
+-- ---- 003, Categories
+
+-- Leaf => 00 00 00 i2 int32[leaf-index] i0, without the three bytes
+unfoldable pub Leaf : Layout
+Leaf = i 2 ▸ int32 ▸ i 0
+
+-- Group => bool[merge] 00 01 int32[x23] i-1 int32[n-subcategories] Category*[n-subcategories], without the three bytes.
+-- `below` is what follows the count
+unfoldable pub GroupOf : (ℕ → Layout) → Layout
+GroupOf below = int32 ▸ i (2 ^ 32 - 1) ▸ number little 4 any-number below
+
+-- document 01: the three bytes are one field. 00 00 00 makes a leaf, (00 or 01) 00 01 a group
+abbrev pub kinds : List ℕ
+kinds = 0 ∷ 0x01_00_00 ∷ 0x01_00_01 ∷ []
+
+abbrev pub KindOf : (ℕ → Layout) → ℕ → Layout
+KindOf below zero = Leaf
+KindOf below (suc k) = GroupOf below
+
+-- Category => Value[name] (Leaf | Group)
+unfoldable pub CategoryOf : (ℕ → Layout) → Layout
+CategoryOf below = Value ▸ number little 3 (one-of kinds) (KindOf below)
+
+-- a category, of which d levels may be nested
+unfoldable pub CategoryIn : ℕ → Layout
+CategoryIn zero = nothing
+CategoryIn (suc d) = CategoryOf (λ n. times n (CategoryIn d))
+
+-- document 01: categories nested 8 deep
+unfoldable pub Category : Layout
+Category = CategoryIn 8
+
+-- ---- 003, Dimensions
+
+-- DimProperties => byte[x1] byte[x2] int32[x3] bool[hide-dim-label] bool[hide-all-labels] 01 int32[dim-index]
+unfoldable pub DimProperties : Layout
+DimProperties = byte ▸ byte ▸ int32 ▸ bool ▸ bool ▸ fixed 0x01 ▸ int32
+
+-- Dimension => Value[name] DimProperties int32[n-categories] Category*[n-categories]
+unfoldable pub Dimension : Layout
+Dimension = Value ▸ DimProperties ▸ many Category
+
+-- Dimensions => int32[n-dims] Dimension*[n-dims]; document 01: at most 16
+unfoldable pub Dimensions : Layout
+Dimensions = at-most-many 16 Dimension
+
+-- ---- 003, Axes
+
+-- Axes => int32[n-layers] int32[n-rows] int32[n-columns] int32*[n-layers] int32*[n-rows] int32*[n-columns]
+unfoldable pub Axes : Layout
+Axes =
+    number little 4 any-number (λ layers.
+    number little 4 any-number (λ rows.
+    number little 4 any-number (λ columns.
+    times layers int32 ▸ times rows int32 ▸ times columns int32)))
+
+-- ---- 003, Cells
+
+-- Cell => int64[index] Value
+unfoldable pub Cell : Layout
+Cell = int64 ▸ Value
+
+-- Cells => int32[n-cells] Cell*[n-cells]; document 01: at most 4,096
+unfoldable pub Cells : Layout
+Cells = at-most-many 4096 Cell

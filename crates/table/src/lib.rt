@@ -1,0 +1,16 @@
+// Dimensions, their categories and their records; axes; cells.
+
+pub mod category; // categories and their node records
+
+// What a walk gives: the next position and the number of nodes so far; or the refusal's number and place.
+pub enum Walk {
+    On(usize, usize),
+    Off(u32, usize),
+}
+
+// What a category begins with: 0 for a leaf or 1 for a group, the length of its name, its last word, how many categories are below it
+// and where they start; or the refusal.
+pub enum Front {
+    Node(u32, u32, u32, u64, usize),
+    Not(u32, usize),
+}
