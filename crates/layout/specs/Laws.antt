@@ -20,6 +20,9 @@ pub mod Places
 pub number-spelt : (o : Order) (w n : ℕ) → n < 256 ^ w → undigits o (digits o w n) ≡ n
 number-spelt = Digits.undigits-digits
 
+pub digits-length : (o : Order) (w n : ℕ) → length (digits o w n) ≡ w
+digits-length = Digits.length-digits
+
 -- Complete: what a valid tree spells is read as that tree, whatever comes after it
 pub complete : (g : Layout) (t : Tree g) → Valid g t → (r : List ℕ) (at : ℕ) → read g (spell g t ++ r) at ≡ got t r (at + length (spell g t))
 complete = Complete.complete

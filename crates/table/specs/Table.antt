@@ -8,12 +8,12 @@ use Rattle.value.specs.Value.{Value}
 -- ---- 003, Categories
 
 -- Leaf => 00 00 00 i2 int32[leaf-index] i0, without the three bytes
-unfoldable pub Leaf : Layout
+abbrev pub Leaf : Layout
 Leaf = i 2 ▸ int32 ▸ i 0
 
 -- Group => bool[merge] 00 01 int32[x23] i-1 int32[n-subcategories] Category*[n-subcategories], without the three bytes.
 -- `below` is what follows the count
-unfoldable pub GroupOf : (ℕ → Layout) → Layout
+abbrev pub GroupOf : (ℕ → Layout) → Layout
 GroupOf below = int32 ▸ i (2 ^ 32 - 1) ▸ number little 4 any-number below
 
 -- document 01: the three bytes are one field. 00 00 00 makes a leaf, (00 or 01) 00 01 a group
@@ -25,11 +25,11 @@ KindOf below zero = Leaf
 KindOf below (suc k) = GroupOf below
 
 -- Category => Value[name] (Leaf | Group)
-unfoldable pub CategoryOf : (ℕ → Layout) → Layout
+abbrev pub CategoryOf : (ℕ → Layout) → Layout
 CategoryOf below = Value ▸ number little 3 (one-of kinds) (KindOf below)
 
 -- a category, of which d levels may be nested
-unfoldable pub CategoryIn : ℕ → Layout
+abbrev pub CategoryIn : ℕ → Layout
 CategoryIn zero = nothing
 CategoryIn (suc d) = CategoryOf (λ n. times n (CategoryIn d))
 

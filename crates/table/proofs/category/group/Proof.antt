@@ -1,11 +1,10 @@
 use Rattle.layout.specs.Steps.Chain.{_◂_}
-use Rattle.table.specs.Table.{GroupOf}
 use Rattle.table.specs.Walk.{groupAt}
 use Rattle.table.proofs.category.group.Statement.{statement}
 use Rattle.table.proofs.category.group.Tie as tie
 
 pub group-spec : {M : Type 1} → statement M
-unfolding groupAt GroupOf
+unfolding groupAt
 group-spec =
     tie.close
     (tie.spec

@@ -1,11 +1,10 @@
 use Rattle.layout.specs.Steps.Chain.{_◂_}
-use Rattle.table.specs.Table.{Leaf}
 use Rattle.table.specs.Walk.{leafAt}
 use Rattle.table.proofs.category.leaf.Statement.{statement}
 use Rattle.table.proofs.category.leaf.Tie as tie
 
 pub leaf-spec : {M : Type 1} → statement M
-unfolding leafAt Leaf
+unfolding leafAt
 leaf-spec =
     tie.close
     (tie.spec

@@ -1,0 +1,82 @@
+-- What a derivation of a category says: its node records, in file order (document 01, "What the caller gets"), and its leaf indexes.
+use mathlib.Core.List.{List, [], _∷_, _++_}
+use Prim.Native.Nat.{ℕ, zero, suc, _+_}
+use lib.ListN.{length}
+use Rattle.layout.specs.Layout.{Layout, empty, Tree, spell}
+use Rattle.value.specs.Value.{Value}
+use Rattle.table.specs.Table.{CategoryOf, CategoryIn}
+
+-- a category without what is below it
+abbrev pub Head : Layout
+Head = CategoryOf (λ _. empty)
+
+-- ---- a tree's own part, and what is below it
+
+abbrev pub front : (d : ℕ) → Tree (CategoryIn (suc d)) → Tree Head
+front d (m, (zero, t)) = (m, (zero, t))
+front d (m, (suc k, (t, (n, ts)))) = (m, (suc k, (t, (n, tt))))
+
+abbrev pub children : (d : ℕ) → Tree (CategoryIn (suc d)) → List (Tree (CategoryIn d))
+children d (m, (zero, t)) = []
+children d (m, (suc k, (t, (n, ts)))) = ts
+
+-- 0 leaf or 1 group
+abbrev pub kindOf : Tree Head → ℕ
+kindOf (m, (zero, t)) = 0
+kindOf (m, (suc k, t)) = 1
+
+-- the leaf's index, or the number of direct children
+abbrev pub wordOf : Tree Head → ℕ
+wordOf (m, (zero, t)) = t .0 .1 .0
+wordOf (m, (suc k, t)) = t .1 .0
+
+-- how many categories are directly below
+abbrev pub belowOf : Tree Head → ℕ
+belowOf (m, (zero, t)) = 0
+belowOf (m, (suc k, t)) = t .1 .0
+
+-- ---- nodes
+
+unfoldable pub total : {A : Type 0} → (A → ℕ) → List A → ℕ
+total f [] = 0
+total f (t ∷ ts) = f t + total f ts
+
+-- the number of nodes, at any depth
+unfoldable pub nodes : (d : ℕ) → Tree (CategoryIn d) → ℕ
+nodes zero t = 0
+nodes (suc d) t = 1 + total (nodes d) (children d t)
+
+-- how many bytes a derivation covers
+unfoldable pub size : (g : Layout) → Tree g → ℕ
+size g t = length (spell g t)
+
+-- the words of trees that follow each other, from the node number `used` and the place `at` on
+unfoldable pub wordsAll : {A : Type 0} → (A → ℕ) → (A → ℕ) → (ℕ → ℕ → A → List ℕ) → ℕ → ℕ → List A → List ℕ
+wordsAll count size f used at [] = []
+wordsAll count size f used at (t ∷ ts) = f used at t ++ wordsAll count size f (used + count t) (at + size t) ts
+
+-- the six words of a node at the place `at`: 0 leaf or 1 group; dimension; parent; place and length of the name; leaf index or children
+abbrev pub nodeWords : ℕ → ℕ → ℕ → Tree Head → List ℕ
+nodeWords dim par at h = kindOf h ∷ dim ∷ par ∷ at ∷ size Value (h .0) ∷ wordOf h ∷ []
+
+-- the records of a category at the place `at` whose node has the number `used`, in file order
+unfoldable pub treeWords : (d dim par used at : ℕ) → Tree (CategoryIn d) → List ℕ
+treeWords zero dim par used at t = []
+treeWords (suc d) dim par used at t =
+    nodeWords dim par at (front d t)
+    ++ wordsAll (nodes d) (size (CategoryIn d)) (treeWords d dim used) (used + 1) (at + size Head (front d t)) (children d t)
+
+-- ---- leaves
+
+unfoldable pub concatAll : {A : Type 0} → (A → List ℕ) → List A → List ℕ
+concatAll f [] = []
+concatAll f (t ∷ ts) = f t ++ concatAll f ts
+
+abbrev pub ownIndex : Tree Head → List ℕ
+ownIndex (m, (zero, t)) = t .0 .1 .0 ∷ []
+ownIndex (m, (suc k, t)) = []
+
+-- the leaf indexes of a category, in file order
+unfoldable pub leafIndexes : (d : ℕ) → Tree (CategoryIn d) → List ℕ
+leafIndexes zero t = []
+leafIndexes (suc d) t = ownIndex (front d t) ++ concatAll (leafIndexes d) (children d t)
