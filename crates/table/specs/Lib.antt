@@ -1,5 +1,6 @@
 pub mod Table
 pub mod Walk
+pub mod Scan
 pub mod Records
 pub mod Spelt
 pub mod Heads

@@ -1,6 +1,9 @@
 // Dimensions, their categories and their records; axes; cells.
 
+pub mod axes; // axis entries
 pub mod category; // categories and their node records
+pub mod cells; // cells and their records
+pub mod dimension; // dimensions
 
 // What a walk gives: the next position and the number of nodes so far; or the refusal's number and place.
 pub enum Walk {

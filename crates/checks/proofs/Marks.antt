@@ -1,0 +1,80 @@
+-- The marks of the leaf indexes met so far, and what the walk over the nodes has still to find.
+use mathlib.Core.Path.{_≡_, refl, sym, _∙_}
+use mathlib.Core.Bool.{Bool, true, false, not, and-false}
+use mathlib.Core.List.{List, [], _∷_}
+use Prim.Native.Nat.{ℕ, _+_, _-_, _*_, _≤_, _<_}
+use native.Mathlib.Omega.{arith}
+use borrow.Author.Tests.{eq-eqb, ne-eqb, eqb-true, eqb-false, lt-ltb, le-ltb}
+use lib.Dec.{eqb}
+use lib.ListN.{length, getD, set, replicate, length-set, length-replicate, getD-replicate}
+use lib.Seq.{getD-set-same, getD-set-other}
+use Rattle.layout.specs.Layout.{among}
+use Rattle.layout.specs.Read.{pick}
+use Rattle.checks.specs.declared.Verdict.the-variants.{Fine, Bad}
+use Rattle.checks.specs.Checks.{word, fresh, leaf, leaves, firstBad}
+use Rattle.checks.proofs.Walk.{at-leaf, at-group}
+
+-- the mark at x is 0 exactly where x was not seen
+pub record Marks (m : ℕ) (marks seen : List ℕ) : Type 0 where
+  pub long : length marks ≡ m
+  pub says : (x : ℕ) → x < m → eqb (getD marks x 0) 0 ≡ not (among x seen)
+
+pub no-marks : (m : ℕ) → Marks m (replicate m 0) []
+unfolding among
+no-marks m = record { long = length-replicate m 0; says = λ x h. eq-eqb _ 0 (getD-replicate m x 0 0 h) }
+
+one-more : (m : ℕ) (marks seen : List ℕ) (x : ℕ) → Marks m marks seen → x < m → (y : ℕ) → y < m → (b : Bool) → eqb y x ≡ b
+    → eqb (getD (set marks x 1) y 0) 0 ≡ not (among y (x ∷ seen))
+unfolding among
+one-more m marks seen x r h y l true e =
+    let q = eqb-true y x e in
+    let here : x < length marks = omega (arith, r .long) in
+    rw (q, getD-set-same marks x 1 0 here, eq-eqb x x refl)
+one-more m marks seen x r h y l false e = rw (e, getD-set-other marks x y 1 0 (eqb-false y x e)) (r .says y l)
+
+pub marked : (m : ℕ) (marks seen : List ℕ) (x : ℕ) → Marks m marks seen → x < m → Marks m (set marks x 1) (x ∷ seen)
+marked m marks seen x r h = record { long = length-set marks x 1 ∙ r .long; says = λ y l. one-more m marks seen x r h y l (eqb y x) refl }
+
+-- what is left of the walk, after the leaf indexes seen, has the answer of the whole
+pub record Checking (ws : List ℕ) (n first k : ℕ) (marks : List ℕ) (i left : ℕ) : Type 0 where
+  pub seen : List ℕ
+  pub marks-seen : Marks 4096 marks seen
+  pub same : firstBad n seen (leaves ws i left) ≡ firstBad n [] (leaves ws first k)
+
+pub at-start : (ws : List ℕ) (n first k i left : ℕ) → i ≡ first → left ≡ k → Checking ws n first k (replicate 4096 0) i left
+at-start ws n first k i left e e′ = record { seen = []; marks-seen = no-marks 4096; same = rw (e, e′) }
+
+module _ {ws : List ℕ} {n first k : ℕ} {marks : List ℕ} {i left : ℕ} (w : Checking ws n first k marks i left) where
+  pub at-end : left ≡ 0 → firstBad n [] (leaves ws first k) ≡ Fine
+  unfolding leaves firstBad
+  at-end z = sym (w .same) ∙ rw z
+
+  module _ (h : 0 < left) where
+    pub past-group : (word ws (6 * i) ≡ 0 → ⊥) → Checking ws n first k marks (i + 1) (left - 1)
+    past-group g = record { seen = w .seen; marks-seen = w .marks-seen; same = rw (at-group ws i left h g) at (w .same) }
+
+    module _ (l : word ws (6 * i) ≡ 0) (x : ℕ) (e : x ≡ leaf ws i .0) where
+      by-leaf : (b : Bool) → fresh n (w .seen) x ≡ b
+          → pick b (firstBad n (x ∷ w .seen) (leaves ws (i + 1) (left - 1))) (Bad (leaf ws i .1)) ≡ firstBad n [] (leaves ws first k)
+      unfolding firstBad
+      by-leaf b f = rw (← f, e) (rw (at-leaf ws i left h l) at (w .same))
+
+      pub past-leaf : x < n → x < 4096 → getD marks x 0 ≡ 0 → Checking ws n first k (set marks x 1) (i + 1) (left - 1)
+      unfolding pick fresh
+      past-leaf a b z =
+          let u : not (among x (w .seen)) ≡ true = sym (w .marks-seen .says x b) ∙ eq-eqb (getD marks x 0) 0 z in
+          record {
+            seen = x ∷ w .seen;
+            marks-seen = marked 4096 marks (w .seen) x (w .marks-seen) b;
+            same = by-leaf true (rw (lt-ltb x n a, u));
+          }
+
+      pub too-big : n ≤ x → Bad (leaf ws i .1) ≡ firstBad n [] (leaves ws first k)
+      unfolding pick fresh
+      too-big a = by-leaf false (rw (le-ltb x n a))
+
+      pub met-before : x < 4096 → (getD marks x 0 ≡ 0 → ⊥) → Bad (leaf ws i .1) ≡ firstBad n [] (leaves ws first k)
+      unfolding pick fresh
+      met-before b z =
+          let u : not (among x (w .seen)) ≡ false = sym (w .marks-seen .says x b) ∙ ne-eqb (getD marks x 0) 0 z in
+          by-leaf false (rw (u, and-false))

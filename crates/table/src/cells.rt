@@ -1,0 +1,105 @@
+// Cells: an index inside the table, once, and a Value.
+ghost use mathlib.Core.Path.{_≡_};
+ghost use Prim.Native.Nat.{_<_, _≤_, _+_, _-_};
+ghost use Rattle.checks.specs.Checks.{fresh, firsts};
+ghost use Rattle.table.specs.Walk as walk;
+ghost use Rattle.table.specs.Scan as spec;
+use checks::seen_before;
+use layout::LITTLE;
+use layout::Step;
+use layout::number::any;
+use layout::number::peek;
+use value::value;
+
+// x is an index below `total` that none of the first j cells has.
+fn is_fresh(cells: &[u32; 12288], total: u64, j: usize, x: u64) -> bool
+    requires { ⌜ j ≤ 4096 ⌝ }
+    ensures { λ r. ⌜ r ≡ fresh total (firsts 3 (now (cells .entry)) j) x ⌝ }
+{
+    let below = x < total;
+    let seen = seen_before(cells, j, 3, x);
+    if below { !seen } else { false }
+}
+
+// The length of what lies from a to e, as a word.
+fn length(a: usize, e: usize) -> u32
+    ensures { λ r. ⌜ r ≡ walk.word32 (e - a) ⌝ }
+{
+    if a <= e {
+        ((e - a) % 4294967296) as u32
+    } else {
+        0
+    }
+}
+
+// The three words of cell j.
+fn store(cells: &mut [u32; 12288], j: usize, index: u32, place: u32, length: u32)
+    requires { ⌜ j < 4096 ⌝ }
+    ensures { λ _. ⌜ now (cells .exit) ≡ spec.storeCell j index place length (now (cells .entry)) ⌝ }
+{
+    let at = 3 * j;
+    cells[at] = index;
+    cells[at + 1] = place;
+    cells[at + 2] = length;
+}
+
+// The Value of cell j, whose index is x, and its record.
+fn record(s: &[u8], at: usize, j: usize, x: u64, cells: &mut [u32; 12288]) -> Step
+    requires { ⌜ j < 4096 ⌝ }
+    ensures { λ r. ⌜ spec.rowsOf r (now (cells .exit)) ≡ spec.recordAt (now (s .entry)) at j x (now (cells .entry)) ⌝ }
+{
+    match value(s, Step::Next(at)) {
+        Step::Refused(r, p) => Step::Refused(r, p),
+        Step::Next(q) => {
+            let size = length(at, q);
+            store(
+                cells,
+                j,
+                (x % 4294967296) as u32,
+                (at % 4294967296) as u32,
+                size,
+            );
+            Step::Next(q)
+        }
+    }
+}
+
+// Cell j.
+fn cell(s: &[u8], at: usize, total: u64, j: usize, cells: &mut [u32; 12288]) -> Step
+    requires { ⌜ j < 4096 ⌝ }
+    ensures { λ r. ⌜ spec.rowsOf r (now (cells .exit)) ≡ spec.cellAt (now (s .entry)) total j at (now (cells .entry)) ⌝ }
+{
+    let x = peek(s, Step::Next(at), LITTLE, 8);
+    match any(s, Step::Next(at), 8) {
+        Step::Refused(r, p) => Step::Refused(r, p),
+        Step::Next(p) => {
+            let good = is_fresh(cells, total, j, x);
+            if good {
+                record(s, p, j, x, cells)
+            } else {
+                Step::Refused(10, at)
+            }
+        }
+    }
+}
+
+// n cells, in a table of `total` places.
+pub fn cells(s: &[u8], at: usize, total: u64, n: usize, words: &mut [u32; 12288]) -> Step
+    requires { ⌜ n ≤ 4096 ⌝ }
+    ensures { λ r. ⌜ spec.rowsOf r (now (words .exit)) ≡ spec.rowsFrom (spec.cellAt (now (s .entry)) total) n 0 at (now (words .entry)) ⌝ }
+{
+    let mut at = at;
+    let mut j = 0;
+    while j < n {
+        match cell(s, at, total, j, words) {
+            Step::Refused(r, p) => {
+                return Step::Refused(r, p);
+            }
+            Step::Next(q) => {
+                at = q;
+            }
+        }
+        j += 1;
+    }
+    Step::Next(at)
+}
