@@ -2,13 +2,13 @@
 -- and with the records stored in lists of words. `Whole` says what this has to do with the grammar.
 use mathlib.Core.List.{List, []}
 use Prim.Native.Nat.{ℕ, zero, suc, _+_, _-_, _*_, _^_, min}
-use lib.ListN.{length, set}
-use lib.Dec.{eqb}
+use lib.ListN.{length, set, drop}
+use lib.Dec.{eqb, leb}
 use Rattle.layout.specs.declared.Step.{Step}
 use Rattle.layout.specs.declared.Step.the-variants.{Next, Refused}
-use Rattle.layout.specs.Layout.{little}
-use Rattle.layout.specs.Conventions.{int32, int64}
-use Rattle.layout.specs.Read.{pick}
+use Rattle.layout.specs.Layout.{little, at-most}
+use Rattle.layout.specs.Conventions.{field, int32, int64}
+use Rattle.layout.specs.Read.{pick, lead}
 use Rattle.layout.specs.Reads.{step, chain, peek}
 use Rattle.value.specs.Value.{Value}
 use Rattle.checks.specs.declared.Verdict.{Verdict}
@@ -16,6 +16,8 @@ use Rattle.checks.specs.declared.Verdict.the-variants.{Fine, Bad}
 use Rattle.checks.specs.Checks.{fresh, leaves, firstBad, firsts}
 use Rattle.table.specs.declared.Walk.{Walk}
 use Rattle.table.specs.declared.Walk.the-variants.{On, Off}
+use Rattle.table.specs.declared.AxisCounts.{AxisCounts}
+use Rattle.table.specs.declared.AxisCounts.the-variants.{Of, Not}
 use Rattle.table.specs.Table.{DimProperties}
 use Rattle.table.specs.Walk.{word32, Walked, on, off, walkAll, walk}
 
@@ -104,6 +106,37 @@ entryAt s d j at os =
     let x = peek little 4 s (Next at) in
     fromStepRows (step int32 s at) (λ p. pick (fresh d (firsts 1 os j) x) (rows p (set os j (word32 x))) (no-rows 9 at))
 
+-- what the axes give: layers, rows, columns, the next position and the order; or a refusal
+pub data AxesRead : Type 0 where
+  axes : ℕ → ℕ → ℕ → ℕ → List ℕ → AxesRead
+  no-axes : ℕ → ℕ → AxesRead
+
+abbrev pub axesOf : AxisCounts → List ℕ → AxesRead
+axesOf (Of l r c at) os = axes l r c at os
+axesOf (Not r p) os = no-axes r p
+
+abbrev pub withEntries : ℕ → ℕ → ℕ → Rows → AxesRead
+withEntries l r c (rows at os) = axes l r c at os
+withEntries l r c (no-rows k p) = no-axes k p
+
+-- d entries, in any of the three groups
+unfoldable pub namedAt : List ℕ → ℕ → ℕ → ℕ → ℕ → ℕ → List ℕ → AxesRead
+namedAt s d l r c at os = withEntries l r c (rowsFrom (entryAt s d) d 0 at os)
+
+abbrev pub fromStepAxes : Step → (ℕ → AxesRead) → AxesRead
+fromStepAxes (Next p) f = f p
+fromStepAxes (Refused r p) f = no-axes r p
+
+-- three counts that add up to d (document 01: 9 at the first count, after all three), and the entries
+unfoldable pub axesAt : List ℕ → ℕ → ℕ → List ℕ → AxesRead
+axesAt s d at os =
+    let l = peek little 4 s (Next at) in
+    let a = step int32 s at in
+    let r = peek little 4 s a in
+    let b = chain a (step int32 s) in
+    let c = peek little 4 s b in
+    fromStepAxes (chain b (step int32 s)) (λ q. pick (eqb (l + r + c) d) (namedAt s d (word32 l) (word32 r) (word32 c) q os) (no-axes 9 at))
+
 -- ---- cells
 
 abbrev pub storeCell : ℕ → ℕ → ℕ → ℕ → List ℕ → List ℕ
@@ -118,3 +151,25 @@ unfoldable pub cellAt : List ℕ → ℕ → ℕ → ℕ → List ℕ → Rows
 cellAt s total j at cs =
     let x = peek little 8 s (Next at) in
     fromStepRows (step int64 s at) (λ p. pick (fresh total (firsts 3 cs j) x) (recordAt s p j x cs) (no-rows 10 at))
+
+-- ---- the end of a member
+
+-- an optional 01, and then the end (document 01: 11 at the first byte left)
+unfoldable pub endAt : List ℕ → ℕ → Step
+endAt s at = let p = at + lead 0x01 1 (drop at s) in pick (leb (length s) p) (Next p) (Refused 11 p)
+
+abbrev pub withEnd : ℕ → List ℕ → Step → Walked
+withEnd n cs (Next p) = on p n cs
+withEnd n cs (Refused r p) = off r p
+
+abbrev pub withCells : List ℕ → ℕ → Rows → Walked
+withCells s n (rows at cs) = withEnd n cs (endAt s at)
+withCells s n (no-rows r p) = off r p
+
+-- n cells, and the end
+unfoldable pub lastAt : List ℕ → ℕ → ℕ → ℕ → List ℕ → Walked
+lastAt s total n at cs = withCells s n (rowsFrom (cellAt s total) n 0 at cs)
+
+-- the cells of a table of `total` places, and the end (document 01: at most 4,096 cells)
+unfoldable pub cellsAt : List ℕ → ℕ → ℕ → List ℕ → Walked
+cellsAt s total at cs = fromStep (step (field little 4 (at-most 4096)) s at) (λ p. lastAt s total (min (peek little 4 s (Next at)) 4096) p cs)

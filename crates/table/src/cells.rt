@@ -4,11 +4,15 @@ ghost use Prim.Native.Nat.{_<_, _≤_, _+_, _-_};
 ghost use Rattle.checks.specs.Checks.{fresh, firsts};
 ghost use Rattle.table.specs.Walk as walk;
 ghost use Rattle.table.specs.Scan as spec;
+use crate::Walk;
+use crate::at_most;
 use checks::seen_before;
 use layout::LITTLE;
 use layout::Step;
 use layout::number::any;
+use layout::number::count;
 use layout::number::peek;
+use layout::run::skip;
 use value::value;
 
 // x is an index below `total` that none of the first j cells has.
@@ -84,7 +88,7 @@ fn cell(s: &[u8], at: usize, total: u64, j: usize, cells: &mut [u32; 12288]) -> 
 }
 
 // n cells, in a table of `total` places.
-pub fn cells(s: &[u8], at: usize, total: u64, n: usize, words: &mut [u32; 12288]) -> Step
+fn cells(s: &[u8], at: usize, total: u64, n: usize, words: &mut [u32; 12288]) -> Step
     requires { ⌜ n ≤ 4096 ⌝ }
     ensures { λ r. ⌜ spec.rowsOf r (now (words .exit)) ≡ spec.rowsFrom (spec.cellAt (now (s .entry)) total) n 0 at (now (words .entry)) ⌝ }
 {
@@ -102,4 +106,46 @@ pub fn cells(s: &[u8], at: usize, total: u64, n: usize, words: &mut [u32; 12288]
         j += 1;
     }
     Step::Next(at)
+}
+
+// The end of a member: an optional 01, and nothing after it.
+fn ending(s: &[u8], at: usize) -> Step
+    ensures { λ r. ⌜ r ≡ spec.endAt (now (s .entry)) at ⌝ }
+{
+    match skip(s, Step::Next(at), 0x01, 1) {
+        Step::Refused(r, p) => Step::Refused(r, p),
+        Step::Next(p) => {
+            let over = s.len() <= p;
+            if over {
+                Step::Next(p)
+            } else {
+                Step::Refused(11, p)
+            }
+        }
+    }
+}
+
+// The n cells from a position on, and the end.
+fn last(s: &[u8], at: usize, total: u64, n: usize, words: &mut [u32; 12288]) -> Walk
+    requires { ⌜ n ≤ 4096 ⌝ }
+    ensures { λ r. ⌜ walk.walked r (now (words .exit)) ≡ spec.lastAt (now (s .entry)) total n at (now (words .entry)) ⌝ }
+{
+    match cells(s, at, total, n, words) {
+        Step::Refused(r, p) => Walk::Off(r, p),
+        Step::Next(q) => match ending(s, q) {
+            Step::Refused(r, p) => Walk::Off(r, p),
+            Step::Next(e) => Walk::On(e, n),
+        },
+    }
+}
+
+// The cells of a table of `total` places, and the end of the member: where it ends, and the number of cells.
+pub fn section(s: &[u8], at: usize, total: u64, words: &mut [u32; 12288]) -> Walk
+    ensures { λ r. ⌜ walk.walked r (now (words .exit)) ≡ spec.cellsAt (now (s .entry)) total at (now (words .entry)) ⌝ }
+{
+    let n = peek(s, Step::Next(at), LITTLE, 4);
+    match count(s, Step::Next(at), 4096) {
+        Step::Refused(r, p) => Walk::Off(r, p),
+        Step::Next(p) => last(s, p, total, at_most(n as usize, 4096), words),
+    }
 }

@@ -1,11 +1,12 @@
 // Dimensions: a name, properties and categories; when one ends, its n is known and its leaf indexes are tested.
 ghost use mathlib.Core.Path.{_≡_};
-ghost use Prim.Native.Nat.{_<_, _≤_, _-_, _+_};
+ghost use Prim.Native.Nat.{_<_, _≤_, _-_, min};
 ghost use Rattle.layout.specs.Reads.{Reads};
 ghost use Rattle.table.specs.Table as grammar;
 ghost use Rattle.table.specs.Walk as walk;
 ghost use Rattle.table.specs.Scan as spec;
 use crate::Walk;
+use crate::at_most;
 use crate::category::categories;
 use checks::Verdict;
 use checks::check_leaves;
@@ -128,13 +129,7 @@ fn dimension(
 }
 
 // n dimensions.
-pub fn dimensions(
-    s: &[u8],
-    at: usize,
-    n: usize,
-    nodes: &mut [u32; 24576],
-    dims: &mut [u32; 64],
-) -> Walk
+fn all(s: &[u8], at: usize, n: usize, nodes: &mut [u32; 24576], dims: &mut [u32; 64]) -> Walk
     requires { ⌜ n ≤ 16 ⌝ }
     ensures { λ r. ⌜ spec.dimsOf r (now (nodes .exit)) (now (dims .exit)) ≡ spec.dimsFrom (now (s .entry)) n 0 at 0 (now (nodes .entry)) (now (dims .entry)) ⌝ }
 {
@@ -154,4 +149,17 @@ pub fn dimensions(
         i += 1;
     }
     Walk::On(at, used)
+}
+
+// n dimensions; a number above 16 counts as 16.
+pub fn dimensions(
+    s: &[u8],
+    at: usize,
+    n: usize,
+    nodes: &mut [u32; 24576],
+    dims: &mut [u32; 64],
+) -> Walk
+    ensures { λ r. ⌜ spec.dimsOf r (now (nodes .exit)) (now (dims .exit)) ≡ spec.dimsFrom (now (s .entry)) (min n 16) 0 at 0 (now (nodes .entry)) (now (dims .entry)) ⌝ }
+{
+    all(s, at, at_most(n, 16), nodes, dims)
 }
