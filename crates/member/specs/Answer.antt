@@ -1,7 +1,8 @@
 -- What `read_member` answers, for all bytes and all lent areas: reading from front to back, with document 01's tests at the places of
 -- the file where it makes them. `Demand3` says what this has to do with the grammar of `Member`.
 use mathlib.Core.List.{List, [], _++_}
-use Prim.Native.Nat.{ℕ, _-_, _*_, _^_, min}
+use mathlib.Core.Path.{_≡_}
+use Prim.Native.Nat.{ℕ, _-_, _*_, _^_, _≤_, min}
 use lib.ListN.{length, take, drop, replicate}
 use lib.Dec.{leb}
 use Rattle.layout.specs.declared.Step.{Step}
@@ -102,3 +103,16 @@ unfoldable pub cellsAfter : Outcome → ℕ → List ℕ → List ℕ
 cellsAfter (refused n p) nodes old = old
 cellsAfter (table d used l r c m ns ds os cs) nodes old =
     pick (leb (6 * used) nodes) (pick (leb (3 * m) (length old)) (take (3 * m) cs ++ drop (3 * m) old) old) old
+
+-- what a call of `read_member` answers, and what the two areas hold then
+pub record Delivered (o : Outcome) (nodes cells : List ℕ) (r : Answer) (nodes′ cells′ : List ℕ) : Type 0 where
+  pub answer : r ≡ answerOf o (length nodes) (length cells)
+  pub node-area : nodes′ ≡ nodesAfter o nodes (length cells)
+  pub cell-area : cells′ ≡ cellsAfter o (length nodes) cells
+
+-- the words of a table that was read lie in their lists
+pub record Fitting (used m : ℕ) (ns cs : List ℕ) : Type 0 where
+  pub few-nodes : used ≤ 4096
+  pub few-cells : m ≤ 4096
+  pub node-words : length ns ≡ 24576
+  pub cell-words : length cs ≡ 12288

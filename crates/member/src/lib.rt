@@ -5,6 +5,7 @@ ghost use Prim.Native.Nat.{_+_, _≤_, min};
 ghost use lib.ListN.{length, take, drop};
 ghost use Rattle.layout.specs.Reads as reads;
 ghost use Rattle.member.specs.Answer as spec;
+ghost use Rattle.member.specs.Answer.{Delivered, Fitting};
 ghost use Rattle.member.specs.Part.{partOf};
 use checks::product_of;
 use layout::LITTLE;
@@ -149,5 +150,89 @@ pub fn part(member: &[u8], place: usize, length: usize) -> &[u8]
         }
     } else {
         &member[..0]
+    }
+}
+
+// The answer for a table that was read, and its records into the lent areas where these are large enough.
+fn deliver(
+    d: usize,
+    used: usize,
+    layers: u32,
+    rows: u32,
+    columns: u32,
+    m: usize,
+    dims: [u32; 64],
+    order: [u32; 16],
+    node_words: &[u32; 24576],
+    cell_words: &[u32; 12288],
+    nodes: &mut [u32],
+    cells: &mut [u32],
+) -> Answer
+    requires { ⌜ Fitting used m (now «node_words») (now «cell_words») ⌝ }
+    ensures { λ r. ⌜ Delivered (spec.table d used layers rows columns m (now («node_words» .entry)) dims order (now («cell_words» .entry))) (now (nodes .entry)) (now (cells .entry)) r (now (nodes .exit)) (now (cells .exit)) ⌝ }
+{
+    let node_count = (used % 4294967296) as u32;
+    let cell_count = (m % 4294967296) as u32;
+    let wide = 6 * used <= nodes.len();
+    if wide {
+        let long = 3 * m <= cells.len();
+        if long {
+            copy(node_words, nodes, 6 * used);
+            copy(cell_words, cells, 3 * m);
+            Answer {
+                refusal: 0,
+                place: 0,
+                dims: (d % 4294967296) as u32,
+                nodes: node_count,
+                cells: cell_count,
+                dimensions: dims,
+                layers,
+                rows,
+                columns,
+                order,
+            }
+        } else {
+            refused(13, 0, node_count, cell_count)
+        }
+    } else {
+        refused(12, 0, node_count, cell_count)
+    }
+}
+
+// Reads a member. On a refusal both areas hold what they held; on acceptance the records, and beyond them what was there.
+pub fn read_member(member: &[u8], nodes: &mut [u32], cells: &mut [u32]) -> Answer
+    ensures { λ r. ⌜ Delivered (spec.outcome (now (member .entry))) (now (nodes .entry)) (now (cells .entry)) r (now (nodes .exit)) (now (cells .exit)) ⌝ }
+{
+    let short = member.len() <= 1048576;
+    if short {
+        let mut node_words = [0u32; 24576];
+        let mut dims = [0u32; 64];
+        let mut order = [0u32; 16];
+        let mut cell_words = [0u32; 12288];
+        match scan(
+            member,
+            &mut node_words,
+            &mut dims,
+            &mut order,
+            &mut cell_words,
+        ) {
+            Found::Off(r, p) => refused(r, p, 0, 0),
+            Found::Table(d, used, layers, rows, columns, m) => deliver(
+                d,
+                used,
+                layers,
+                rows,
+                columns,
+                m,
+                dims,
+                order,
+                &node_words,
+                &cell_words,
+                nodes,
+                cells,
+            ),
+        }
+    } else {
+        refused(1, 0, 0, 0)
     }
 }

@@ -5,3 +5,4 @@ pub mod Records
 pub mod Spelt
 pub mod Heads
 pub mod Agree
+pub mod Kept
