@@ -1,3 +1,5 @@
 pub mod Answer
 pub mod Part
 pub mod Kept
+pub mod Member
+pub mod Whole

@@ -24,13 +24,13 @@ use Rattle.table.specs.Walk.{word32, Walked, on, off, headAt, store, and
 
 -- ---- 1. reading a category is reading its head and then what is below it
 
-bind-assoc : {A B C : Type 0} (x : Got A) (f : A → List ℕ → ℕ → Got B) (g : B → List ℕ → ℕ → Got C)
+pub bind-assoc : {A B C : Type 0} (x : Got A) (f : A → List ℕ → ℕ → Got B) (g : B → List ℕ → ℕ → Got C)
     → bind (bind x f) g ≡ bind x (λ t s at. bind (f t s at) g)
 unfolding bind
 bind-assoc (got t s at) f g = refl
 bind-assoc (no r p) f g = refl
 
-bind-pick : {A B : Type 0} (b : Bool) (x y : Got A) (g : A → List ℕ → ℕ → Got B) → bind (pick b x y) g ≡ pick b (bind x g) (bind y g)
+pub bind-pick : {A B : Type 0} (b : Bool) (x y : Got A) (g : A → List ℕ → ℕ → Got B) → bind (pick b x y) g ≡ pick b (bind x g) (bind y g)
 unfolding pick
 bind-pick true x y g = refl
 bind-pick false x y g = refl
@@ -56,7 +56,7 @@ module _ (d : ℕ) where
 
 -- ---- 2. words
 
-sets-append : (vs ws l : List ℕ) (i : ℕ) → sets l i (vs ++ ws) ≡ sets (sets l i vs) (i + length vs) ws
+pub sets-append : (vs ws l : List ℕ) (i : ℕ) → sets l i (vs ++ ws) ≡ sets (sets l i vs) (i + length vs) ws
 sets-append [] ws l i = let e : i + 0 ≡ i = omega arith in rw e
 sets-append (v ∷ vs) ws l i = let e : i + suc (length vs) ≡ suc i + length vs = omega arith in rw e (sets-append vs ws (set l i v) (suc i))
 
@@ -133,7 +133,7 @@ module _ {A : Type 0} (s : List ℕ) (f : ℕ → ℕ → List ℕ → Walked) (
 
 -- ---- 4. a category
 
-size-all : (d : ℕ) (ts : List (Tree (CategoryIn d))) → length (spellAll (spell (CategoryIn d)) ts) ≡ total (size (CategoryIn d)) ts
+pub size-all : (d : ℕ) (ts : List (Tree (CategoryIn d))) → length (spellAll (spell (CategoryIn d)) ts) ≡ total (size (CategoryIn d)) ts
 unfolding spellAll total size
 size-all d [] = refl
 size-all d (t ∷ ts) = rw (length-append, size-all d ts)

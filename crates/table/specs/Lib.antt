@@ -6,3 +6,7 @@ pub mod Spelt
 pub mod Heads
 pub mod Agree
 pub mod Kept
+pub mod RowsAgree
+pub mod Leaves
+pub mod DimAgree
+pub mod DimsAgree

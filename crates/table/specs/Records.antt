@@ -1,10 +1,11 @@
 -- What a derivation of a category says: its node records, in file order (document 01, "What the caller gets"), and its leaf indexes.
 use mathlib.Core.List.{List, [], _∷_, _++_}
-use Prim.Native.Nat.{ℕ, zero, suc, _+_}
+use Prim.Native.Nat.{ℕ, zero, suc, _+_, _-_, _^_}
 use lib.ListN.{length}
-use Rattle.layout.specs.Layout.{Layout, empty, Tree, spell}
+use Rattle.layout.specs.Layout.{Layout, empty, _▸_, Tree, spell}
+use Rattle.layout.specs.Conventions.{int32}
 use Rattle.value.specs.Value.{Value}
-use Rattle.table.specs.Table.{CategoryOf, CategoryIn}
+use Rattle.table.specs.Table.{CategoryOf, CategoryIn, DimProperties, Dimension, Axes, Cell}
 
 -- a category without what is below it
 abbrev pub Head : Layout
@@ -80,3 +81,56 @@ ownIndex (m, (suc k, t)) = []
 unfoldable pub leafIndexes : (d : ℕ) → Tree (CategoryIn d) → List ℕ
 leafIndexes zero t = []
 leafIndexes (suc d) t = ownIndex (front d t) ++ concatAll (leafIndexes d) (children d t)
+
+-- ---- dimensions
+
+-- the number of nodes of a dimension
+unfoldable pub dimNodes : Tree Dimension → ℕ
+dimNodes t = total (nodes 8) (t .1 .1)
+
+-- its leaf indexes, in file order. n of a dimension is their number (document 01: its number of leaves at any depth)
+unfoldable pub dimLeaves : Tree Dimension → List ℕ
+dimLeaves t = concatAll (leafIndexes 8) (t .1 .1)
+
+-- the node records of dimension i at the place `at`, whose first node has the number `used`. A category of the dimension itself has no parent
+unfoldable pub dimWords : ℕ → ℕ → ℕ → Tree Dimension → List ℕ
+dimWords i used at t =
+    wordsAll (nodes 8) (size (CategoryIn 8)) (treeWords 8 i (2 ^ 32 - 1)) used (at + size (Value ▸ DimProperties) (t .0) + 4) (t .1 .1)
+
+-- place and length of its name, n, first node
+unfoldable pub dimEntry : ℕ → ℕ → Tree Dimension → List ℕ
+dimEntry used at t = at ∷ size Value (t .0 .0) ∷ length (dimLeaves t) ∷ used ∷ []
+
+-- the same of dimensions that follow each other, from number i on
+unfoldable pub dimsWords : ℕ → ℕ → ℕ → List (Tree Dimension) → List ℕ
+dimsWords i used at [] = []
+dimsWords i used at (t ∷ ts) = dimWords i used at t ++ dimsWords (i + 1) (used + dimNodes t) (at + size Dimension t) ts
+
+unfoldable pub dimsEntries : ℕ → ℕ → List (Tree Dimension) → List ℕ
+dimsEntries used at [] = []
+dimsEntries used at (t ∷ ts) = dimEntry used at t ++ dimsEntries (used + dimNodes t) (at + size Dimension t) ts
+
+-- ---- axes and cells
+
+-- an axis entry
+abbrev pub entryIndex : Tree int32 → ℕ
+entryIndex t = t .0
+
+abbrev pub entryWords : ℕ → Tree int32 → List ℕ
+entryWords at t = t .0 ∷ []
+
+abbrev pub cellIndex : Tree Cell → ℕ
+cellIndex t = t .0 .0
+
+-- index; place and length of the Value
+abbrev pub cellWords : ℕ → Tree Cell → List ℕ
+cellWords at t = t .0 .0 ∷ (at + 8) ∷ size Value (t .1) ∷ []
+
+unfoldable pub mapAll : {A : Type 0} → (A → ℕ) → List A → List ℕ
+mapAll f [] = []
+mapAll f (t ∷ ts) = f t ∷ mapAll f ts
+
+-- the words of records that follow each other, from the place `at` on
+unfoldable pub rowsWords : {A : Type 0} → (A → ℕ) → (ℕ → A → List ℕ) → ℕ → List A → List ℕ
+rowsWords size words at [] = []
+rowsWords size words at (t ∷ ts) = words at t ++ rowsWords size words (at + size t) ts

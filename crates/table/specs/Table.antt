@@ -34,7 +34,7 @@ CategoryIn zero = nothing
 CategoryIn (suc d) = CategoryOf (λ n. times n (CategoryIn d))
 
 -- document 01: categories nested 8 deep
-unfoldable pub Category : Layout
+abbrev pub Category : Layout
 Category = CategoryIn 8
 
 -- ---- 003, Dimensions
@@ -44,17 +44,17 @@ unfoldable pub DimProperties : Layout
 DimProperties = byte ▸ byte ▸ int32 ▸ bool ▸ bool ▸ fixed 0x01 ▸ int32
 
 -- Dimension => Value[name] DimProperties int32[n-categories] Category*[n-categories]
-unfoldable pub Dimension : Layout
+abbrev pub Dimension : Layout
 Dimension = Value ▸ DimProperties ▸ many Category
 
 -- Dimensions => int32[n-dims] Dimension*[n-dims]; document 01: at most 16
-unfoldable pub Dimensions : Layout
+abbrev pub Dimensions : Layout
 Dimensions = at-most-many 16 Dimension
 
 -- ---- 003, Axes
 
 -- Axes => int32[n-layers] int32[n-rows] int32[n-columns] int32*[n-layers] int32*[n-rows] int32*[n-columns]
-unfoldable pub Axes : Layout
+abbrev pub Axes : Layout
 Axes =
     number little 4 any-number (λ layers.
     number little 4 any-number (λ rows.
@@ -64,9 +64,9 @@ Axes =
 -- ---- 003, Cells
 
 -- Cell => int64[index] Value
-unfoldable pub Cell : Layout
+abbrev pub Cell : Layout
 Cell = int64 ▸ Value
 
 -- Cells => int32[n-cells] Cell*[n-cells]; document 01: at most 4,096
-unfoldable pub Cells : Layout
+abbrev pub Cells : Layout
 Cells = at-most-many 4096 Cell
