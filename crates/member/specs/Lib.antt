@@ -3,3 +3,5 @@ pub mod Part
 pub mod Kept
 pub mod Member
 pub mod Whole
+pub mod Core
+pub mod Demand3
