@@ -15,6 +15,7 @@ mod Lead
 mod Complete
 mod Sound
 pub mod Places
+pub mod Refusals
 
 -- Digits: a number that w bytes can hold is the number that its w bytes spell, in either order
 pub number-spelt : (o : Order) (w n : ℕ) → n < 256 ^ w → undigits o (digits o w n) ≡ n
@@ -63,3 +64,7 @@ left g s at t r p e = Places.tail s (Places.took (subst (Places.Within (drop at 
 pub kept : {A B : Type 0} (n p : ℕ) (f : A → List ℕ → ℕ → Got B) → bind (no n p) f ≡ no n p
 unfolding bind
 kept n p f = refl
+
+-- Numbers: a refusal's number is never 0, 12 or 13
+pub numbers : (g : Layout) (s : List ℕ) (at : ℕ) → Refusals.Real (read g s at)
+numbers = Refusals.reals

@@ -10,35 +10,37 @@
 -- contract of the function: so contract and theorem together say all of this of the code.
 use mathlib.Core.Path.{_≡_}
 use mathlib.Core.Logic.{_↔_, _⊎_}
-use mathlib.Core.List.{List, _++_}
-use Prim.Native.Nat.{ℕ, _*_, _-_, _≤_}
-use lib.ListN.{length, drop}
-use Rattle.layout.specs.Layout.{Tree, Bytes}
+use mathlib.Core.List.{List}
+use Prim.Native.Nat.{ℕ}
+use lib.ListN.{length}
+use Rattle.layout.specs.Layout.{Bytes}
 use Rattle.member.specs.declared.Answer.{Answer}
-use Rattle.member.specs.Answer.{zeros, outcome, Delivered}
-use Rattle.member.specs.Member.{Member, dimensions, layers, rows, columns, order, cells, nodes, nodeRecords, dimensionEntries, cellRecords, MemberDerivation, AsDemanded, LargeEnough}
+use Rattle.member.specs.Answer.{outcome, Delivered}
+use Rattle.member.specs.Member.{MemberDerivation}
 use Rattle.member.specs.Core as core
 
+pub mod Terms
 mod Proof
+use Terms.{Accepted, Yields, TooSmall}
 
--- a derivation that is as demanded, for which areas of these lengths are large enough
-pub record Accepted (bs : List ℕ) (node-words cell-words : ℕ) : Type 0 where
-  pub derivation : MemberDerivation bs
-  pub demanded : AsDemanded (derivation .tree)
-  pub large : LargeEnough (derivation .tree) node-words cell-words
+-- any bytes, and a call with lent areas of any length that hold anything
+module _ (bs : List ℕ) (b : Bytes bs) (nodes₀ cells₀ : List ℕ) {r : Answer} {nodes₁ cells₁ : List ℕ}
+    (call : Delivered (outcome bs) nodes₀ cells₀ r nodes₁ cells₁) where
+  -- A member is accepted exactly when it has a derivation as demanded, for which the areas are large enough.
+  pub accepted-exactly : (r .refusal ≡ 0) ↔ Accepted bs (length nodes₀) (length cells₀)
+  accepted-exactly = let x = Proof.result bs b nodes₀ cells₀ call in (λ e. Proof.accepted x e, λ a. Proof.yielded x a .0)
 
--- the answer r, and what the areas hold then, are those of a derivation
-pub record Yields (t : Tree Member) (nodes₀ cells₀ : List ℕ) (r : Answer) (nodes₁ cells₁ : List ℕ) : Type 0 where
-  pub number-of-dimensions : r .dims ≡ length (dimensions t)
-  pub number-of-nodes : r .nodes ≡ nodes t
-  pub number-of-cells : r .cells ≡ length (cells t)
-  pub dimension-entries : r .dimensions ≡ dimensionEntries t ++ zeros (64 - length (dimensionEntries t))
-  pub number-of-layers : r .layers ≡ layers t
-  pub number-of-rows : r .rows ≡ rows t
-  pub number-of-columns : r .columns ≡ columns t
-  pub axis-order : r .order ≡ order t ++ zeros (16 - length (order t))
-  pub node-area : nodes₁ ≡ nodeRecords t ++ drop (6 * nodes t) nodes₀
-  pub cell-area : cells₁ ≡ cellRecords t ++ drop (3 * length (cells t)) cells₀
+  -- The dimensions, category nodes and cells it then yields are that derivation's.
+  pub yields : (a : Accepted bs (length nodes₀) (length cells₀)) → Yields (a .derivation .tree) nodes₀ cells₀ r nodes₁ cells₁
+  yields a = Proof.yielded (Proof.result bs b nodes₀ cells₀ call) a .1
+
+  -- 12 and 13: the member is one to be accepted but for an area that is too small; the answer counts its nodes and cells.
+  pub too-small : (r .refusal ≡ 12) ⊎ (r .refusal ≡ 13) → TooSmall bs nodes₀ cells₀ r
+  too-small = Proof.too-small (Proof.result bs b nodes₀ cells₀ call)
+
+  -- A refusal leaves both areas as they were.
+  pub kept : (r .refusal ≡ 0 → ⊥) → (nodes₁ ≡ nodes₀) × (cells₁ ≡ cells₀)
+  kept = Proof.kept (Proof.result bs b nodes₀ cells₀ call)
 
 -- No run of bytes has two derivations, accepted or not.
 pub one-derivation : (bs : List ℕ) (m m′ : MemberDerivation bs) → (m .tree ≡ m′ .tree) × (m .ends ≡ m′ .ends)

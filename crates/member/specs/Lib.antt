@@ -4,4 +4,5 @@ pub mod Kept
 pub mod Member
 pub mod Whole
 pub mod Core
+pub mod Refusals
 pub mod Demand3

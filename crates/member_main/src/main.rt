@@ -18,7 +18,7 @@ fn main() {
     let mut buf = io::large_buffer();
     let n = io::read_full(STDIN_FILENO, &mut buf);
     if n == 65536 && more() {
-        report::too_long();
+        report::refusal(1, 0);
         return;
     }
     answer(&buf[..n]);

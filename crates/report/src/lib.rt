@@ -1,4 +1,8 @@
 // What the programs print of an answer.
+ghost use mathlib.Core.Path.{_≡_};
+ghost use mathlib.Core.Bool.{false};
+ghost use Prim.Native.Nat.{_+_};
+ghost use lib.Dec.{eqb};
 use libc::STDOUT_FILENO;
 use member::Answer;
 
@@ -10,31 +14,38 @@ fn number(n: u64) {
     io::print_decimal(STDOUT_FILENO, n);
 }
 
-// The line of document 01's test program.
-pub fn line(a: Answer) {
-    if a.refusal == 0 {
-        text(b"accepted ");
-        number(a.dims as u64);
-        text(b" dims ");
-        number(a.nodes as u64);
-        text(b" nodes ");
-        number(a.cells as u64);
-        text(b" cells\n");
-    } else {
-        text(b"refused ");
-        number(a.refusal as u64);
-        text(b" at ");
-        number(a.place as u64);
-        text(b"\n");
+// The test program's line of a refusal.
+pub fn refusal(n: u32, place: u32) -> bool
+    ensures { λ r. ⌜ r ≡ false ⌝ }
+{
+    text(b"refused ");
+    number(n as u64);
+    text(b" at ");
+    number(place as u64);
+    text(b"\n");
+    false
+}
+
+// The line of document 01's test program, and whether the member was accepted.
+pub fn line(a: Answer) -> bool
+    ensures { λ r. ⌜ r ≡ eqb (a .refusal) 0 ⌝ }
+{
+    if a.refusal != 0 {
+        return refusal(a.refusal, a.place);
     }
+    text(b"accepted ");
+    number(a.dims as u64);
+    text(b" dims ");
+    number(a.nodes as u64);
+    text(b" nodes ");
+    number(a.cells as u64);
+    text(b" cells\n");
+    true
 }
 
-// The line of a member that is too long for the program that read it.
-pub fn too_long() {
-    text(b"refused 1 at 0\n");
-}
-
-fn wide(x: u32) -> u64 {
+fn wide(x: u32) -> u64
+    ensures { λ r. ⌜ r ≡ x ⌝ }
+{
     x as u64
 }
 
@@ -78,8 +89,10 @@ fn table(name: &[u8], words: &[u32], n: usize, size: usize) {
     }
 }
 
-// The records of an accepted member, one to a line.
-pub fn records(a: Answer, nodes: &[u32], cells: &[u32]) {
+// The records of an accepted member, one to a line, and how many lines that is.
+pub fn records(a: Answer, nodes: &[u32], cells: &[u32]) -> u64
+    ensures { λ r. ⌜ r ≡ a .dims + 2 + a .nodes + a .cells ⌝ }
+{
     let dimensions = a.dimensions;
     let order = a.order;
     let d = a.dims as usize;
@@ -89,4 +102,5 @@ pub fn records(a: Answer, nodes: &[u32], cells: &[u32]) {
     row(b"order", &order, 0, d);
     table(b"node", nodes, a.nodes as usize, 6);
     table(b"cell", cells, a.cells as usize, 3);
+    wide(a.dims) + 2 + wide(a.nodes) + wide(a.cells)
 }

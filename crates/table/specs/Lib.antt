@@ -6,6 +6,7 @@ pub mod Spelt
 pub mod Heads
 pub mod Agree
 pub mod Kept
+pub mod Refusals
 pub mod RowsAgree
 pub mod Leaves
 pub mod DimAgree
