@@ -18,7 +18,6 @@ use Rattle.member.specs.declared.Answer.{Answer}
 use Rattle.member.specs.Answer.{outcome, Delivered}
 use Rattle.member.specs.Member.{MemberDerivation}
 use Rattle.member.specs.Core as core
-
 pub mod Terms
 mod Proof
 use Terms.{Accepted, Yields, TooSmall}

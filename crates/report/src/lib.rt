@@ -15,7 +15,7 @@ fn number(n: u64) {
 }
 
 // The test program's line of a refusal.
-pub fn refusal(n: u32, place: u32) -> bool
+pub fn refusal(n: u32, place: usize) -> bool
     ensures { λ r. ⌜ r ≡ false ⌝ }
 {
     text(b"refused ");
@@ -26,13 +26,8 @@ pub fn refusal(n: u32, place: u32) -> bool
     false
 }
 
-// The line of document 01's test program, and whether the member was accepted.
-pub fn line(a: Answer) -> bool
-    ensures { λ r. ⌜ r ≡ eqb (a .refusal) 0 ⌝ }
-{
-    if a.refusal != 0 {
-        return refusal(a.refusal, a.place);
-    }
+// The test program's line of an accepted member.
+fn accepted(a: Answer) {
     text(b"accepted ");
     number(a.dims as u64);
     text(b" dims ");
@@ -40,7 +35,19 @@ pub fn line(a: Answer) -> bool
     text(b" nodes ");
     number(a.cells as u64);
     text(b" cells\n");
-    true
+}
+
+// The line of document 01's test program, and whether the member was accepted.
+pub fn line(a: Answer) -> bool
+    ensures { λ r. ⌜ r ≡ eqb (a .refusal) 0 ⌝ }
+{
+    let ok = a.refusal == 0;
+    if ok {
+        accepted(a);
+    } else {
+        refusal(a.refusal, a.place);
+    }
+    ok
 }
 
 fn wide(x: u32) -> u64
