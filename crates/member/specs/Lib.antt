@@ -5,4 +5,6 @@ pub mod Member
 pub mod Whole
 pub mod Core
 pub mod Refusals
+pub mod Index
+pub mod Examples
 pub mod Demand3

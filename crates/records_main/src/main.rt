@@ -1,5 +1,12 @@
-// For each member that an argument names: its name and the test program's line, and the records of an accepted one.
-use libc::STDOUT_FILENO;
+// One member of at most 65,536 bytes on standard input; the test program's line and, if it is accepted, its records.
+use libc::STDIN_FILENO;
+
+// Whether there is a byte more on standard input.
+fn more() -> bool {
+    let mut one = [0u8; 1];
+    let got = libc::read(STDIN_FILENO, &mut one);
+    got > 0
+}
 
 fn answer(s: &[u8]) {
     let mut nodes = [0u32; 24576];
@@ -10,31 +17,12 @@ fn answer(s: &[u8]) {
     }
 }
 
-fn named(name: &[u8]) {
-    let fd = os::open_read(name);
-    if fd < 0 {
-        os::fail(name);
+fn main() {
+    let mut buf = io::large_buffer();
+    let n = io::read_full(STDIN_FILENO, &mut buf);
+    if n == 65536 && more() {
+        report::refusal(1, 0);
         return;
     }
-    let mut buf = io::large_buffer();
-    let n = io::read_full(fd, &mut buf);
-    libc::close(fd);
-    io::write_all(STDOUT_FILENO, name);
-    io::write_all(STDOUT_FILENO, b" ");
     answer(&buf[..n]);
-}
-
-fn argument(i: usize) {
-    let mut name = io::buffer();
-    let n = os::arg(i, &mut name);
-    named(&name[..n]);
-}
-
-fn main() {
-    let n = os::arg_count();
-    let mut i = 1;
-    while i < n {
-        argument(i);
-        i += 1;
-    }
 }

@@ -1,8 +1,8 @@
 -- Safe and ends: the measure is the number of arguments that are left.
 use Prim.Native.Nat.{_-_}
 use native.Mathlib.Omega.{arith}
-use Rattle.records_main.proofs.main.Statement.{statement}
-use Rattle.records_main.proofs.main.Tie as tie
+use Rattle.corpus_main.proofs.main.Statement.{statement}
+use Rattle.corpus_main.proofs.main.Tie as tie
 
 pub main-spec : {M : Type 1} → statement M
 main-spec =
