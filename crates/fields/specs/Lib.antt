@@ -1,0 +1,5 @@
+pub mod Values
+pub mod Fields
+pub mod Gives
+pub mod Slices
+pub mod Letters
