@@ -2,7 +2,7 @@
 use mathlib.Core.Path.{_≡_, refl, sym, ap, _∙_}
 use mathlib.Core.Bool.{Bool, true, false}
 use mathlib.Core.List.{List, [], _∷_, _++_, append-nil}
-use Prim.Native.Nat.{ℕ, _+_, _-_, _≤_, _<_}
+use Prim.Native.Nat.{ℕ, _+_, _-_, _^_, _≤_, _<_}
 use native.Mathlib.Nat.{zero-add}
 use native.Mathlib.Omega.{arith}
 use lib.ListN.{length, take, drop, getD, length-take, length-drop}
@@ -30,6 +30,12 @@ digits-of o bs h =
     let e = whole o (length bs) bs 0 (undigits o bs) [] (0 + length bs) (number-all o bs) in
     let q : bs ≡ spell g (undigits o bs, tt) ++ [] = laws.sound g bs h 0 (undigits o bs, tt) [] (0 + length bs) e .1 in
     sym (simp append-nil at q)
+
+pub letters-lt : (o : Order) (bs : List ℕ) → Bytes bs → undigits o bs < 256 ^ length bs
+letters-lt o bs h =
+    let g = number o (length bs) any-number (λ _. empty) in
+    let e = whole o (length bs) bs 0 (undigits o bs) [] (0 + length bs) (number-all o bs) in
+    laws.sound g bs h 0 (undigits o bs, tt) [] (0 + length bs) e .0 .0
 
 -- two runs of bytes of the same length that spell the same number are equal
 pub same-letters : (o : Order) (xs ys : List ℕ) → Bytes xs → Bytes ys → length xs ≡ length ys → undigits o xs ≡ undigits o ys → xs ≡ ys

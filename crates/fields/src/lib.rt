@@ -2,6 +2,7 @@
 // the field beside what is read then; after a refusal the value says nothing.
 
 pub mod read; // readers
+pub mod write; // writers
 
 use layout::Step;
 

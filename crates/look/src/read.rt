@@ -49,7 +49,7 @@ use layout::number::one_of_two;
 use layout::number::peek;
 
 // ff ff 00 00 and a quoted name.
-pub fn section(s: &[u8], st: Step, text: &[u8]) -> Step
+fn section(s: &[u8], st: Step, text: &[u8]) -> Step
     ensures { λ r. ⌜ Gives (grammar.section (now (text .entry))) (now (s .entry)) st r (values.section (now (text .entry))) ⌝ }
 {
     let st = mark(s, st, 0xff);
@@ -59,12 +59,12 @@ pub fn section(s: &[u8], st: Step, text: &[u8]) -> Step
     letters(s, st, text)
 }
 
-pub struct GotSettings {
-    pub value: Settings,
-    pub next: Step,
+struct GotSettings {
+    value: Settings,
+    next: Step,
 }
 
-pub fn settings(s: &[u8], st: Step) -> GotSettings
+fn settings(s: &[u8], st: Step) -> GotSettings
     ensures { λ r. ⌜ Gives grammar.settings (now (s .entry)) st (r .next) (values.settings (r .value)) ⌝ }
 {
     let flags = int16(s, st);
@@ -89,12 +89,12 @@ pub fn settings(s: &[u8], st: Step) -> GotSettings
     }
 }
 
-pub struct GotSeparator {
-    pub value: Separator,
-    pub next: Step,
+struct GotSeparator {
+    value: Separator,
+    next: Step,
 }
 
-pub fn separator(s: &[u8], st: Step) -> GotSeparator
+fn separator(s: &[u8], st: Step) -> GotSeparator
     ensures { λ r. ⌜ Gives grammar.separator (now (s .entry)) st (r .next) (values.separator (r .value)) ⌝ }
 {
     let drawn = peek(s, st, LITTLE, 1) == 1;
@@ -123,12 +123,12 @@ pub fn separator(s: &[u8], st: Step) -> GotSeparator
     }
 }
 
-pub struct GotLines {
-    pub value: Lines,
-    pub next: Step,
+struct GotLines {
+    value: Lines,
+    next: Step,
 }
 
-pub fn lines(s: &[u8], st: Step) -> GotLines
+fn lines(s: &[u8], st: Step) -> GotLines
     ensures { λ r. ⌜ Gives (times 4 grammar.separator) (now (s .entry)) st (r .next) (values.lines (r .value)) ⌝ }
 {
     let got = separator(s, st);
@@ -154,13 +154,13 @@ pub fn lines(s: &[u8], st: Step) -> GotLines
     }
 }
 
-pub struct GotSeparators {
-    pub rows: Lines,
-    pub columns: Lines,
-    pub next: Step,
+struct GotSeparators {
+    rows: Lines,
+    columns: Lines,
+    next: Step,
 }
 
-pub fn separator_style(s: &[u8], st: Step) -> GotSeparators
+fn separator_style(s: &[u8], st: Step) -> GotSeparators
     ensures { λ r. ⌜ Gives grammar.pv-separator-style (now (s .entry)) st (r .next) (values.separator-style (r .rows) (r .columns)) ⌝ }
 {
     let st = section(s, st, b"PVSeparatorStyle");
@@ -181,12 +181,12 @@ pub fn separator_style(s: &[u8], st: Step) -> GotSeparators
     }
 }
 
-pub struct GotColor {
-    pub value: AreaColor,
-    pub next: Step,
+struct GotColor {
+    value: AreaColor,
+    next: Step,
 }
 
-pub fn area_color(s: &[u8], st: Step) -> GotColor
+fn area_color(s: &[u8], st: Step) -> GotColor
     ensures { λ r. ⌜ Gives grammar.area-color (now (s .entry)) st (r .next) (values.area-color (r .value)) ⌝ }
 {
     let st = mark(s, st, 0);
@@ -209,18 +209,18 @@ pub fn area_color(s: &[u8], st: Step) -> GotColor
     }
 }
 
-pub fn cell_style(s: &[u8], st: Step) -> GotColor
+fn cell_style(s: &[u8], st: Step) -> GotColor
     ensures { λ r. ⌜ Gives grammar.pv-cell-style (now (s .entry)) st (r .next) (values.cell-style (r .value)) ⌝ }
 {
     area_color(s, section(s, st, b"PVCellStyle"))
 }
 
-pub struct GotAlignment {
-    pub value: Alignment,
-    pub next: Step,
+struct GotAlignment {
+    value: Alignment,
+    next: Step,
 }
 
-pub fn alignment(s: &[u8], st: Step) -> GotAlignment
+fn alignment(s: &[u8], st: Step) -> GotAlignment
     ensures { λ r. ⌜ Gives grammar.alignment (now (s .entry)) st (r .next) (values.alignment (r .value)) ⌝ }
 {
     let valign = int16(s, st);
@@ -255,12 +255,12 @@ pub fn alignment(s: &[u8], st: Step) -> GotAlignment
     }
 }
 
-pub struct GotFont {
-    pub value: Font,
-    pub next: Step,
+struct GotFont {
+    value: Font,
+    next: Step,
 }
 
-pub fn font(s: &[u8], st: Step) -> GotFont
+fn font(s: &[u8], st: Step) -> GotFont
     ensures { λ r. ⌜ Gives grammar.font (now (s .entry)) st (r .next) (values.font (r .value)) ⌝ }
 {
     let font_size = signed(s, st);
@@ -285,12 +285,12 @@ pub fn font(s: &[u8], st: Step) -> GotFont
     }
 }
 
-pub struct GotTypeface {
-    pub value: Typeface,
-    pub next: Step,
+struct GotTypeface {
+    value: Typeface,
+    next: Step,
 }
 
-pub fn typeface(s: &[u8], st: Step) -> GotTypeface
+fn typeface(s: &[u8], st: Step) -> GotTypeface
     ensures { λ r. ⌜ Gives grammar.typeface (now (s .entry)) st (r .next) (values.typeface (r .value)) ⌝ }
 {
     let italic = flag(s, st);
@@ -323,12 +323,12 @@ pub fn typeface(s: &[u8], st: Step) -> GotTypeface
     }
 }
 
-pub struct GotStyle {
-    pub value: AreaStyle,
-    pub next: Step,
+struct GotStyle {
+    value: AreaStyle,
+    next: Step,
 }
 
-pub fn area_style(s: &[u8], st: Step) -> GotStyle
+fn area_style(s: &[u8], st: Step) -> GotStyle
     ensures { λ r. ⌜ Gives grammar.area-style (now (s .entry)) st (r .next) (values.area-style (r .value)) ⌝ }
 {
     let got = alignment(s, st);
@@ -350,12 +350,12 @@ pub fn area_style(s: &[u8], st: Step) -> GotStyle
     }
 }
 
-pub struct GotArea {
-    pub value: Area,
-    pub next: Step,
+struct GotArea {
+    value: Area,
+    next: Step,
 }
 
-pub fn area(s: &[u8], st: Step) -> GotArea
+fn area(s: &[u8], st: Step) -> GotArea
     ensures { λ r. ⌜ Gives grammar.most-areas (now (s .entry)) st (r .next) (values.area (r .value)) ⌝ }
 {
     let st = mark(s, st, 6);
@@ -375,12 +375,12 @@ pub fn area(s: &[u8], st: Step) -> GotArea
     }
 }
 
-pub struct GotMost {
-    pub value: MostAreas,
-    pub next: Step,
+struct GotMost {
+    value: MostAreas,
+    next: Step,
 }
 
-pub fn most_areas(s: &[u8], st: Step) -> GotMost
+fn most_areas(s: &[u8], st: Step) -> GotMost
     ensures { λ r. ⌜ Gives (times 7 grammar.most-areas) (now (s .entry)) st (r .next) (values.most-areas (r .value)) ⌝ }
 {
     let got = area(s, st);
@@ -418,13 +418,13 @@ pub fn most_areas(s: &[u8], st: Step) -> GotMost
     }
 }
 
-pub struct GotText {
-    pub title: AreaStyle,
-    pub most: MostAreas,
-    pub next: Step,
+struct GotText {
+    title: AreaStyle,
+    most: MostAreas,
+    next: Step,
 }
 
-pub fn text_style(s: &[u8], st: Step) -> GotText
+fn text_style(s: &[u8], st: Step) -> GotText
     ensures { λ r. ⌜ Gives grammar.pv-text-style (now (s .entry)) st (r .next) (values.text-style (r .title) (r .most)) ⌝ }
 {
     let st = section(s, st, b"PVTextStyle");
@@ -438,12 +438,12 @@ pub fn text_style(s: &[u8], st: Step) -> GotText
     GotText { title, most, next }
 }
 
-pub struct GotFrames {
-    pub value: Frames,
-    pub next: Step,
+struct GotFrames {
+    value: Frames,
+    next: Step,
 }
 
-pub fn frames(s: &[u8], st: Step) -> GotFrames
+fn frames(s: &[u8], st: Step) -> GotFrames
     ensures { λ r. ⌜ Gives (times 11 grammar.separator) (now (s .entry)) st (r .next) (values.frames (r .value)) ⌝ }
 {
     let got = separator(s, st);
@@ -501,12 +501,12 @@ pub fn frames(s: &[u8], st: Step) -> GotFrames
     }
 }
 
-pub struct GotV2 {
-    pub value: V2Styles,
-    pub next: Step,
+struct GotV2 {
+    value: V2Styles,
+    next: Step,
 }
 
-pub fn v2_styles(s: &[u8], st: Step) -> GotV2
+fn v2_styles(s: &[u8], st: Step) -> GotV2
     ensures { λ r. ⌜ Gives grammar.v2-styles (now (s .entry)) st (r .next) (values.v2-styles (r .value)) ⌝ }
 {
     let got = frames(s, st);
@@ -537,7 +537,7 @@ pub fn v2_styles(s: &[u8], st: Step) -> GotV2
 }
 
 // The V2 data of a look that has none.
-pub fn no_v2_styles() -> V2Styles
+fn no_v2_styles() -> V2Styles
     ensures { λ r. ⌜ r ≡ blank ⌝ }
 {
     let frame = Frame {
@@ -566,7 +566,7 @@ pub fn no_v2_styles() -> V2Styles
 }
 
 // V2Styles, which version 02 has.
-pub fn v2_styles_if(s: &[u8], st: Step, new: bool) -> GotV2
+fn v2_styles_if(s: &[u8], st: Step, new: bool) -> GotV2
     ensures { λ r. ⌜ Gives (grammar.v2-styles-if new) (now (s .entry)) st (r .next) (values.v2-styles-if new (r .value)) × (new ≡ false → r .value ≡ blank) ⌝ }
 {
     if new {
@@ -579,12 +579,12 @@ pub fn v2_styles_if(s: &[u8], st: Step, new: bool) -> GotV2
     }
 }
 
-pub struct GotLook {
-    pub value: Look,
-    pub next: Step,
+struct GotLook {
+    value: Look,
+    next: Step,
 }
 
-pub fn table_look(s: &[u8], st: Step) -> GotLook
+fn table_look(s: &[u8], st: Step) -> GotLook
     ensures { λ r. ⌜ Gives grammar.table-look (now (s .entry)) st (r .next) (values.fields (r .value))
         × (eqb (r .value .version) 2 ≡ false → r .value .v2 ≡ blank) ⌝ }
 {
