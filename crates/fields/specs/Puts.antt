@@ -396,5 +396,26 @@ unfolding verdict passes pick
 plain-bool true h x = plain-number {c = 0} h refl x
 plain-bool false h x = plain-number {c = 0} (omega arith) refl x
 
--- a straight line of calls: `search puts` finds the chain
-pub ruleset puts = (_⟫_, plain)
+infixl 20 _⊳_
+pub _⊳_ : {g h : Layout} {f : Fields g} {e : Fields h} {b b₁ b₂ : List ℕ} {st q r : Step}
+    → PutsPlain g f b st b₁ q → PutsPlain h e b₁ q b₂ r → PutsPlain (g ▸ h) (f, e) b st b₂ r
+x ⊳ y = record { any = λ s. x .any s ⟫ y .any s }
+
+pub plain-none : {a : Layout} {b : List ℕ} {st : Step} → PutsPlain (times 0 a) [] b st b st
+plain-none = record { any = λ s. none-puts }
+
+pub plain-more : {a : Layout} {n : ℕ} {f : Fields a} {fs : List (Fields a)} {b b₁ b₂ : List ℕ} {st q r : Step}
+    → PutsPlain a f b st b₁ q → PutsPlain (times n a) fs b₁ q b₂ r → PutsPlain (times (suc n) a) (f ∷ fs) b st b₂ r
+plain-more x y = record { any = λ s. more-puts (x .any s) (y .any s) }
+
+pub plain-switch : {o : Order} {w v c : ℕ} {test : Test} (k : ℕ → Layout) {f : Fields (k v)} {b b₁ b₂ : List ℕ} {st q r : Step}
+    → v < 256 ^ w → c ≡ verdict test v → Numbers o w v c b st b₁ q → PutsPlain (k v) f b₁ q b₂ r → PutsPlain (number o w test k) (v, f) b st b₂ r
+plain-switch k h e x y = record { any = λ s. switch-puts k h e x (y .any s) }
+
+-- ---- the buffer stays as long as it is
+
+pub long : {g : Layout} {s : List ℕ} {f : Fields g} {b : List ℕ} {st : Step} {b′ : List ℕ} {r : Step} → Puts g s f b st b′ r → length b′ ≡ length b
+long x = x .is .long
+
+pub long-plain : {g : Layout} {f : Fields g} {b : List ℕ} {st : Step} {b′ : List ℕ} {r : Step} → PutsPlain g f b st b′ r → length b′ ≡ length b
+long-plain x = long (x .any [])

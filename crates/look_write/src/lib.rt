@@ -1,0 +1,3 @@
+// The writer of binary table looks.
+
+mod put; // the productions of 002
