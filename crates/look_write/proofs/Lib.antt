@@ -1,1 +1,2 @@
 mod Versions
+mod Whole

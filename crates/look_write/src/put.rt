@@ -277,7 +277,7 @@ fn v2_styles_if(buf: &mut [u8], st: Step, names: &[u8], new: bool, x: V2Styles) 
     }
 }
 
-fn table_look(buf: &mut [u8], st: Step, names: &[u8], x: Look) -> Step
+pub fn table_look(buf: &mut [u8], st: Step, names: &[u8], x: Look) -> Step
     ensures { λ r. ⌜ Puts grammar.table-look (now (names .entry)) (values.fields x) (now (buf .entry)) st (now (buf .exit)) r ⌝ }
 {
     let settings_of = x.settings;
