@@ -1,2 +1,1 @@
-mod Versions
 mod Whole

@@ -4,9 +4,6 @@ ghost use mathlib.Core.Bool.{_&&_};
 ghost use Prim.Native.Nat.{_≤_};
 ghost use lib.ListN.{length};
 ghost use Rattle.look_write.specs.Writing as spec;
-
-mod put; // the productions of 002
-
 use layout::Step;
 use look::Frame;
 use look::Frames;
@@ -102,7 +99,7 @@ pub fn write_look(look: Look, names: &[u8], out: &mut [u8]) -> Written
         × spec.Fits look ⌝ }
 {
     let mut buf = [0u8; 3152];
-    let st = put::table_look(&mut buf, Step::Next(0), names, look);
+    let st = look_put::table_look(&mut buf, Step::Next(0), names, look);
     let lost = stray(look);
     match st {
         Step::Next(n) => {
