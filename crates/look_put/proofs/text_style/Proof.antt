@@ -4,21 +4,17 @@ use Rattle.look.specs.Look.{PVTextStyle}
 use Rattle.look_put.proofs.text_style.Statement.{statement}
 use Rattle.look_put.proofs.text_style.Tie as tie
 
-pub text-style-spec : {M : Type 1} → statement M
+returns : tie.Need-returns
 unfolding PVTextStyle
-text-style-spec =
-    tie.close
-    (tie.spec
-    (λ c. search needs) (λ _ _. tt) (λ _ _. tt) (λ _ _. tt) (λ _ _. tt)
-    (λ c.
-    let c₁ = c .before .before .before .before in
-    let c₂ = c₁ .before .before .before .before in
-    let c₃ = c₂ .before .before .before .before in
-    long (plain (c₃ .before .before .section .ensures) ⟫ plain (c₂ .before .before .mark .ensures)
-    ⟫ c₁ .before .before .area-style .ensures ⟫ c .before .before .most-areas .ensures))
-    (λ c.
+returns c =
     let c₁ = c .before .before .before .before in
     let c₂ = c₁ .before .before .before .before in
     let c₃ = c₂ .before .before .before .before in
     plain (c₃ .before .before .section .ensures) ⟫ plain (c₂ .before .before .mark .ensures)
-    ⟫ c₁ .before .before .area-style .ensures ⟫ c .before .before .most-areas .ensures))
+    ⟫ c₁ .before .before .area-style .ensures ⟫ c .before .before .most-areas .ensures
+
+pub text-style-spec : {M : Type 1} → statement M
+text-style-spec =
+    tie.close
+    (tie.spec
+    (λ c. search needs) (λ _ _. tt) (λ _ _. tt) (λ _ _. tt) (λ _ _. tt) (λ c. long (returns c)) returns)
