@@ -35,8 +35,12 @@ a & b = (a, b)
 abbrev pub num : ℕ → ℕ × Unit {0}
 num n = (n, tt)
 
+-- a quoted name: its letters, as one number
+abbrev pub quoted : (letters : List ℕ) → Fields (grammar.quoted letters)
+quoted letters = num (undigits big letters)
+
 abbrev pub section : (letters : List ℕ) → Fields (grammar.section letters)
-section letters = num 0xff & num 0xff & num 0 & num 0 & num (undigits big letters)
+section letters = num 0xff & num 0xff & num 0 & num 0 & quoted letters
 
 abbrev pub settings : Settings → Fields grammar.settings
 settings x =

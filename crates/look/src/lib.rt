@@ -1,6 +1,9 @@
 // Binary table looks (source document 002): the look by value, and its reader.
 
+mod areas; // their colors and styles
+mod borders; // separators
 pub mod read; // the reader
+mod section; // the first bytes of a section
 
 use fields::Name;
 
