@@ -1,0 +1,3 @@
+mod Signs
+mod Parts
+mod Inside

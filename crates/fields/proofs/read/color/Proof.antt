@@ -1,0 +1,17 @@
+use Rattle.layout.specs.Layout.{little}
+use Rattle.layout.specs.Steps.Numbers.{tested-of}
+use Rattle.fields.specs.Gives.{number-gives}
+use Rattle.fields.specs.Slices.{bytes-of, peek-lt}
+use Rattle.fields.proofs.read.color.Statement.{statement}
+use Rattle.fields.proofs.read.color.Tie as tie
+
+pub color-spec : {M : Type 1} → statement M
+color-spec =
+    tie.close
+    (tie.spec
+    (λ _ _. tt)
+    (λ c.
+    let a = c .before .before in
+    record { fits = rw (c .peek .ensures) (peek-lt little 4 (a .args .s .now) (bytes-of (a .args .s .now) (c .before .shared-slice-known .given)) (a .args .st)) })
+    (λ _ _. tt) (λ _ _. tt)
+    (λ c. number-gives (tested-of (c .field .ensures) (c .before .high-byte .ensures) (c .before .before .peek .ensures)) (c .before .before .peek .ensures)))

@@ -1,0 +1,18 @@
+use borrow.Author.Needs.{needs}
+use native.Mathlib.Omega.{arith}
+use Rattle.fields.specs.Gives.{string-gives}
+use Rattle.fields.proofs.read.name.Statement.{statement}
+use Rattle.fields.proofs.read.name.Tie as tie
+
+pub name-spec : {M : Type 1} → statement M
+name-spec =
+    tie.close
+    (tie.spec
+    (λ _ _. tt) (λ _ _. tt) (λ c. search needs) (λ c. search needs)
+    (λ c.
+    let p = c .before .p .given .1 in
+    let b = c .before .before .before .bytes .ensures in
+    string-gives (omega arith) (c .before .before .before .before .part .ensures) (rw p) (rw (p, ← (rw p at b))))
+    (λ c.
+    let p = c .before .p2 .given .1 in
+    string-gives (omega arith) (c .before .before .before .before .part .ensures) (rw p) (rw p)))

@@ -1,0 +1,9 @@
+use Rattle.fields.specs.Gives.{more-gives, none-gives}
+use Rattle.fields.proofs.read.two_zeros.Statement.{statement}
+use Rattle.fields.proofs.read.two_zeros.Tie as tie
+
+pub two-zeros-spec : {M : Type 1} → statement M
+two-zeros-spec =
+    tie.close
+    (tie.spec
+    (λ _ _. tt) (λ _ _. tt) (λ c. more-gives (c .before .mark .ensures) (more-gives (c .mark2 .ensures) none-gives)))

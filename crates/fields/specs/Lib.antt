@@ -1,0 +1,7 @@
+pub mod Values
+pub mod Fields
+pub mod Gives
+pub mod Slices
+pub mod Letters
+pub mod Check
+pub mod Puts

@@ -1,0 +1,44 @@
+// The fields of a layout, by value. Each reader takes a slice and what was read so far, as those of `layout` do, and gives the value of
+// the field beside what is read then; after a refusal the value says nothing.
+
+pub mod read; // readers
+pub mod write; // writers
+
+use layout::Step;
+
+// A name by its place and its length.
+pub struct Name {
+    pub place: usize,
+    pub length: usize,
+}
+
+// A value of each kind, and what was read.
+pub struct Got8 {
+    pub value: u8,
+    pub next: Step,
+}
+
+pub struct Got16 {
+    pub value: u16,
+    pub next: Step,
+}
+
+pub struct Got32 {
+    pub value: u32,
+    pub next: Step,
+}
+
+pub struct GotSigned {
+    pub value: i32,
+    pub next: Step,
+}
+
+pub struct GotBool {
+    pub value: bool,
+    pub next: Step,
+}
+
+pub struct GotName {
+    pub value: Name,
+    pub next: Step,
+}

@@ -1,0 +1,228 @@
+// Readers of fields that give their values.
+ghost use mathlib.Core.Path.{_≡_};
+ghost use mathlib.Core.List.{[], _∷_};
+ghost use Prim.Native.Nat.{_≤_, _-_};
+ghost use lib.ListN.{length, take, drop};
+ghost use mir.Syntax.{w32};
+ghost use mir.Val.{SFits};
+ghost use Rattle.layout.specs.Layout.{little, big, the-number, a-color, a-version, at-most, string, times};
+ghost use Rattle.layout.specs.Conventions as grammar;
+ghost use lib.Dec.{eqb};
+ghost use Rattle.layout.specs.Read.{undigits};
+ghost use Rattle.layout.specs.Reads as spec;
+ghost use Rattle.layout.specs.Reads.{Reads, verdict};
+ghost use Rattle.fields.specs.Gives.{Gives};
+ghost use Rattle.fields.specs.Values.{bit, twos};
+use crate::Got8;
+use crate::Got16;
+use crate::Got32;
+use crate::GotBool;
+use crate::GotName;
+use crate::GotSigned;
+use crate::Name;
+use layout::LITTLE;
+use layout::Span;
+use layout::Step;
+use layout::number::any;
+use layout::number::boolean;
+use layout::number::field;
+use layout::number::fixed;
+use layout::number::left;
+use layout::number::limit;
+use layout::number::peek;
+use layout::region::bytes;
+use layout::region::part;
+
+// ---- verdicts
+
+pub fn high_byte(v: u64) -> u32
+    ensures { λ c. ⌜ c ≡ verdict a-color v ⌝ }
+{
+    let none = v < 16777216;
+    if none { 0 } else { 14 }
+}
+
+pub fn known_two(v: u64, a: u64, b: u64) -> u32
+    ensures { λ c. ⌜ c ≡ verdict (a-version (a ∷ b ∷ [])) v ⌝ }
+{
+    let first = v == a;
+    let second = v == b;
+    if first {
+        0
+    } else if second {
+        0
+    } else {
+        4
+    }
+}
+
+// ---- fields
+
+// The byte b.
+pub fn mark(s: &[u8], st: Step, b: u64) -> Step
+    ensures { λ r. ⌜ Gives (grammar.fixed b) (now (s .entry)) st r (b, tt) ⌝ }
+{
+    fixed(s, st, LITTLE, 1, b)
+}
+
+// The number n, in four bytes.
+pub fn int32_of(s: &[u8], st: Step, n: u64) -> Step
+    ensures { λ r. ⌜ Gives (grammar.i n) (now (s .entry)) st r (n, tt) ⌝ }
+{
+    fixed(s, st, LITTLE, 4, n)
+}
+
+// Two zero bytes.
+pub fn two_zeros(s: &[u8], st: Step) -> Step
+    ensures { λ r. ⌜ Gives (times 2 (grammar.fixed 0)) (now (s .entry)) st r ((0, tt) ∷ (0, tt) ∷ []) ⌝ }
+{
+    mark(s, mark(s, st, 0), 0)
+}
+
+// Four zero bytes.
+pub fn four_zeros(s: &[u8], st: Step) -> Step
+    ensures { λ r. ⌜ Gives (times 4 (grammar.fixed 0)) (now (s .entry)) st r ((0, tt) ∷ (0, tt) ∷ (0, tt) ∷ (0, tt) ∷ []) ⌝ }
+{
+    mark(s, mark(s, mark(s, mark(s, st, 0), 0), 0), 0)
+}
+
+pub fn byte(s: &[u8], st: Step) -> Got8
+    ensures { λ r. ⌜ Gives grammar.byte (now (s .entry)) st (r .next) (r .value, tt) ⌝ }
+{
+    Got8 {
+        value: peek(s, st, LITTLE, 1) as u8,
+        next: any(s, st, 1),
+    }
+}
+
+pub fn int16(s: &[u8], st: Step) -> Got16
+    ensures { λ r. ⌜ Gives grammar.int16 (now (s .entry)) st (r .next) (r .value, tt) ⌝ }
+{
+    Got16 {
+        value: peek(s, st, LITTLE, 2) as u16,
+        next: any(s, st, 2),
+    }
+}
+
+pub fn int32(s: &[u8], st: Step) -> Got32
+    ensures { λ r. ⌜ Gives grammar.int32 (now (s .entry)) st (r .next) (r .value, tt) ⌝ }
+{
+    Got32 {
+        value: peek(s, st, LITTLE, 4) as u32,
+        next: any(s, st, 4),
+    }
+}
+
+// A byte that is at most n.
+pub fn small(s: &[u8], st: Step, n: u64) -> Got8
+    ensures { λ r. ⌜ Gives (grammar.field little 1 (at-most n)) (now (s .entry)) st (r .next) (r .value, tt) ⌝ }
+{
+    let v = peek(s, st, LITTLE, 1);
+    Got8 {
+        value: v as u8,
+        next: field(s, st, 1, limit(v, n)),
+    }
+}
+
+// A color of a look.
+pub fn color(s: &[u8], st: Step) -> Got32
+    ensures { λ r. ⌜ Gives (grammar.field little 4 a-color) (now (s .entry)) st (r .next) (r .value, tt) ⌝ }
+{
+    let v = peek(s, st, LITTLE, 4);
+    Got32 {
+        value: v as u32,
+        next: field(s, st, 4, high_byte(v)),
+    }
+}
+
+pub fn flag(s: &[u8], st: Step) -> GotBool
+    ensures { λ r. ⌜ Gives grammar.bool (now (s .entry)) st (r .next) (bit (r .value), tt) ⌝ }
+{
+    let v = peek(s, st, LITTLE, 1);
+    let on = v == 1;
+    GotBool {
+        value: on,
+        next: boolean(s, st),
+    }
+}
+
+// The number that 32 bits are in two's complement.
+pub fn from_bits(v: u32) -> i32
+    ensures { λ r. ⌜ (twos r ≡ v) × SFits w32 r ⌝ }
+{
+    if v < 2147483648 {
+        v as i32
+    } else {
+        -1 - (4294967295 - v) as i32
+    }
+}
+
+pub fn signed(s: &[u8], st: Step) -> GotSigned
+    ensures { λ r. ⌜ Gives grammar.int32 (now (s .entry)) st (r .next) (twos (r .value), tt) × SFits w32 (r .value) ⌝ }
+{
+    let n = int32(s, st);
+    let next = n.next;
+    GotSigned {
+        value: from_bits(n.value),
+        next,
+    }
+}
+
+// A name: its length in one byte, and as many bytes.
+pub fn name(s: &[u8], st: Step) -> GotName
+    ensures { λ r. ⌜ Gives (string little 1) (now (s .entry)) st (r .next) (r .value) ⌝ }
+{
+    let p = part(s, st, LITTLE, 1);
+    let n = bytes(s, p);
+    match p {
+        Span::Of(b, e) => GotName {
+            value: Name {
+                place: b,
+                length: n.len(),
+            },
+            next: Step::Next(e),
+        },
+        Span::Not(r, q) => GotName {
+            value: Name {
+                place: 0,
+                length: 0,
+            },
+            next: Step::Refused(r, q),
+        },
+    }
+}
+
+// Whether letters stand at a position, where there are bytes enough.
+fn same(s: &[u8], at: usize, text: &[u8]) -> bool
+    requires { ⌜ length (now text) ≤ length (now s) - at ⌝ }
+    ensures { λ r. ⌜ r ≡ eqb (undigits big (take (length (now (text .entry))) (drop at (now (s .entry))))) (undigits big (now (text .entry))) ⌝ }
+{
+    let mut i = 0;
+    while i < text.len() {
+        if s[at + i] != text[i] {
+            return false;
+        }
+        i += 1;
+    }
+    true
+}
+
+// Letters, as one field.
+pub fn letters(s: &[u8], st: Step, text: &[u8]) -> Step
+    ensures { λ r. ⌜ Gives (grammar.field big (length (now (text .entry))) (the-number (undigits big (now (text .entry))))) (now (s .entry)) st r
+        (undigits big (now (text .entry)), tt) ⌝ }
+{
+    let Step::Next(at) = st else {
+        return st;
+    };
+    if text.len() <= left(s, at) {
+        let good = same(s, at, text);
+        if good {
+            Step::Next(at + text.len())
+        } else {
+            Step::Refused(3, at)
+        }
+    } else {
+        Step::Refused(2, at)
+    }
+}

@@ -1,0 +1,12 @@
+use borrow.Author.Needs.{needs}
+use Rattle.fields.specs.Gives.{gives}
+use Rattle.look.specs.Look.{PVTextStyle}
+use Rattle.look.proofs.areas.text_style.Statement.{statement}
+use Rattle.look.proofs.areas.text_style.Tie as tie
+
+pub text-style-spec : {M : Type 1} → statement M
+unfolding PVTextStyle
+text-style-spec =
+    tie.close
+    (tie.spec
+    (λ c. search needs) (λ _ _. tt) (λ _ _. tt) (λ _ _. tt) (λ _ _. tt) (λ c. search gives depth 20))

@@ -1,0 +1,13 @@
+use borrow.Author.Needs.{needs}
+use Rattle.fields.specs.Gives.{gives}
+use Rattle.look.specs.Look.{PVSeparatorStyle}
+use Rattle.look.proofs.borders.separator_style.Statement.{statement}
+use Rattle.look.proofs.borders.separator_style.Tie as tie
+
+pub separator-style-spec : {M : Type 1} → statement M
+unfolding PVSeparatorStyle
+separator-style-spec =
+    tie.close
+    (tie.spec
+    (λ c. search needs) (λ _ _. tt) (λ _ _. tt) (λ _ _. tt) (λ _ _. tt) (λ _ _. tt) (λ _ _. tt) (λ _ _. tt)
+    (λ c. search gives depth 20))

@@ -1,0 +1,121 @@
+-- The fields of a look, as the code holds it, in the order of the grammar: each field of 002 stands once.
+use mathlib.Core.Bool.{Bool, true, false}
+use mathlib.Core.List.{List, [], _∷_}
+use Prim.Native.Nat.{ℕ}
+use lib.Dec.{eqb}
+use lib.IntN.{ℤ}
+use Rattle.layout.specs.Layout.{Order, Test, big, number, empty}
+use Rattle.layout.specs.Read.{undigits}
+use Rattle.fields.specs.declared.Name.{Name}
+use Rattle.fields.specs.Fields.{Fields}
+use Rattle.fields.specs.Values.{bit, twos}
+use Rattle.look.specs.declared.Separator.{Separator}
+use Rattle.look.specs.declared.Separator.the-variants.{NotDrawn, Drawn}
+use Rattle.look.specs.declared.Settings.{Settings}
+use Rattle.look.specs.declared.Lines.{Lines}
+use Rattle.look.specs.declared.AreaColor.{AreaColor}
+use Rattle.look.specs.declared.Alignment.{Alignment}
+use Rattle.look.specs.declared.Font.{Font}
+use Rattle.look.specs.declared.Typeface.{Typeface}
+use Rattle.look.specs.declared.AreaStyle.{AreaStyle}
+use Rattle.look.specs.declared.Area.{Area}
+use Rattle.look.specs.declared.MostAreas.{MostAreas}
+use Rattle.look.specs.declared.Frame.{Frame}
+use Rattle.look.specs.declared.Frames.{Frames}
+use Rattle.look.specs.declared.V2Styles.{V2Styles}
+use Rattle.look.specs.declared.Look.{Look}
+use Rattle.look.specs.Look as grammar
+
+-- one after the other
+infixl 20 _&_
+abbrev pub _&_ : {A B : Type 0} → A → B → A × B
+a & b = (a, b)
+
+-- a number alone
+abbrev pub num : ℕ → ℕ × Unit {0}
+num n = (n, tt)
+
+-- a quoted name: its letters, as one number
+abbrev pub quoted : (letters : List ℕ) → Fields (grammar.quoted letters)
+quoted letters = num (undigits big letters)
+
+abbrev pub section : (letters : List ℕ) → Fields (grammar.section letters)
+section letters = num 0xff & num 0xff & num 0 & num 0 & quoted letters
+
+abbrev pub settings : Settings → Fields grammar.settings
+settings x =
+    num (x .flags) & num 0 & num 0 & num (bit (x .«nested_row_labels»)) & num 0 & num (bit (x .«footnote_marker_subscripts»)) & num 0
+    & num 54 & num 18
+
+abbrev pub separator : Separator → Fields grammar.separator
+separator NotDrawn = (0, num 0)
+separator (Drawn color style width) = (1, num 0 & num color & num style & num width)
+
+abbrev pub lines : Lines → List (Fields grammar.separator)
+lines x =
+    separator (x .«horizontal_dimension») ∷ separator (x .«vertical_dimension») ∷ separator (x .«horizontal_category»)
+    ∷ separator (x .«vertical_category») ∷ []
+
+abbrev pub separator-style : Lines → Lines → Fields grammar.pv-separator-style
+separator-style rows columns = section grammar.PVSeparatorStyle & num 0 & lines rows & num 3 & num 0x80 & num 0 & lines columns
+
+abbrev pub area-color : AreaColor → Fields grammar.area-color
+area-color x = num 0 & num 1 & num 0 & num (x .color10) & num (x .color0) & num (x .shading) & num 0
+
+abbrev pub cell-style : AreaColor → Fields grammar.pv-cell-style
+cell-style title = section grammar.PVCellStyle & area-color title
+
+abbrev pub alignment : Alignment → Fields grammar.alignment
+alignment x =
+    num (x .valign) & num (x .halign) & num (x .«decimal_offset») & num (x .«left_margin») & num (x .«right_margin») & num (x .«top_margin»)
+    & num (x .«bottom_margin») & num 0 & num 0 & num 1 & num 0
+
+abbrev pub font : Font → Fields grammar.font
+font x =
+    num (twos (x .«font_size»)) & num (x .stretch) & (num 0 ∷ num 0 ∷ []) & num (x .«rotation_angle»)
+    & (num 0 ∷ num 0 ∷ num 0 ∷ num 0 ∷ []) & num (x .weight) & (num 0 ∷ num 0 ∷ [])
+
+abbrev pub typeface : Typeface → Fields grammar.typeface
+typeface x =
+    num (bit (x .italic)) & num (bit (x .underline)) & num (bit (x .strikethrough)) & num (x .«rtf_charset_number») & num (x .x)
+    & x .«font_name» & num (x .«text_color») & (num 0 ∷ num 0 ∷ [])
+
+abbrev pub area-style : AreaStyle → Fields grammar.area-style
+area-style x = alignment (x .alignment) & font (x .font) & typeface (x .typeface)
+
+abbrev pub area : Area → Fields grammar.most-areas
+area x = num 6 & num 0x80 & area-color (x .color) & num 8 & num 0x80 & num 0 & area-style (x .style)
+
+-- "layers, corner, row labels, column labels, data, caption, and footer"
+abbrev pub most-areas : MostAreas → List (Fields grammar.most-areas)
+most-areas x =
+    area (x .layers) ∷ area (x .corner) ∷ area (x .«row_labels») ∷ area (x .«column_labels») ∷ area (x .data) ∷ area (x .caption)
+    ∷ area (x .footer) ∷ []
+
+abbrev pub text-style : AreaStyle → MostAreas → Fields grammar.pv-text-style
+text-style title most = section grammar.PVTextStyle & num 0 & area-style title & most-areas most
+
+-- "Title", "Left, right, top, and bottom inner frame", the same of the outer frame, "Left and top of data area"
+abbrev pub frames : Frames → List (Fields grammar.separator)
+frames x =
+    separator (x .title) ∷ separator (x .inner .left) ∷ separator (x .inner .right) ∷ separator (x .inner .top)
+    ∷ separator (x .inner .bottom) ∷ separator (x .outer .left) ∷ separator (x .outer .right) ∷ separator (x .outer .top)
+    ∷ separator (x .outer .bottom) ∷ separator (x .«data_left») ∷ separator (x .«data_top») ∷ []
+
+abbrev pub v2-styles : V2Styles → Fields grammar.v2-styles
+v2-styles x =
+    frames (x .frames) & x .continuation & num (x .«min_col_width») & num (x .«max_col_width») & num (x .«min_row_height»)
+    & num (x .«max_row_height»)
+
+abbrev pub v2-styles-if : (b : Bool) → V2Styles → Fields (grammar.v2-styles-if b)
+v2-styles-if true x = v2-styles x
+v2-styles-if false x = tt
+
+abbrev pub sections : (version : ℕ) → Look → Fields (grammar.sections version)
+sections version x =
+    separator-style (x .rows) (x .columns) & cell-style (x .title .color) & text-style (x .title .style) (x .«most_areas»)
+    & v2-styles-if (eqb version 2) (x .v2)
+
+-- the fields that a look has in a file
+abbrev pub fields : Look → Fields grammar.table-look
+fields x = section grammar.PTTableLook & (x .version, settings (x .settings) & sections (x .version) x)

@@ -1,0 +1,206 @@
+// The reader of looks.
+ghost use mathlib.Core.Path.{_≡_};
+ghost use mathlib.Core.Bool.{false};
+ghost use lib.Dec.{eqb};
+ghost use Rattle.layout.specs.Read.{read};
+ghost use Rattle.fields.specs.Gives.{Gives};
+ghost use Rattle.look.specs.Look as grammar;
+ghost use Rattle.look.specs.Values as values;
+ghost use Rattle.look.specs.Answers.{blank, outcome, expected};
+use crate::Answer;
+use crate::Area;
+use crate::Frame;
+use crate::Frames;
+use crate::Look;
+use crate::Separator;
+use crate::Settings;
+use crate::V2Styles;
+use crate::areas::cell_style;
+use crate::areas::text_style;
+use crate::borders::frames;
+use crate::borders::separator_style;
+use crate::section::section;
+use fields::Name;
+use fields::read::color;
+use fields::read::flag;
+use fields::read::int16;
+use fields::read::int32;
+use fields::read::int32_of;
+use fields::read::known_two;
+use fields::read::mark;
+use fields::read::name;
+use layout::LITTLE;
+use layout::Step;
+use layout::number::field;
+use layout::number::peek;
+
+struct GotSettings {
+    value: Settings,
+    next: Step,
+}
+
+fn settings(s: &[u8], st: Step) -> GotSettings
+    ensures { λ r. ⌜ Gives grammar.settings (now (s .entry)) st (r .next) (values.settings (r .value)) ⌝ }
+{
+    let flags = int16(s, st);
+    let st = flags.next;
+    let st = mark(s, st, 0);
+    let st = mark(s, st, 0);
+    let nested = flag(s, st);
+    let st = nested.next;
+    let st = mark(s, st, 0);
+    let subscripts = flag(s, st);
+    let st = subscripts.next;
+    let st = mark(s, st, 0);
+    let st = int32_of(s, st, 54);
+    let next = int32_of(s, st, 18);
+    GotSettings {
+        value: Settings {
+            flags: flags.value,
+            nested_row_labels: nested.value,
+            footnote_marker_subscripts: subscripts.value,
+        },
+        next,
+    }
+}
+
+struct GotV2 {
+    value: V2Styles,
+    next: Step,
+}
+
+fn v2_styles(s: &[u8], st: Step) -> GotV2
+    ensures { λ r. ⌜ Gives grammar.v2-styles (now (s .entry)) st (r .next) (values.v2-styles (r .value)) ⌝ }
+{
+    let got = frames(s, st);
+    let frames = got.value;
+    let st = got.next;
+    let got = name(s, st);
+    let continuation = got.value;
+    let st = got.next;
+    let min_col_width = int32(s, st);
+    let st = min_col_width.next;
+    let max_col_width = int32(s, st);
+    let st = max_col_width.next;
+    let min_row_height = int32(s, st);
+    let st = min_row_height.next;
+    let max_row_height = int32(s, st);
+    let next = max_row_height.next;
+    GotV2 {
+        value: V2Styles {
+            frames,
+            continuation,
+            min_col_width: min_col_width.value,
+            max_col_width: max_col_width.value,
+            min_row_height: min_row_height.value,
+            max_row_height: max_row_height.value,
+        },
+        next,
+    }
+}
+
+// The V2 data of a look that has none.
+fn no_v2_styles() -> V2Styles
+    ensures { λ r. ⌜ r ≡ blank ⌝ }
+{
+    let frame = Frame {
+        left: Separator::NotDrawn,
+        right: Separator::NotDrawn,
+        top: Separator::NotDrawn,
+        bottom: Separator::NotDrawn,
+    };
+    V2Styles {
+        frames: Frames {
+            title: Separator::NotDrawn,
+            inner: frame,
+            outer: frame,
+            data_left: Separator::NotDrawn,
+            data_top: Separator::NotDrawn,
+        },
+        continuation: Name {
+            place: 0,
+            length: 0,
+        },
+        min_col_width: 0,
+        max_col_width: 0,
+        min_row_height: 0,
+        max_row_height: 0,
+    }
+}
+
+// V2Styles, which version 02 has.
+fn v2_styles_if(s: &[u8], st: Step, new: bool) -> GotV2
+    ensures { λ r. ⌜ Gives (grammar.v2-styles-if new) (now (s .entry)) st (r .next) (values.v2-styles-if new (r .value)) × (new ≡ false → r .value ≡ blank) ⌝ }
+{
+    if new {
+        v2_styles(s, st)
+    } else {
+        GotV2 {
+            value: no_v2_styles(),
+            next: st,
+        }
+    }
+}
+
+struct GotLook {
+    value: Look,
+    next: Step,
+}
+
+fn table_look(s: &[u8], st: Step) -> GotLook
+    ensures { λ r. ⌜ Gives grammar.table-look (now (s .entry)) st (r .next) (values.fields (r .value))
+        × (eqb (r .value .version) 2 ≡ false → r .value .v2 ≡ blank) ⌝ }
+{
+    let st = section(s, st, b"PTTableLook");
+    let v = peek(s, st, LITTLE, 1);
+    let st = field(s, st, 1, known_two(v, 0, 2));
+    let got = settings(s, st);
+    let settings = got.value;
+    let st = got.next;
+    let got = separator_style(s, st);
+    let rows = got.rows;
+    let columns = got.columns;
+    let st = got.next;
+    let got = cell_style(s, st);
+    let color = got.value;
+    let st = got.next;
+    let got = text_style(s, st);
+    let style = got.title;
+    let most_areas = got.most;
+    let st = got.next;
+    let new = v == 2;
+    let got = v2_styles_if(s, st, new);
+    let v2 = got.value;
+    let next = got.next;
+    GotLook {
+        value: Look {
+            version: v as u8,
+            settings,
+            rows,
+            columns,
+            title: Area { color, style },
+            most_areas,
+            v2,
+        },
+        next,
+    }
+}
+
+// Reads a look. The places of its names count from the start of the file.
+pub fn read_look(file: &[u8]) -> Answer
+    ensures { λ r. ⌜ outcome r ≡ expected (read grammar.table-look (now (file .entry)) 0) ⌝ }
+{
+    let got = table_look(file, Step::Next(0));
+    let look = got.value;
+    let next = got.next;
+    match next {
+        Step::Next(p) => {
+            if p < file.len() {
+                Answer::Refused(11, p)
+            } else {
+                Answer::Accepted(look)
+            }
+        }
+        Step::Refused(n, p) => Answer::Refused(n, p),
+    }
+}

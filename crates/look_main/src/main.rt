@@ -1,0 +1,39 @@
+// The look on standard input, read and written back: exactly the rewritten file's bytes, or the line `refused N at P`.
+use layout::Span;
+use layout::region::bytes;
+use libc::STDIN_FILENO;
+use libc::STDOUT_FILENO;
+use look::Answer;
+use look_write::Written;
+
+fn refused(n: u32, p: usize) {
+    io::write_all(STDOUT_FILENO, b"refused ");
+    io::print_decimal(STDOUT_FILENO, n as u64);
+    io::write_all(STDOUT_FILENO, b" at ");
+    io::print_decimal(STDOUT_FILENO, p as u64);
+    io::write_all(STDOUT_FILENO, b"\n");
+}
+
+fn rewrite(file: &[u8]) {
+    let answer = look::read::read_look(file);
+    match answer {
+        Answer::Accepted(look) => {
+            let mut out = [0u8; 3152];
+            let written = look_write::write_look(look, file, &mut out);
+            match written {
+                Written::Length(n) => {
+                    io::write_all(STDOUT_FILENO, bytes(&out, Span::Of(0, n)));
+                }
+                Written::Refused(n, p) => refused(n, p),
+            }
+        }
+        Answer::Refused(n, p) => refused(n, p),
+    }
+}
+
+// An accepted look has at most 3,152 bytes, so a longer input is refused by its first 4,096.
+fn main() {
+    let mut buf = io::buffer();
+    let n = io::read_full(STDIN_FILENO, &mut buf);
+    rewrite(&buf[..n]);
+}

@@ -1,0 +1,91 @@
+-- A whole look in a buffer that the longest one fits, and what is answered then.
+use mathlib.Core.Path.{_≡_, refl, sym, ap, _∙_}
+use mathlib.Core.Bool.{Bool, true, false}
+use mathlib.Core.List.{List, [], _++_}
+use Prim.Native.Nat.{ℕ, zero, _+_, _≤_}
+use native.Mathlib.Omega.{arith}
+use lib.ListN.{length, take, drop}
+use lib.Seq.{take-at, take-length}
+use lib.Dec.{leb}
+use Rattle.layout.specs.declared.Step.{Step}
+use Rattle.layout.specs.declared.Step.the-variants.{Next, Refused}
+use Rattle.layout.specs.Read.{pick}
+use Rattle.layout.specs.Reads.{chain}
+use Rattle.fields.specs.Check.{check}
+use Rattle.fields.specs.Puts.{Puts, stored, placeOf}
+use Rattle.look.specs.declared.Look.{Look}
+use Rattle.look.specs.Look.{table-look}
+use Rattle.look.specs.Values as values
+use Rattle.look_write.specs.Writing.{file, stray, ending, writing, output, Fits}
+use Rattle.look_write.specs.Bounds.{longest-look}
+
+-- the answer, once the check is known
+module _ (x : Look) (s : List ℕ) (room : ℕ) where
+  module _ {n : ℕ} (c : check table-look s (values.fields x) 0 ≡ Next n) where
+    pub answers-stray : stray x ≡ true → writing x s room ≡ Refused 16 n
+    unfolding writing ending chain pick
+    answers-stray e = rw (c, e)
+
+    pub answers-length : stray x ≡ false → leb n room ≡ true → writing x s room ≡ Next n
+    unfolding writing ending chain pick
+    answers-length e h = rw (c, e, h)
+
+    pub answers-short : stray x ≡ false → leb n room ≡ false → writing x s room ≡ Refused 15 0
+    unfolding writing ending chain pick
+    answers-short e h = rw (c, e, h)
+
+  pub answers-refused : {n p : ℕ} → check table-look s (values.fields x) 0 ≡ Refused n p → writing x s room ≡ Refused n p
+  unfolding writing chain
+  answers-refused c = rw c
+
+-- the buffer
+module _ (x : Look) {s b b′ : List ℕ} {r : Step} (long : length b ≡ 3152) (put : Puts table-look s (values.fields x) b (Next 0) b′ r) where
+  pub checked : r ≡ check table-look s (values.fields x) 0
+  checked = put .is .checks 0 refl (rw long (longest-look .is s (values.fields x) 0 (put .fit)))
+
+  module _ {n : ℕ} (e : r ≡ Next n) where
+    pub checked-length : check table-look s (values.fields x) 0 ≡ Next n
+    checked-length = sym checked ∙ e
+
+    pub within : n ≤ 3152
+    within = let h = longest-look .is s (values.fields x) 0 (put .fit) in let h′ = rw checked-length at h in h′
+
+    pub front : take n b′ ≡ file x s
+    unfolding file stored
+    front =
+        let e₁ : n ≡ 0 + length (file x s) = put .is .reach 0 n checked-length in
+        rw (put .is .stores 0 n refl checked-length (rw long within)) (take-at (file x s) (drop (0 + length (file x s)) b) n (omega arith))
+
+    -- the part of the buffer that is copied
+    pub front-length : n ≡ length (take n b′)
+    unfolding file
+    front-length = put .is .reach 0 n checked-length ∙ rw front (omega arith)
+
+-- ---- what is returned
+
+-- the answer is v, and the output holds out′
+abbrev Returns : Look → List ℕ → List ℕ → Step → List ℕ → Type 0
+Returns x s out v out′ =
+    (v ≡ writing x s (length out)) × (out′ ≡ output (writing x s (length out)) (file x s) out) × Fits x
+
+module _ (x : Look) {s b b′ : List ℕ} {r : Step} (long : length b ≡ 3152) (put : Puts table-look s (values.fields x) b (Next 0) b′ r) (out : List ℕ) where
+  pub returns-refused : {n p : ℕ} → r ≡ Refused n p → Returns x s out (Refused n p) out
+  unfolding output
+  returns-refused e = rw (answers-refused x s (length out) (sym (checked x long put) ∙ e)) (refl, refl, record { is = put .fit })
+
+  module _ {n : ℕ} (e : r ≡ Next n) where
+    pub returns-stray : {lost : Bool} → lost ≡ stray x → lost ≡ true → Returns x s out (Refused 16 n) out
+    unfolding output
+    returns-stray h i = rw (answers-stray x s (length out) (checked-length x long put e) (sym h ∙ i)) (refl, refl, record { is = put .fit })
+
+    pub returns-short : {lost : Bool} → lost ≡ stray x → lost ≡ false → leb n (length out) ≡ false → Returns x s out (Refused 15 0) out
+    unfolding output
+    returns-short h i j = rw (answers-short x s (length out) (checked-length x long put e) (sym h ∙ i) j) (refl, refl, record { is = put .fit })
+
+    pub returns-length : {lost : Bool} {out′ : List ℕ} → lost ≡ stray x → lost ≡ false → leb n (length out) ≡ true
+        → out′ ≡ take (length (take n b′)) (take n b′) ++ drop (length (take n b′)) out → Returns x s out (Next n) out′
+    unfolding output
+    returns-length h i j k =
+        let l : length (take n b′) ≡ n = sym (front-length x long put e) in
+        rw (answers-length x s (length out) (checked-length x long put e) (sym h ∙ i) j)
+        (refl, k ∙ rw (take-length, l, front x long put e), record { is = put .fit })

@@ -1,0 +1,50 @@
+use Prim.Native.Nat.{ℕ}
+use lib.ListN.{length-replicate}
+use borrow.Author.Tests.{leb-true}
+use borrow.Author.Needs.{needs}
+use Rattle.fields.specs.Puts.{long}
+use Rattle.look_write.proofs.Whole.{within, front-length, returns-stray, returns-length, returns-short, returns-refused}
+use Rattle.look_write.proofs.write_look.Statement.{statement}
+use Rattle.look_write.proofs.write_look.Tie as tie
+
+pub write-look-spec : {M : Type 1} → statement M
+write-look-spec =
+    tie.close
+    (tie.spec
+    (λ c. search needs) (λ _ _. tt) (λ _ _. tt) (λ c. search needs)
+    (λ c.
+    let a = c .before .before .before .before .before .before .before .before .before .before .args in
+    let put = c .before .before .before .before .before .before .table-look .ensures in
+    let e = c .before .before .st .given .1 in
+    returns-stray (a .look) (length-replicate {A = ℕ} 3152 0) put (a .out .now) e (c .before .before .before .before .stray .ensures) (c .if1 .taken))
+    (λ c.
+    let a = c .before .before .before .before .before .before .before .before .before .before .before .args in
+    let put = c .before .before .before .before .before .before .before .table-look .ensures in
+    let e = c .before .before .before .st .given .1 in
+    rw (long put) (within (a .look) (length-replicate {A = ℕ} 3152 0) put e))
+    (λ c.
+    let a = c .before .before .before .before .before .before .before .before .before .before .before .before .args in
+    let put = c .before .before .before .before .before .before .before .before .table-look .ensures in
+    let e = c .before .before .before .before .st .given .1 in
+    front-length (a .look) (length-replicate {A = ℕ} 3152 0) put e)
+    (λ c κs.
+    let a = c .before .before .before .before .before .before .before .before .before .before .before .before .before .args in
+    let put = c .before .before .before .before .before .before .before .before .before .table-look .ensures in
+    let e = c .before .before .before .before .before .st .given .1 in
+    rw (← (front-length (a .look) (length-replicate {A = ℕ} 3152 0) put e)) (leb-true _ _ (c .before .before .if2 .taken)))
+    (λ c. search needs) (λ c. search needs)
+    (λ c.
+    let a = c .before .before .before .before .before .before .before .before .before .before .before .before .before .before .before .before .args in
+    let put = c .before .before .before .before .before .before .before .before .before .before .before .before .table-look .ensures in
+    let e = c .before .before .before .before .before .before .before .before .st .given .1 in
+    returns-length (a .look) (length-replicate {A = ℕ} 3152 0) put (a .out .now) e (c .before .before .before .before .before .before .before .before .before .before .stray .ensures) (c .before .before .before .before .before .before .if1 .left) (c .before .before .before .before .before .if2 .taken) (c .before .before .copy .ensures .1))
+    (λ c.
+    let a = c .before .before .before .before .before .before .before .before .before .before .before .args in
+    let put = c .before .before .before .before .before .before .before .table-look .ensures in
+    let e = c .before .before .before .st .given .1 in
+    returns-short (a .look) (length-replicate {A = ℕ} 3152 0) put (a .out .now) e (c .before .before .before .before .before .stray .ensures) (c .before .if1 .left) (c .if2 .left))
+    (λ c.
+    let a = c .before .before .before .before .before .before .before .before .before .args in
+    let put = c .before .before .before .before .before .table-look .ensures in
+    let e = c .before .st2 .given .1 in
+    returns-refused (a .look) (length-replicate {A = ℕ} 3152 0) put (a .out .now) e))

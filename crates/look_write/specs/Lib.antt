@@ -1,0 +1,4 @@
+pub mod Writing
+pub mod Bounds
+pub mod Trees
+pub mod Theorems

@@ -1,0 +1,106 @@
+// The looks that the arguments name: a line for what each gets, and for an accepted one what its writer answers for too short an
+// output, for no names, and for the same look as version 00 and as version 01.
+use layout::Span;
+use layout::region::bytes;
+use libc::STDOUT_FILENO;
+use look::Answer;
+use look::Look;
+use look_write::Written;
+
+fn text(s: &[u8]) {
+    io::write_all(STDOUT_FILENO, s);
+}
+
+fn number(n: u64) {
+    io::print_decimal(STDOUT_FILENO, n);
+}
+
+fn refused(n: u32, p: usize) {
+    text(b"refused ");
+    number(n as u64);
+    text(b" at ");
+    number(p as u64);
+}
+
+fn answer(w: Written) {
+    match w {
+        Written::Length(n) => number(n as u64),
+        Written::Refused(n, p) => refused(n, p),
+    }
+}
+
+// What the writer answers for the look as that version.
+fn as_version(look: Look, version: u8, file: &[u8]) {
+    let mut other = look;
+    other.version = version;
+    let mut out = [0u8; 3152];
+    answer(look_write::write_look(other, file, &mut out));
+}
+
+// What it answers for an output of 665 bytes, one less than the shortest look has.
+fn short(look: Look, file: &[u8]) {
+    let mut out = [0u8; 665];
+    answer(look_write::write_look(look, file, &mut out));
+}
+
+fn rewritten(look: Look, file: &[u8]) -> bool {
+    let mut out = [0u8; 3152];
+    let written = look_write::write_look(look, file, &mut out);
+    match written {
+        Written::Length(n) => check::same(bytes(&out, Span::Of(0, n)), file),
+        Written::Refused(_, _) => false,
+    }
+}
+
+fn accepted(look: Look, file: &[u8]) {
+    text(b"accepted, ");
+    number(file.len() as u64);
+    if rewritten(look, file) {
+        text(b" bytes, rewritten the same; too short an output: ");
+    } else {
+        text(b" bytes, rewritten differently; too short an output: ");
+    }
+    short(look, file);
+    let mut out = [0u8; 3152];
+    text(b"; no names: ");
+    answer(look_write::write_look(look, b"", &mut out));
+    text(b"; version 00: ");
+    as_version(look, 0, file);
+    text(b"; version 01: ");
+    as_version(look, 1, file);
+}
+
+fn report(file: &[u8]) {
+    let read = look::read::read_look(file);
+    match read {
+        Answer::Accepted(look) => accepted(look, file),
+        Answer::Refused(n, p) => refused(n, p),
+    }
+    text(b"\n");
+}
+
+// The file that an argument names.
+fn one(i: usize) {
+    let mut path = io::buffer();
+    let length = os::arg(i, &mut path);
+    let fd = os::open_read(&path[..length]);
+    if fd < 0 {
+        os::fail(&path[..length]);
+        return;
+    }
+    let mut buf = io::buffer();
+    let n = io::read_full(fd, &mut buf);
+    libc::close(fd);
+    text(&path[..length]);
+    text(b": ");
+    report(&buf[..n]);
+}
+
+fn main() {
+    let n = os::arg_count();
+    let mut i = 1;
+    while i < n {
+        one(i);
+        i += 1;
+    }
+}
