@@ -15,11 +15,11 @@ use Rattle.layout.specs.declared.Span.the-variants.{Of, Not}
 use Rattle.layout.specs.declared.Step.{Step}
 use Rattle.layout.specs.declared.Step.the-variants.{Next, Refused}
 use Rattle.layout.specs.Layout.{Order, Test, the-number, a-bool, one-of, among, passes, Layout, empty, number, string, _▸_, times, Tree, spell, Bytes, no-bytes, byte}
-use Rattle.layout.specs.Read.{Got, got, no, pick, bind, readNumber, readTimes, read, refusal, undigits, too-short}
+use Rattle.layout.specs.Read.{Got, got, no, pick, bind, readNumber, readTimes, read, undigits, too-short}
 use Rattle.layout.specs.Laws as laws
 use Rattle.layout.specs.Laws.Places.{Announced, announced, too-few, counted-view, announced-length}
 use Rattle.layout.specs.Laws.IfGot.{IfGot, is-got, is-no, bind-got, pick-got, of-got}
-use Rattle.layout.specs.Reads.{forget, step, chain, Reads, numberOf, peek, spanOf, part, bytes, past}
+use Rattle.layout.specs.Reads.{forget, step, chain, Reads, peek, spanOf, part, bytes, past}
 use Rattle.layout.specs.Steps.Chain.{then, empty-of, times-none, times-more}
 use Rattle.layout.specs.Steps.Numbers.{switch-of}
 use Rattle.layout.specs.Steps.Counted.{string-of}

@@ -1,18 +1,16 @@
 -- Letters as one number, whose bytes they are: what a quoted name is.
-use mathlib.Core.Path.{_≡_, refl, sym, ap, _∙_}
+use mathlib.Core.Path.{_≡_, sym, ap, _∙_}
 use mathlib.Core.Bool.{Bool, true, false}
-use mathlib.Core.List.{List, [], _∷_, _++_, append-nil}
+use mathlib.Core.List.{List, [], _++_, append-nil}
 use Prim.Native.Nat.{ℕ, _+_, _-_, _^_, _≤_, _<_}
-use native.Mathlib.Nat.{zero-add}
 use native.Mathlib.Omega.{arith}
-use lib.ListN.{length, take, drop, getD, length-take, length-drop}
-use lib.Seq.{take-length, drop-length, drop-drop, ext-getD, length-take-le, getD-take, getD-drop}
-use lib.Dec.{eqb, leb}
+use lib.ListN.{length, take, drop, getD, length-drop}
+use lib.Seq.{take-length, drop-length, ext-getD, length-take-le, getD-take, getD-drop}
+use lib.Dec.{eqb}
 use borrow.Author.Tests.{le-leb, lt-leb, eq-eqb, ne-eqb}
-use Rattle.layout.specs.declared.Step.{Step}
 use Rattle.layout.specs.declared.Step.the-variants.{Next, Refused}
-use Rattle.layout.specs.Layout.{Order, big, Test, the-number, any-number, passes, Layout, empty, number, spell, digits, Bytes}
-use Rattle.layout.specs.Read.{Got, got, no, pick, bind, undigits, readNumber, read, refusal}
+use Rattle.layout.specs.Layout.{Order, Test, any-number, passes, empty, number, spell, digits, Bytes}
+use Rattle.layout.specs.Read.{got, pick, bind, undigits, readNumber, read, refusal}
 use Rattle.layout.specs.Laws as laws
 use Rattle.layout.specs.Reads.{step, chain, Reads}
 use Rattle.fields.specs.Slices.{whole}

@@ -5,3 +5,5 @@ pub mod Slices
 pub mod Letters
 pub mod Check
 pub mod Puts
+pub mod Trees
+pub mod Bounds

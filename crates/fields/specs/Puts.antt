@@ -1,9 +1,9 @@
 -- What the contract of a writer says, and the laws by which one is proved from what its callees ensure. A writer is handed a buffer and
 -- what was written so far, a position or a refusal; it stores the bytes of its fields there and gives the next position, or a refusal.
-use mathlib.Core.Path.{_≡_, refl, sym, ap, _∙_, subst}
+use mathlib.Core.Path.{_≡_, refl, sym, ap, _∙_}
 use mathlib.Core.Bool.{Bool, true, false}
 use mathlib.Core.List.{List, [], _∷_, _++_, append-nil, append-assoc}
-use Prim.Native.Nat.{ℕ, zero, suc, _+_, _-_, _^_, _≤_, _<_}
+use Prim.Native.Nat.{ℕ, suc, _+_, _-_, _^_, _≤_, _<_}
 use native.Mathlib.Nat.{add-zero}
 use native.Mathlib.Omega.{arith}
 use lib.ListN.{length, take, drop, length-append, length-take, length-drop, take-append-drop}
@@ -12,7 +12,7 @@ use lib.Dec.{eqb, leb, ltb}
 use borrow.Author.Tests.{eq-eqb, eqb-true, leb-true, ltb-true}
 use Rattle.layout.specs.declared.Step.{Step}
 use Rattle.layout.specs.declared.Step.the-variants.{Next, Refused}
-use Rattle.layout.specs.Layout.{Order, little, big, Bytes, Test, any-number, the-number, a-version, a-bool, at-most, one-of, a-color, passes, Layout, empty, number, string, _▸_, times, leading, region, nothing, Tree, digits, spellAll, spell, Valid, All, all-none, all-more}
+use Rattle.layout.specs.Layout.{Order, little, big, Bytes, Test, any-number, the-number, a-version, a-bool, at-most, one-of, a-color, passes, Layout, empty, number, string, _▸_, times, leading, region, nothing, digits, spellAll, spell, Valid, All, all-none, all-more}
 use Rattle.layout.specs.Read.{pick, refusal, too-short, limit-passed, undigits}
 use Rattle.layout.specs.Reads.{chain, verdict}
 use Rattle.fields.specs.declared.Name.{Name}

@@ -1,7 +1,7 @@
 -- The numbers of a slice of bytes, and what is read there, fit.
 use mathlib.Core.Path.{_≡_, refl}
 use mathlib.Core.List.{List, [], _∷_}
-use Prim.Native.Nat.{ℕ, zero, suc, _+_, _^_, _≤_, _<_}
+use Prim.Native.Nat.{ℕ, zero, suc, _^_, _<_}
 use native.Mathlib.Nat.{pow-suc}
 use native.Mathlib.Omega.{arith}
 use lib.ListN.{drop, getD}
@@ -9,7 +9,7 @@ use mir.Syntax.{w8}
 use mir.Val.{Fits}
 use Rattle.layout.specs.declared.Step.{Step}
 use Rattle.layout.specs.declared.Step.the-variants.{Next, Refused}
-use Rattle.layout.specs.Layout.{Order, any-number, passes, Layout, empty, number, Bytes, no-bytes, byte}
+use Rattle.layout.specs.Layout.{Order, any-number, passes, empty, number, Bytes, no-bytes, byte}
 use Rattle.layout.specs.Read.{Got, got, no, pick, bind, readNumber, read}
 use Rattle.layout.specs.Laws as laws
 use Rattle.layout.specs.Reads.{numberOf, peek}

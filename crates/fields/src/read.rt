@@ -9,8 +9,7 @@ ghost use Rattle.layout.specs.Layout.{little, big, the-number, a-color, a-versi
 ghost use Rattle.layout.specs.Conventions as grammar;
 ghost use lib.Dec.{eqb};
 ghost use Rattle.layout.specs.Read.{undigits};
-ghost use Rattle.layout.specs.Reads as spec;
-ghost use Rattle.layout.specs.Reads.{Reads, verdict};
+ghost use Rattle.layout.specs.Reads.{verdict};
 ghost use Rattle.fields.specs.Gives.{Gives};
 ghost use Rattle.fields.specs.Values.{bit, twos};
 use crate::Got8;

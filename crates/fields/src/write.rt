@@ -3,7 +3,7 @@
 ghost use mathlib.Core.Path.{_≡_};
 ghost use mathlib.Core.List.{[], _∷_};
 ghost use Prim.Native.Nat.{_+_, _≤_, min};
-ghost use lib.ListN.{length, take, drop};
+ghost use lib.ListN.{length};
 ghost use Rattle.layout.specs.Layout.{little, big, the-number, a-color, at-most, string, times};
 ghost use Rattle.layout.specs.Conventions as grammar;
 ghost use Rattle.layout.specs.Read.{undigits};

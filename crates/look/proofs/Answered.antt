@@ -1,10 +1,10 @@
 -- What a reading of the whole grammar answers.
-use mathlib.Core.Path.{_≡_, refl, sym, ap, _∙_}
+use mathlib.Core.Path.{_≡_, refl, sym, _∙_}
 use mathlib.Core.Bool.{false}
-use mathlib.Core.List.{List, [], _∷_}
-use Prim.Native.Nat.{ℕ, suc, _≤_, _<_}
+use mathlib.Core.List.{List}
+use Prim.Native.Nat.{ℕ, _≤_, _<_}
 use native.Mathlib.Omega.{arith}
-use lib.ListN.{length, drop, getD, drop-of-length-le}
+use lib.ListN.{length, drop-of-length-le}
 use lib.Seq.{drop-cons}
 use lib.Dec.{eqb}
 use Rattle.layout.specs.declared.Step.{Step}
@@ -16,7 +16,7 @@ use Rattle.fields.specs.Gives.{Gives}
 use Rattle.look.specs.declared.Look.{Look}
 use Rattle.look.specs.Look.{table-look}
 use Rattle.look.specs.Values as values
-use Rattle.look.specs.Answers.{blank, accepted, refused, expected, v2-of}
+use Rattle.look.specs.Answers.{blank, accepted, refused, expected}
 use Rattle.look.proofs.Versions.{v2-same}
 
 pub when-refused : {s : List ℕ} {r : Step} {n p : ℕ} → Reads table-look s (Next 0) r → r ≡ Refused n p → refused n p ≡ expected (read table-look s 0)

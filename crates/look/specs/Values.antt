@@ -3,10 +3,8 @@ use mathlib.Core.Bool.{Bool, true, false}
 use mathlib.Core.List.{List, [], _∷_}
 use Prim.Native.Nat.{ℕ}
 use lib.Dec.{eqb}
-use lib.IntN.{ℤ}
-use Rattle.layout.specs.Layout.{Order, Test, big, number, empty}
+use Rattle.layout.specs.Layout.{big}
 use Rattle.layout.specs.Read.{undigits}
-use Rattle.fields.specs.declared.Name.{Name}
 use Rattle.fields.specs.Fields.{Fields}
 use Rattle.fields.specs.Values.{bit, twos}
 use Rattle.look.specs.declared.Separator.{Separator}
@@ -20,7 +18,6 @@ use Rattle.look.specs.declared.Typeface.{Typeface}
 use Rattle.look.specs.declared.AreaStyle.{AreaStyle}
 use Rattle.look.specs.declared.Area.{Area}
 use Rattle.look.specs.declared.MostAreas.{MostAreas}
-use Rattle.look.specs.declared.Frame.{Frame}
 use Rattle.look.specs.declared.Frames.{Frames}
 use Rattle.look.specs.declared.V2Styles.{V2Styles}
 use Rattle.look.specs.declared.Look.{Look}

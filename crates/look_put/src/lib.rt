@@ -1,8 +1,4 @@
 // The productions of 002, each written with its fields into a buffer.
-ghost use mathlib.Core.Path.{_≡_};
-ghost use mathlib.Core.List.{List};
-ghost use Prim.Native.Nat.{ℕ};
-ghost use lib.ListN.{length};
 ghost use Rattle.layout.specs.Layout.{times};
 ghost use Rattle.fields.specs.Puts.{Puts, PutsPlain};
 ghost use Rattle.look.specs.Look as grammar;

@@ -1,8 +1,8 @@
 -- A whole look in a buffer that the longest one fits, and what is answered then.
-use mathlib.Core.Path.{_≡_, refl, sym, ap, _∙_}
+use mathlib.Core.Path.{_≡_, refl, sym, _∙_}
 use mathlib.Core.Bool.{Bool, true, false}
-use mathlib.Core.List.{List, [], _++_}
-use Prim.Native.Nat.{ℕ, zero, _+_, _≤_}
+use mathlib.Core.List.{List, _++_}
+use Prim.Native.Nat.{ℕ, _+_, _≤_}
 use native.Mathlib.Omega.{arith}
 use lib.ListN.{length, take, drop}
 use lib.Seq.{take-at, take-length}
@@ -12,7 +12,7 @@ use Rattle.layout.specs.declared.Step.the-variants.{Next, Refused}
 use Rattle.layout.specs.Read.{pick}
 use Rattle.layout.specs.Reads.{chain}
 use Rattle.fields.specs.Check.{check}
-use Rattle.fields.specs.Puts.{Puts, stored, placeOf}
+use Rattle.fields.specs.Puts.{Puts, stored}
 use Rattle.look.specs.declared.Look.{Look}
 use Rattle.look.specs.Look.{table-look}
 use Rattle.look.specs.Values as values

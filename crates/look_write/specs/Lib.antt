@@ -1,4 +1,3 @@
 pub mod Writing
 pub mod Bounds
-pub mod Trees
 pub mod Theorems

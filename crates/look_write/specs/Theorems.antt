@@ -1,22 +1,22 @@
 -- Demand 2 for looks, as theorems about what `read_look` and `write_look` ensure: "a written look reads as the same look, and an accepted
 -- file rewritten has the same bytes"; and demand 3's: accepted exactly when there is a derivation, and never two.
-use mathlib.Core.Path.{_≡_, refl, sym, ap, _∙_, subst}
+use mathlib.Core.Path.{_≡_, refl, sym, ap, _∙_}
 use mathlib.Core.Logic.{_↔_}
 use mathlib.Core.Bool.{Bool, true, false, false≢true, _&&_, not}
-use mathlib.Core.List.{List, [], _∷_, _++_, append-nil}
-use Prim.Native.Nat.{ℕ, zero, suc, _+_, _≤_}
+use mathlib.Core.List.{List, [], _∷_, append-nil}
+use Prim.Native.Nat.{ℕ, zero, suc, _≤_}
 use native.Mathlib.Nat.{zero-add}
 use native.Mathlib.Omega.{arith}
-use lib.ListN.{length, take, drop}
+use lib.ListN.{length}
 use lib.Dec.{eqb, leb}
 use borrow.Author.Tests.{eqb-true, leb-true}
 use Rattle.layout.specs.declared.Step.{Step}
 use Rattle.layout.specs.declared.Step.the-variants.{Next, Refused}
-use Rattle.layout.specs.Layout.{Tree, spell, Bytes, Valid, Derivation}
+use Rattle.layout.specs.Layout.{Tree, spell, Bytes, Derivation}
 use Rattle.layout.specs.Read.{Got, got, no, pick, read}
 use Rattle.layout.specs.Laws as laws
 use Rattle.layout.specs.Reads.{chain}
-use Rattle.fields.specs.Fields.{Fields, placed, bytesOf, resolveAll, resolve}
+use Rattle.fields.specs.Fields.{Fields, placed, bytesOf, resolve}
 use Rattle.fields.specs.Check.{check}
 use Rattle.look.specs.declared.Separator.{Separator}
 use Rattle.look.specs.declared.Separator.the-variants.{NotDrawn, Drawn}
@@ -29,9 +29,9 @@ use Rattle.look.specs.declared.Answer.the-variants as answer
 use Rattle.look.specs.Look as grammar
 use Rattle.look.specs.Look.{table-look}
 use Rattle.look.specs.Values as values
-use Rattle.look.specs.Answers.{blank, Outcome, accepted, refused, outcome, v2-data, v2-of, expected}
+use Rattle.look.specs.Answers.{blank, accepted, outcome, v2-data, v2-of, expected}
 use Rattle.look_write.specs.Writing.{undrawn, frame-undrawn, frames-undrawn, no-v2, file, stray, ending, writing, Fits}
-use Rattle.look_write.specs.Trees.{Stands, resolve-placed, check-placed, valid-resolved}
+use Rattle.fields.specs.Trees.{Stands, resolve-placed, check-placed, valid-resolved}
 
 -- ---- "The same look" compares the bytes of names, not their places (document 01)
 

@@ -1,7 +1,6 @@
 // The writer of binary table looks.
 ghost use mathlib.Core.Path.{_≡_};
 ghost use mathlib.Core.Bool.{_&&_};
-ghost use Prim.Native.Nat.{_≤_};
 ghost use lib.ListN.{length};
 ghost use Rattle.look_write.specs.Writing as spec;
 use layout::Step;

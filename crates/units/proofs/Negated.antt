@@ -10,7 +10,6 @@ use lib.Signed.{nonNeg, ltZ}
 use mir.Syntax.{w32, w64}
 use mir.Val.{Fits, SFits, toZ, ofZ}
 use mir.ValLaws.{toZ-ofZ}
-use Rattle.units.specs.declared.Height.{Height}
 use Rattle.units.specs.Units.{height}
 
 pub widened : (z : ℤ) → SFits w32 z → SFits w64 (toZ w32 (ofZ w32 z))

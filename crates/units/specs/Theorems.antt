@@ -1,6 +1,6 @@
 -- Document 01: "Points to pixels and back is the same number; pixels to points and back need not be."
 use mathlib.Core.Path.{_≡_, refl}
-use Prim.Native.Nat.{ℕ, _+_, _*_, _/_, _≤_}
+use Prim.Native.Nat.{ℕ, _≤_}
 use native.Mathlib.Omega.{arith}
 use borrow.Author.Tests.{le-leb}
 use Rattle.units.specs.declared.Pt.{Pt}

@@ -1,4 +1,3 @@
-use borrow.Author.Needs.{needs}
 use mir.Syntax.{w32}
 use mir.ValLaws.{toZ-ofZ}
 use mir.Val.{SFits}

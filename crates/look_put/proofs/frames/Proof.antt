@@ -1,4 +1,3 @@
-use borrow.Author.Needs.{needs}
 use Rattle.fields.specs.Puts.{plain-none, plain-more, long-plain}
 use Rattle.look_put.proofs.frames.Statement.{statement}
 use Rattle.look_put.proofs.frames.Tie as tie

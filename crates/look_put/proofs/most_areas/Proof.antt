@@ -1,4 +1,3 @@
-use borrow.Author.Needs.{needs}
 use Rattle.fields.specs.Puts.{none-puts, more-puts, long}
 use Rattle.look_put.proofs.most_areas.Statement.{statement}
 use Rattle.look_put.proofs.most_areas.Tie as tie

@@ -1,4 +1,3 @@
-use borrow.Author.Needs.{needs}
 use Rattle.fields.specs.Puts.{plain, _⟫_, long}
 use Rattle.look_put.proofs.typeface.Statement.{statement}
 use Rattle.look_put.proofs.typeface.Tie as tie

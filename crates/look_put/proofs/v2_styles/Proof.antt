@@ -1,4 +1,3 @@
-use borrow.Author.Needs.{needs}
 use Rattle.fields.specs.Puts.{plain, _⟫_, long}
 use Rattle.look_put.proofs.v2_styles.Statement.{statement}
 use Rattle.look_put.proofs.v2_styles.Tie as tie

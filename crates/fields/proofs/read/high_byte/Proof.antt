@@ -1,4 +1,4 @@
-use Rattle.layout.specs.Layout.{passes, among}
+use Rattle.layout.specs.Layout.{passes}
 use Rattle.layout.specs.Read.{pick, refusal}
 use Rattle.layout.specs.Reads.{verdict}
 use Rattle.fields.proofs.read.high_byte.Statement.{statement}
