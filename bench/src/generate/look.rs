@@ -1,0 +1,216 @@
+//! Random looks: accepted files, and looks for the writer.
+
+use super::field::*;
+use crate::look::{AreaColor, AreaStyle, Look, Name, Separator, V2Styles};
+use crate::random::Random;
+
+/// The bytes of an accepted look.
+pub fn look_bytes(random: &mut Random) -> Vec<u8> {
+    let version = random.pick(&[0, 2]);
+    let mut bytes = b"\xff\xff\0\0PTTableLook".to_vec();
+    bytes.push(version);
+    bytes.extend(random.bytes(2));
+    bytes.extend([0, 0, random.bool(), 0, random.bool(), 0]);
+    bytes.extend([54, 0, 0, 0, 18, 0, 0, 0]);
+    bytes.extend(b"\xff\xff\0\0PVSeparatorStyle\0");
+    bytes.extend(separators(random, 4));
+    bytes.extend([0x03, 0x80, 0x00]);
+    bytes.extend(separators(random, 4));
+    bytes.extend(b"\xff\xff\0\0PVCellStyle");
+    bytes.extend(area_color(random));
+    bytes.extend(b"\xff\xff\0\0PVTextStyle\0");
+    bytes.extend(area_style(random));
+    for _ in 0..7 {
+        bytes.extend([0x06, 0x80]);
+        bytes.extend(area_color(random));
+        bytes.extend([0x08, 0x80, 0x00]);
+        bytes.extend(area_style(random));
+    }
+    if version == 2 {
+        bytes.extend(separators(random, 11));
+        bytes.extend(short_string(random));
+        bytes.extend(int32s(random, 4));
+    }
+    bytes
+}
+
+fn separators(random: &mut Random, number: usize) -> Vec<u8> {
+    (0..number).flat_map(|_| separator(random)).collect()
+}
+
+fn separator(random: &mut Random) -> Vec<u8> {
+    if random.once_in(2) {
+        return vec![0, 0];
+    }
+    [vec![1, 0], color(random), random.bytes(4)].concat()
+}
+
+fn color(random: &mut Random) -> Vec<u8> {
+    [random.bytes(3), vec![0]].concat()
+}
+
+fn area_color(random: &mut Random) -> Vec<u8> {
+    let colors = [color(random), color(random)].concat();
+    [vec![0, 1, 0], colors, vec![random.size(10) as u8, 0]].concat()
+}
+
+fn area_style(random: &mut Random) -> Vec<u8> {
+    let mut bytes = random.bytes(14);
+    bytes.extend([0, 0, 1, 0]);
+    bytes.extend(random.bytes(6));
+    bytes.extend([0; 2]);
+    bytes.extend(random.bytes(4));
+    bytes.extend([0; 4]);
+    bytes.extend(random.bytes(2));
+    bytes.extend([0; 2]);
+    bytes.extend(bools(random, 3));
+    bytes.extend(random.bytes(5));
+    bytes.extend(short_string(random));
+    bytes.extend(color(random));
+    bytes.extend([0; 2]);
+    bytes
+}
+
+fn short_string(random: &mut Random) -> Vec<u8> {
+    let length = name_length(random);
+    [vec![length as u8], random.bytes(length)].concat()
+}
+
+fn name_length(random: &mut Random) -> usize {
+    match random.below(16) {
+        0 => 255,
+        1 => random.size(255),
+        _ => random.size(6),
+    }
+}
+
+/// A look for the writer and the bytes that hold its names.
+pub struct LookToWrite {
+    pub look: Look,
+    pub names: Vec<u8>,
+}
+
+/// A look for the writer. With `faults`, some fields may be outside of what is accepted.
+pub fn look_to_write(random: &mut Random, faults: bool) -> LookToWrite {
+    let length = 260 + random.size(300);
+    let names = random.bytes(length);
+    let mut fields = LookFields { names: length, faults, random };
+    let version = fields.version();
+    let v2 = fields.v2(version);
+    let look = Look {
+        version,
+        flags: fields.number(),
+        nested_row_labels: fields.bool(),
+        footnote_marker_subscripts: fields.bool(),
+        separators1: [(); 4].map(|_| fields.separator()),
+        separators2: [(); 4].map(|_| fields.separator()),
+        title_color: fields.area_color(),
+        title_style: fields.area_style(),
+        most_areas: [(); 7].map(|_| (fields.area_color(), fields.area_style())),
+        v2,
+    };
+    LookToWrite { look, names }
+}
+
+struct LookFields<'a> {
+    /// Number of bytes that hold the names.
+    names: usize,
+    faults: bool,
+    random: &'a mut Random,
+}
+
+impl LookFields<'_> {
+    /// True now and then, if faults are asked for.
+    fn fault(&mut self) -> bool {
+        self.faults && self.random.once_in(40)
+    }
+
+    fn number(&mut self) -> u16 {
+        self.random.next_number() as u16
+    }
+
+    fn bool(&mut self) -> bool {
+        self.random.once_in(2)
+    }
+
+    fn version(&mut self) -> u8 {
+        if self.fault() {
+            return self.random.byte();
+        }
+        self.random.pick(&[0, 2])
+    }
+
+    fn color(&mut self) -> u32 {
+        let color = self.random.next_number() as u32;
+        if self.fault() {
+            color
+        } else {
+            color & 0x00ff_ffff
+        }
+    }
+
+    fn separator(&mut self) -> Separator {
+        if self.bool() {
+            return Separator::NotDrawn;
+        }
+        Separator::Drawn { color: self.color(), style: self.number(), width: self.number() }
+    }
+
+    fn area_color(&mut self) -> AreaColor {
+        let most = if self.fault() { 20 } else { 10 };
+        AreaColor {
+            color10: self.color(),
+            color0: self.color(),
+            shading: self.random.size(most) as u8,
+        }
+    }
+
+    fn name(&mut self) -> Name {
+        if self.fault() {
+            return Name { place: number(self.random), length: number(self.random) };
+        }
+        if self.fault() {
+            return Name { place: self.random.size(self.names) as u32, length: 255 };
+        }
+        let length = name_length(self.random);
+        let place = self.random.size(self.names - length);
+        Name { place: place as u32, length: length as u32 }
+    }
+
+    fn area_style(&mut self) -> AreaStyle {
+        AreaStyle {
+            valign: self.number(),
+            halign: self.number(),
+            decimal_offset: self.number(),
+            left_margin: self.number(),
+            right_margin: self.number(),
+            top_margin: self.number(),
+            bottom_margin: self.number(),
+            font_size: number(self.random) as i32,
+            stretch: self.number(),
+            rotation_angle: number(self.random),
+            weight: self.number(),
+            italic: self.bool(),
+            underline: self.bool(),
+            strikethrough: self.bool(),
+            rtf_charset_number: number(self.random),
+            x: self.random.byte(),
+            font_name: self.name(),
+            text_color: self.color(),
+        }
+    }
+
+    fn v2(&mut self, version: u8) -> V2Styles {
+        if version == 0 && !self.fault() {
+            return V2Styles::default();
+        }
+        V2Styles {
+            separators: [(); 11].map(|_| self.separator()),
+            continuation: self.name(),
+            min_col_width: number(self.random),
+            max_col_width: number(self.random),
+            min_row_height: number(self.random),
+            max_row_height: number(self.random),
+        }
+    }
+}

@@ -1,0 +1,107 @@
+//! Random Values.
+
+use super::field::*;
+use crate::encode;
+use crate::limits::VALUE_DEPTH;
+use crate::random::Random;
+
+/// A Value that is not part of another Value.
+pub fn value(random: &mut Random) -> Vec<u8> {
+    let levels = if random.once_in(24) { 1 + random.size(VALUE_DEPTH as usize - 1) } else { 1 };
+    value_with_levels(random, levels)
+}
+
+/// A Value with exactly this many levels of nesting.
+fn value_with_levels(random: &mut Random, levels: usize) -> Vec<u8> {
+    let mut bytes = vec![0; if random.once_in(2) { 0 } else { random.size(4) }];
+    bytes.extend(raw_value(random, levels));
+    bytes
+}
+
+fn raw_value(random: &mut Random, levels: usize) -> Vec<u8> {
+    if levels > 1 {
+        return [value_mod(random), string(random), arguments(random, levels)].concat();
+    }
+    match random.below(7) {
+        0 => [vec![0x01], formatted_number(random)].concat(),
+        1 => {
+            let label = strings(random, 2);
+            [vec![0x02], formatted_number(random), label, vec![random.byte()]].concat()
+        }
+        2 => [vec![0x03], text(random), vec![random.bool()]].concat(),
+        3 => labelled_string(random),
+        4 => [vec![0x05], value_mod(random), strings(random, 2), vec![random.byte()]].concat(),
+        5 => [vec![0x06], text(random)].concat(),
+        _ => [value_mod(random), string(random), encode::list(&[])].concat(),
+    }
+}
+
+fn formatted_number(random: &mut Random) -> Vec<u8> {
+    [value_mod(random), int32(random), random.bytes(8)].concat()
+}
+
+fn text(random: &mut Random) -> Vec<u8> {
+    [string(random), value_mod(random), strings(random, 2)].concat()
+}
+
+fn labelled_string(random: &mut Random) -> Vec<u8> {
+    let start = [vec![0x04], value_mod(random), int32(random), strings(random, 2)].concat();
+    [start, vec![random.byte()], string(random)].concat()
+}
+
+/// The arguments of a Value with this many levels, at least 2.
+fn arguments(random: &mut Random, levels: usize) -> Vec<u8> {
+    let mut arguments = vec![argument(random, levels)];
+    for _ in 0..random.size(2) {
+        arguments.push(argument(random, 2));
+    }
+    random.shuffle(&mut arguments);
+    encode::list(&arguments)
+}
+
+/// An argument of a Value; one of the argument's values has one level less.
+fn argument(random: &mut Random, levels: usize) -> Vec<u8> {
+    let mut values = vec![value_with_levels(random, levels - 1)];
+    if random.once_in(2) {
+        return [encode::int32(0), values.concat()].concat();
+    }
+    for _ in 0..random.size(2) {
+        values.push(value_with_levels(random, 1));
+    }
+    random.shuffle(&mut values);
+    [encode::int32s(&[values.len() as u32, 0]), values.concat()].concat()
+}
+
+fn value_mod(random: &mut Random) -> Vec<u8> {
+    if !random.once_in(3) {
+        return vec![0x58];
+    }
+    let references = list(random, 3, |random| random.bytes(2));
+    let subscripts = list(random, 2, string);
+    let region = [template_string(random), style_pair(random)].concat();
+    [vec![0x31], references, subscripts, encode::count(&region)].concat()
+}
+
+fn template_string(random: &mut Random) -> Vec<u8> {
+    if random.once_in(3) {
+        return encode::count(&[]);
+    }
+    let prefix = match random.below(3) {
+        0 => vec![],
+        1 => vec![0, 0, 0, 0, 0x58],
+        _ => vec![0, 0, 0, 0, 0x31, 0x55],
+    };
+    encode::count(&[encode::count(&prefix), optional(random, string)].concat())
+}
+
+pub fn style_pair(random: &mut Random) -> Vec<u8> {
+    [optional(random, font_style), optional(random, cell_style)].concat()
+}
+
+fn font_style(random: &mut Random) -> Vec<u8> {
+    [bools(random, 4), strings(random, 3), vec![random.byte()]].concat()
+}
+
+fn cell_style(random: &mut Random) -> Vec<u8> {
+    [int32s(random, 2), random.bytes(8), random.bytes(8)].concat()
+}

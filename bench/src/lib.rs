@@ -1,0 +1,22 @@
+//! Reference readers for version 3 light detail members and binary table looks,
+//! with generators of inputs for them.
+
+pub mod axes;
+pub mod cells;
+pub mod cursor;
+pub mod damage;
+pub mod dimensions;
+pub mod encode;
+pub mod generate;
+pub mod limits;
+pub mod line;
+pub mod look;
+pub mod member;
+pub mod parts;
+pub mod random;
+pub mod refusal;
+pub mod sections;
+pub mod titles;
+pub mod units;
+pub mod value;
+pub mod vectors;

@@ -1,0 +1,84 @@
+//! The printed forms of an answer.
+
+use crate::limits::{CELLS, LINE_BYTES, NODES};
+use crate::look::read_look;
+use crate::member::{read_member, section_ends, Answer, CELL_WORDS, NODE_WORDS};
+use crate::refusal::{Refusal, TOO_LONG};
+
+/// An answer with the areas that were lent for it.
+pub struct Reading {
+    pub answer: Answer,
+    pub nodes: Vec<u32>,
+    pub cells: Vec<u32>,
+}
+
+/// Reads a member as the test program does, with areas for every accepted member.
+pub fn read(member: &[u8]) -> Reading {
+    let mut nodes = vec![0; NODE_WORDS * NODES];
+    let mut cells = vec![0; CELL_WORDS * CELLS as usize];
+    let answer = if member.len() > LINE_BYTES {
+        Answer { refusal: TOO_LONG, ..Answer::default() }
+    } else {
+        read_member(member, &mut nodes, &mut cells)
+    };
+    Reading { answer, nodes, cells }
+}
+
+/// The line that the test program prints, without its newline.
+pub fn line(answer: &Answer) -> String {
+    if answer.refusal != 0 {
+        return Refusal::new(answer.refusal, answer.place as usize).to_string();
+    }
+    format!(
+        "accepted {} dims {} nodes {} cells",
+        answer.dimension_count, answer.node_count, answer.cell_count
+    )
+}
+
+/// The records of an accepted member, one to a line; none for a refused one.
+pub fn record_lines(reading: &Reading) -> Vec<String> {
+    let answer = &reading.answer;
+    if answer.refusal != 0 {
+        return Vec::new();
+    }
+    let dimension_count = answer.dimension_count as usize;
+    let mut lines = Vec::new();
+    for dimension in &answer.dimensions[..dimension_count] {
+        let words =
+            [dimension.name_place, dimension.name_length, dimension.leaves, dimension.first_node];
+        lines.push(words_line("dimension", &words));
+    }
+    lines.push(words_line("axes", &answer.axis_counts));
+    lines.push(words_line("order", &answer.axis_order[..dimension_count]));
+    lines.extend(area_lines("node", &reading.nodes, NODE_WORDS, answer.node_count));
+    lines.extend(area_lines("cell", &reading.cells, CELL_WORDS, answer.cell_count));
+    lines
+}
+
+fn area_lines(name: &str, area: &[u32], words: usize, count: u32) -> Vec<String> {
+    area.chunks(words).take(count as usize).map(|record| words_line(name, record)).collect()
+}
+
+fn words_line(name: &str, words: &[u32]) -> String {
+    let mut line = name.to_string();
+    for word in words {
+        line.push_str(&format!(" {word}"));
+    }
+    line
+}
+
+/// The place after each section before Dimensions, or the refusal of the first refused one.
+pub fn section_line(member: &[u8]) -> String {
+    let (ends, refusal) = section_ends(member);
+    let mut fields: Vec<String> = ends.iter().map(|end| end.to_string()).collect();
+    fields.extend(refusal.map(|refusal| refusal.to_string()));
+    fields.join(" ")
+}
+
+/// The version of a look, or its refusal.
+pub fn look_line(look: &[u8]) -> String {
+    match read_look(look) {
+        Ok(look) => format!("accepted version {:02}", look.version),
+        Err(refusal) => refusal.to_string(),
+    }
+}

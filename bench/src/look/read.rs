@@ -1,0 +1,169 @@
+//! Reads a look.
+
+use super::{AreaColor, AreaStyle, Look, Name, Separator, V2Styles};
+use crate::cursor::Cursor;
+use crate::refusal::*;
+
+/// Reads a look. The places of its names count from the start of these bytes.
+pub fn read_look(bytes: &[u8]) -> Result<Look, Refusal> {
+    let mut cursor = Cursor::new(bytes);
+    let mut look = Look::default();
+    table_look(&mut cursor, &mut look)?;
+    separator_style(&mut cursor, &mut look)?;
+    cell_style(&mut cursor, &mut look)?;
+    text_style(&mut cursor, &mut look)?;
+    if look.version == 2 {
+        look.v2 = v2_styles(&mut cursor)?;
+    }
+    cursor.input_end()?;
+    Ok(look)
+}
+
+fn section_name(cursor: &mut Cursor, name: &[u8]) -> Result<(), Refusal> {
+    cursor.fixed_bytes(&[0xff, 0xff, 0x00, 0x00])?;
+    cursor.quoted_name(name)
+}
+
+fn table_look(cursor: &mut Cursor, look: &mut Look) -> Result<(), Refusal> {
+    section_name(cursor, b"PTTableLook")?;
+    look.version = version(cursor)?;
+    look.flags = cursor.int16()?;
+    cursor.fixed_bytes(&[0x00, 0x00])?;
+    look.nested_row_labels = cursor.bool()?;
+    cursor.fixed_byte(0x00)?;
+    look.footnote_marker_subscripts = cursor.bool()?;
+    cursor.fixed_byte(0x00)?;
+    cursor.fixed_int32(54)?;
+    cursor.fixed_int32(18)
+}
+
+fn version(cursor: &mut Cursor) -> Result<u8, Refusal> {
+    let place = cursor.place();
+    let version = cursor.byte()?;
+    refuse_if(version != 0 && version != 2, VERSION, place)?;
+    Ok(version)
+}
+
+fn separator_style(cursor: &mut Cursor, look: &mut Look) -> Result<(), Refusal> {
+    section_name(cursor, b"PVSeparatorStyle")?;
+    cursor.fixed_byte(0x00)?;
+    look.separators1 = separators(cursor)?;
+    cursor.fixed_bytes(&[0x03, 0x80, 0x00])?;
+    look.separators2 = separators(cursor)?;
+    Ok(())
+}
+
+fn separators<const N: usize>(cursor: &mut Cursor) -> Result<[Separator; N], Refusal> {
+    let mut separators = [Separator::NotDrawn; N];
+    for entry in &mut separators {
+        *entry = separator(cursor)?;
+    }
+    Ok(separators)
+}
+
+fn separator(cursor: &mut Cursor) -> Result<Separator, Refusal> {
+    let place = cursor.place();
+    let kind = cursor.byte()?;
+    refuse_if(kind > 1, FIXED_DIFFERS, place)?;
+    cursor.fixed_byte(0x00)?;
+    if kind == 0 {
+        return Ok(Separator::NotDrawn);
+    }
+    let color = color(cursor)?;
+    let style = cursor.int16()?;
+    let width = cursor.int16()?;
+    Ok(Separator::Drawn { color, style, width })
+}
+
+fn color(cursor: &mut Cursor) -> Result<u32, Refusal> {
+    let place = cursor.place();
+    let color = cursor.int32()?;
+    refuse_if(color >> 24 != 0, COLOR, place)?;
+    Ok(color)
+}
+
+fn cell_style(cursor: &mut Cursor, look: &mut Look) -> Result<(), Refusal> {
+    section_name(cursor, b"PVCellStyle")?;
+    look.title_color = area_color(cursor)?;
+    Ok(())
+}
+
+fn area_color(cursor: &mut Cursor) -> Result<AreaColor, Refusal> {
+    cursor.fixed_bytes(&[0x00, 0x01, 0x00])?;
+    let color10 = color(cursor)?;
+    let color0 = color(cursor)?;
+    let shading = shading(cursor)?;
+    cursor.fixed_byte(0x00)?;
+    Ok(AreaColor { color10, color0, shading })
+}
+
+fn shading(cursor: &mut Cursor) -> Result<u8, Refusal> {
+    let place = cursor.place();
+    let shading = cursor.byte()?;
+    refuse_if(shading > 10, LIMIT, place)?;
+    Ok(shading)
+}
+
+fn text_style(cursor: &mut Cursor, look: &mut Look) -> Result<(), Refusal> {
+    section_name(cursor, b"PVTextStyle")?;
+    cursor.fixed_byte(0x00)?;
+    look.title_style = area_style(cursor)?;
+    for (color, style) in &mut look.most_areas {
+        cursor.fixed_bytes(&[0x06, 0x80])?;
+        *color = area_color(cursor)?;
+        cursor.fixed_bytes(&[0x08, 0x80, 0x00])?;
+        *style = area_style(cursor)?;
+    }
+    Ok(())
+}
+
+fn area_style(cursor: &mut Cursor) -> Result<AreaStyle, Refusal> {
+    let mut style = AreaStyle {
+        valign: cursor.int16()?,
+        halign: cursor.int16()?,
+        decimal_offset: cursor.int16()?,
+        left_margin: cursor.int16()?,
+        right_margin: cursor.int16()?,
+        top_margin: cursor.int16()?,
+        bottom_margin: cursor.int16()?,
+        ..AreaStyle::default()
+    };
+    cursor.fixed_bytes(&[0x00, 0x00, 0x01, 0x00])?;
+    font(cursor, &mut style)?;
+    style.text_color = color(cursor)?;
+    cursor.fixed_bytes(&[0x00; 2])?;
+    Ok(style)
+}
+
+fn font(cursor: &mut Cursor, style: &mut AreaStyle) -> Result<(), Refusal> {
+    style.font_size = cursor.int32()? as i32;
+    style.stretch = cursor.int16()?;
+    cursor.fixed_bytes(&[0x00; 2])?;
+    style.rotation_angle = cursor.int32()?;
+    cursor.fixed_bytes(&[0x00; 4])?;
+    style.weight = cursor.int16()?;
+    cursor.fixed_bytes(&[0x00; 2])?;
+    style.italic = cursor.bool()?;
+    style.underline = cursor.bool()?;
+    style.strikethrough = cursor.bool()?;
+    style.rtf_charset_number = cursor.int32()?;
+    style.x = cursor.byte()?;
+    style.font_name = name(cursor)?;
+    Ok(())
+}
+
+fn name(cursor: &mut Cursor) -> Result<Name, Refusal> {
+    let span = cursor.short_string()?;
+    Ok(Name { place: span.place as u32, length: span.length as u32 })
+}
+
+fn v2_styles(cursor: &mut Cursor) -> Result<V2Styles, Refusal> {
+    Ok(V2Styles {
+        separators: separators(cursor)?,
+        continuation: name(cursor)?,
+        min_col_width: cursor.int32()?,
+        max_col_width: cursor.int32()?,
+        min_row_height: cursor.int32()?,
+        max_row_height: cursor.int32()?,
+    })
+}

@@ -1,0 +1,205 @@
+//! Reading and writing looks.
+
+use digarumbi_bench::damage::damaged;
+use digarumbi_bench::generate::{look_bytes, look_to_write};
+use digarumbi_bench::look::*;
+use digarumbi_bench::random::Random;
+use digarumbi_bench::refusal::*;
+
+/// Where the version stands.
+const VERSION_PLACE: usize = 15;
+/// Where PVSeparatorStyle's first separator stands.
+const SEPARATORS: usize = 32 + 21;
+/// Where the first shading stands if no separator is drawn.
+const SHADING: usize = 72 + 15 + 11;
+/// Where the first AreaStyle stands if no separator is drawn.
+const TITLE_STYLE: usize = 100 + 16;
+/// Where the first font name's length stands if no separator is drawn.
+const FONT_NAME: usize = TITLE_STYLE + 46;
+
+/// The written file, or the refusal; checks that the output is only changed by the file.
+fn write(look: &Look, names: &[u8], length: usize) -> Result<Vec<u8>, Refusal> {
+    let mut out = vec![0xa5; length];
+    let result = write_look(look, names, &mut out);
+    let written = result.unwrap_or(0);
+    assert!(out[written..].iter().all(|&byte| byte == 0xa5));
+    result.map(|written| out[..written].to_vec())
+}
+
+fn empty_look(version: u8) -> Look {
+    Look { version, ..Look::default() }
+}
+
+/// A look with the longest parts; its names are 255 bytes.
+fn longest_look(version: u8) -> Look {
+    let drawn = Separator::Drawn { color: 0x00ff_ffff, style: 1, width: 2 };
+    let name = Name { place: 0, length: 255 };
+    let style = AreaStyle { font_name: name, font_size: -12, ..AreaStyle::default() };
+    let v2 = V2Styles { separators: [drawn; 11], continuation: name, ..V2Styles::default() };
+    Look {
+        version,
+        separators1: [drawn; 4],
+        separators2: [drawn; 4],
+        title_style: style,
+        most_areas: [(AreaColor::default(), style); 7],
+        v2: if version == 2 { v2 } else { V2Styles::default() },
+        ..Look::default()
+    }
+}
+
+fn shortest_file(version: u8) -> Vec<u8> {
+    write(&empty_look(version), &[], 800).unwrap()
+}
+
+fn changed(mut file: Vec<u8>, place: usize, byte: u8) -> Vec<u8> {
+    file[place] = byte;
+    file
+}
+
+#[test]
+fn lengths() {
+    let length = |look: &Look| write(look, &[7; 255], 4_000).unwrap().len();
+    assert_eq!(length(&empty_look(0)), 666);
+    assert_eq!(length(&empty_look(2)), 705);
+    assert_eq!(length(&longest_look(0)), 2_770);
+    assert_eq!(length(&longest_look(2)), 3_152);
+}
+
+#[test]
+fn longest_looks_are_read_back() {
+    for version in [0, 2] {
+        let names = [7; 255];
+        let file = write(&longest_look(version), &names, 4_000).unwrap();
+        let look = read_look(&file).unwrap();
+        assert!(look.same(&file, &longest_look(version), &names));
+        assert_eq!(write(&look, &file, 4_000), Ok(file));
+    }
+}
+
+#[test]
+fn refusals_of_the_reader() {
+    let file = || shortest_file(0);
+    let read = |file: Vec<u8>| read_look(&file).map_err(|refusal| (refusal.number, refusal.place));
+    let refused = |number, place| Err((number, place));
+    assert_eq!(read(Vec::new()), refused(2, 0));
+    assert_eq!(read(changed(file(), 1, 0)), refused(3, 1));
+    assert_eq!(read(changed(file(), 14, b'x')), refused(3, 4));
+    assert_eq!(read(changed(file(), 4, b'x')[..14].to_vec()), refused(2, 4));
+    assert_eq!(read(changed(file(), VERSION_PLACE, 1)), refused(4, VERSION_PLACE));
+    assert_eq!(read(changed(file(), 20, 2)), refused(5, 20));
+    assert_eq!(read(changed(file(), 21, 1)), refused(3, 21));
+    assert_eq!(read(changed(file(), 27, 1)), refused(3, 24));
+    assert_eq!(read(changed(file(), SEPARATORS, 2)), refused(3, SEPARATORS));
+    assert_eq!(read(changed(file(), SEPARATORS + 1, 1)), refused(3, SEPARATORS + 1));
+    assert_eq!(read(changed(file(), SEPARATORS + 6, 3)), refused(3, SEPARATORS + 6));
+    // The separator is drawn; the following bytes become its color.
+    let drawn = changed(changed(file(), SEPARATORS, 1), SEPARATORS + 5, 1);
+    assert_eq!(read(drawn), refused(14, SEPARATORS + 2));
+    assert_eq!(read(changed(file(), SHADING - 5, 9)), refused(14, SHADING - 8));
+    assert_eq!(read(changed(file(), SHADING, 11)), refused(7, SHADING));
+    assert!(read(changed(file(), SHADING, 10)).is_ok());
+    assert_eq!(read(changed(file(), TITLE_STYLE + 16, 0)), refused(3, TITLE_STYLE + 16));
+    assert_eq!(read(changed(file(), TITLE_STYLE + 40, 0xff)), refused(5, TITLE_STYLE + 40));
+    let short = changed(file(), FONT_NAME, 5)[..FONT_NAME + 5].to_vec();
+    assert_eq!(read(short), refused(2, FONT_NAME));
+    assert_eq!(read([file(), vec![0]].concat()), refused(11, 666));
+    assert_eq!(read(changed(file(), VERSION_PLACE, 2)), refused(2, 666));
+    assert_eq!(read(changed(shortest_file(2), VERSION_PLACE, 0)), refused(11, 666));
+    assert_eq!(read([shortest_file(2), vec![0]].concat()), refused(11, 705));
+}
+
+#[test]
+fn refusals_of_the_writer() {
+    let refused = |number, place| Err(Refusal::new(number, place));
+    assert_eq!(write(&empty_look(1), &[], 0), refused(4, VERSION_PLACE));
+    assert_eq!(write(&empty_look(0), &[], 665), refused(15, 0));
+    assert!(write(&empty_look(0), &[], 666).is_ok());
+
+    let mut look = empty_look(0);
+    look.v2.max_row_height = 1;
+    assert_eq!(write(&look, &[], 0), refused(16, 666));
+    look.title_color.shading = 11;
+    assert_eq!(write(&look, &[], 0), refused(7, SHADING));
+    look.separators1[0] = Separator::Drawn { color: 1 << 24, style: 0, width: 0 };
+    assert_eq!(write(&look, &[], 0), refused(14, SEPARATORS + 2));
+
+    let named = |place, length| {
+        let mut look = empty_look(2);
+        look.title_style.font_name = Name { place, length };
+        look
+    };
+    assert_eq!(write(&named(u32::MAX, 256), &[], 0), refused(7, FONT_NAME));
+    assert_eq!(write(&named(1, 255), &[0; 255], 0), refused(2, FONT_NAME));
+    assert_eq!(write(&named(u32::MAX, u32::MAX), &[0; 255], 0), refused(7, FONT_NAME));
+    assert_eq!(write(&named(1, 2), &[0; 3], 707).map(|file| file.len()), Ok(707));
+
+    let mut look = empty_look(0);
+    look.v2.continuation = Name { place: 9, length: 1 };
+    assert_eq!(write(&look, &[0; 20], 0), refused(16, 666));
+    look.v2.continuation.length = 0;
+    assert!(write(&look, &[], 666).is_ok());
+}
+
+#[test]
+fn version_00_has_no_v2_data() {
+    let look = read_look(&shortest_file(0)).unwrap();
+    assert_eq!(look.v2, V2Styles::default());
+}
+
+#[test]
+fn generated_files_are_rewritten_with_the_same_bytes() {
+    for seed in 0..3_000 {
+        let file = look_bytes(&mut Random::new(seed));
+        let look = read_look(&file).unwrap();
+        assert_eq!(write(&look, &file, file.len()), Ok(file), "seed {seed}");
+    }
+}
+
+#[test]
+fn damaged_files_are_refused_or_rewritten_with_the_same_bytes() {
+    let mut numbers = [0; 17];
+    for seed in 0..30_000 {
+        let mut random = Random::new(seed);
+        let file = damaged(&look_bytes(&mut random), &mut random);
+        match read_look(&file) {
+            Ok(look) => {
+                assert_eq!(write(&look, &file, file.len()), Ok(file));
+                numbers[0] += 1;
+            }
+            Err(refusal) => {
+                assert!(refusal.place <= file.len());
+                numbers[refusal.number as usize] += 1;
+            }
+        }
+    }
+    println!("number of looks for each refusal number: {numbers:?}");
+    assert!([0, 2, 3, 4, 5, 7, 11, 14].iter().all(|&number: &usize| numbers[number] > 0));
+}
+
+#[test]
+fn written_looks_read_as_the_same_look() {
+    for seed in 0..3_000 {
+        let generated = look_to_write(&mut Random::new(seed), false);
+        let file = write(&generated.look, &generated.names, 4_000).unwrap();
+        let look = read_look(&file).unwrap();
+        assert!(look.same(&file, &generated.look, &generated.names), "seed {seed}");
+    }
+}
+
+#[test]
+fn looks_with_faults_are_refused_or_read_back() {
+    let mut numbers = [0; 17];
+    for seed in 0..10_000 {
+        let generated = look_to_write(&mut Random::new(seed), true);
+        match write(&generated.look, &generated.names, 3_000) {
+            Ok(file) => {
+                let look = read_look(&file).unwrap();
+                assert!(look.same(&file, &generated.look, &generated.names));
+                numbers[0] += 1;
+            }
+            Err(refusal) => numbers[refusal.number as usize] += 1,
+        }
+    }
+    println!("number of looks for each refusal number: {numbers:?}");
+    assert!([0, 2, 4, 7, 14, 16].iter().all(|&number: &usize| numbers[number] > 0));
+}
