@@ -1,6 +1,13 @@
 // For each member that an argument names: its name and the test program's line.
 use libc::STDOUT_FILENO;
 
+// Whether there is a byte more.
+fn more(fd: i32) -> bool {
+    let mut one = [0u8; 1];
+    let got = libc::read(fd, &mut one);
+    got > 0
+}
+
 fn answer(s: &[u8]) {
     let mut nodes = [0u32; 24576];
     let mut cells = [0u32; 12288];
@@ -15,10 +22,15 @@ fn named(name: &[u8]) {
     }
     let mut buf = io::large_buffer();
     let n = io::read_full(fd, &mut buf);
+    let long = n == 65536 && more(fd);
     libc::close(fd);
     io::write_all(STDOUT_FILENO, name);
     io::write_all(STDOUT_FILENO, b" ");
-    answer(&buf[..n]);
+    if long {
+        report::refusal(1, 0);
+    } else {
+        answer(&buf[..n]);
+    }
 }
 
 fn argument(i: usize) {
