@@ -95,7 +95,7 @@ pv-text-style = section PVTextStyle ▸ fixed 0 ▸ area-style ▸ times 7 most-
 abbrev pub v2-styles : Layout
 v2-styles = times 11 separator ▸ name ▸ int32 ▸ int32 ▸ int32 ▸ int32
 
--- "version 00 lacks V2Styles and version 02 includes it"
+-- version 00 lacks V2Styles, version 02 includes it (002, PTTableLook; document 01, "The looks")
 abbrev pub v2-styles-if : Bool → Layout
 v2-styles-if true = v2-styles
 v2-styles-if false = empty
