@@ -8,8 +8,7 @@ use borrow.Author.Tests.{eq-eqb, ne-eqb, eqb-true, eqb-false, lt-ltb, le-ltb}
 use lib.Dec.{eqb}
 use lib.ListN.{length, getD, set, replicate, length-set, length-replicate, getD-replicate}
 use lib.Seq.{getD-set-same, getD-set-other}
-use Rattle.layout.specs.Layout.{among}
-use Rattle.layout.specs.Read.{pick}
+use Rattle.layout.specs.Layout.{among, pick}
 use Rattle.checks.specs.declared.Verdict.the-variants.{Fine, Bad}
 use Rattle.checks.specs.Checks.{word, fresh, leaf, leaves, firstBad}
 use Rattle.checks.proofs.Walk.{at-leaf, at-group}

@@ -6,8 +6,7 @@ use Prim.Native.Nat.{ℕ, zero, suc, _+_, _-_, _*_, _<_}
 use native.Mathlib.Numerals.{sub-one}
 use native.Mathlib.Omega.{arith}
 use borrow.Author.Tests.{eq-eqb, ne-eqb}
-use Rattle.layout.specs.Layout.{among}
-use Rattle.layout.specs.Read.{pick}
+use Rattle.layout.specs.Layout.{among, pick}
 use Rattle.checks.specs.Checks.{word, isLeaf, leaf, leaves, firsts, sizes}
 
 module _ (ws : List ℕ) (i : ℕ) where

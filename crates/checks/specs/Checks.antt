@@ -6,8 +6,7 @@ use mathlib.Core.List.{List, [], _∷_, map}
 use Prim.Native.Nat.{ℕ, zero, suc, _+_, _*_, _<_}
 use lib.ListN.{getD}
 use lib.Dec.{eqb, ltb}
-use Rattle.layout.specs.Layout.{among, All}
-use Rattle.layout.specs.Read.{pick}
+use Rattle.layout.specs.Layout.{among, All, pick}
 use Rattle.checks.specs.declared.Verdict.{Verdict}
 use Rattle.checks.specs.declared.Verdict.the-variants.{Fine, Bad}
 

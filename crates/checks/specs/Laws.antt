@@ -10,8 +10,7 @@ use native.Mathlib.Omega.{arith}
 use borrow.Author.Tests.{ne-eqb, lt-ltb, ltb-true, not-true}
 use lib.Dec.{eqb, ltb}
 use lib.ListN.{length}
-use Rattle.layout.specs.Layout.{among, All, all-none, all-more}
-use Rattle.layout.specs.Read.{pick}
+use Rattle.layout.specs.Layout.{among, All, all-none, all-more, pick}
 use Rattle.checks.specs.declared.Verdict.{Verdict}
 use Rattle.checks.specs.declared.Verdict.the-variants.{Fine, Bad}
 use Rattle.checks.specs.Laws.Tests.{false-is-true, or-is-false, and-is-true, eqb-turned}

@@ -4,7 +4,7 @@ use mathlib.Core.List.{List}
 use Prim.Native.Nat.{ℕ, _+_, _≤_, _<_, _^_}
 use lib.ListN.{length}
 use borrow.Author.Tests.{le-ltb, lt-ltb, le-leb, lt-leb}
-use Rattle.layout.specs.Read.{pick}
+use Rattle.layout.specs.Layout.{pick}
 use Rattle.fields.specs.declared.Name.{Name}
 use Rattle.fields.specs.Puts.{nameVerdict}
 

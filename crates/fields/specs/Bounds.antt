@@ -10,8 +10,8 @@ use lib.Dec.{leb, ltb}
 use borrow.Author.Tests.{ltb-true}
 use Rattle.layout.specs.declared.Step.{Step}
 use Rattle.layout.specs.declared.Step.the-variants.{Next, Refused}
-use Rattle.layout.specs.Layout.{Order, Test, passes, Layout, empty, number, string, _▸_, times, leading, region, nothing, All, all-none, all-more}
-use Rattle.layout.specs.Read.{pick, refusal}
+use Rattle.layout.specs.Layout.{Order, Test, passes, Layout, empty, number, string, _▸_, times, leading, region, nothing, All, all-none, all-more, pick}
+use Rattle.layout.specs.Read.{refusal}
 use Rattle.layout.specs.Reads.{chain}
 use Rattle.fields.specs.declared.Name.{Name}
 use Rattle.fields.specs.Fields.{Fields}

@@ -5,8 +5,8 @@ use lib.ListN.{length}
 use lib.Dec.{leb, ltb}
 use Rattle.layout.specs.declared.Step.{Step}
 use Rattle.layout.specs.declared.Step.the-variants.{Next, Refused}
-use Rattle.layout.specs.Layout.{Test, passes, Layout, empty, number, string, _▸_, times, leading, region, nothing, spell}
-use Rattle.layout.specs.Read.{pick, refusal, too-short, limit-passed}
+use Rattle.layout.specs.Layout.{Test, passes, Layout, empty, number, string, _▸_, times, leading, region, nothing, spell, pick}
+use Rattle.layout.specs.Read.{refusal, too-short, limit-passed}
 use Rattle.layout.specs.Reads.{chain}
 use Rattle.fields.specs.declared.Name.{Name}
 use Rattle.fields.specs.Fields.{Fields}

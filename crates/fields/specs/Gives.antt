@@ -14,8 +14,8 @@ use Rattle.layout.specs.declared.Span.{Span}
 use Rattle.layout.specs.declared.Span.the-variants.{Of, Not}
 use Rattle.layout.specs.declared.Step.{Step}
 use Rattle.layout.specs.declared.Step.the-variants.{Next, Refused}
-use Rattle.layout.specs.Layout.{Order, Test, the-number, a-bool, one-of, among, passes, Layout, empty, number, string, _▸_, times, Tree, spell, Bytes, no-bytes, byte}
-use Rattle.layout.specs.Read.{Got, got, no, pick, bind, readNumber, readTimes, read, undigits, too-short}
+use Rattle.layout.specs.Layout.{Order, Test, the-number, a-bool, one-of, among, passes, Layout, empty, number, string, _▸_, times, Tree, spell, Bytes, no-bytes, byte, pick, undigits}
+use Rattle.layout.specs.Read.{Got, got, no, bind, readNumber, readTimes, read, too-short}
 use Rattle.layout.specs.Laws as laws
 use Rattle.layout.specs.Laws.Places.{Announced, announced, too-few, counted-view, announced-length}
 use Rattle.layout.specs.Laws.IfGot.{IfGot, is-got, is-no, bind-got, pick-got, of-got}

@@ -9,8 +9,8 @@ use lib.Seq.{take-length, drop-length, ext-getD, length-take-le, getD-take, getD
 use lib.Dec.{eqb}
 use borrow.Author.Tests.{le-leb, lt-leb, eq-eqb, ne-eqb}
 use Rattle.layout.specs.declared.Step.the-variants.{Next, Refused}
-use Rattle.layout.specs.Layout.{Order, Test, any-number, passes, empty, number, spell, digits, Bytes}
-use Rattle.layout.specs.Read.{got, pick, bind, undigits, readNumber, read, refusal}
+use Rattle.layout.specs.Layout.{Order, Test, any-number, passes, empty, number, spell, digits, Bytes, pick, undigits}
+use Rattle.layout.specs.Read.{got, bind, readNumber, read, refusal}
 use Rattle.layout.specs.Laws as laws
 use Rattle.layout.specs.Reads.{step, chain, Reads}
 use Rattle.fields.specs.Slices.{whole}

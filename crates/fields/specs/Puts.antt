@@ -12,8 +12,8 @@ use lib.Dec.{eqb, leb, ltb}
 use borrow.Author.Tests.{eq-eqb, eqb-true, leb-true, ltb-true}
 use Rattle.layout.specs.declared.Step.{Step}
 use Rattle.layout.specs.declared.Step.the-variants.{Next, Refused}
-use Rattle.layout.specs.Layout.{Order, little, big, Bytes, Test, any-number, the-number, a-version, a-bool, at-most, one-of, a-color, passes, Layout, empty, number, string, _▸_, times, leading, region, nothing, digits, spellAll, spell, Valid, All, all-none, all-more}
-use Rattle.layout.specs.Read.{pick, refusal, too-short, limit-passed, undigits}
+use Rattle.layout.specs.Layout.{Order, little, big, Bytes, Test, any-number, the-number, a-version, a-bool, at-most, one-of, a-color, passes, Layout, empty, number, string, _▸_, times, leading, region, nothing, digits, spellAll, spell, Valid, All, all-none, all-more, pick, undigits}
+use Rattle.layout.specs.Read.{refusal, too-short, limit-passed}
 use Rattle.layout.specs.Reads.{chain, verdict}
 use Rattle.fields.specs.declared.Name.{Name}
 use Rattle.fields.specs.Values.{bit}

@@ -9,8 +9,8 @@ use mir.Syntax.{w8}
 use mir.Val.{Fits}
 use Rattle.layout.specs.declared.Step.{Step}
 use Rattle.layout.specs.declared.Step.the-variants.{Next, Refused}
-use Rattle.layout.specs.Layout.{Order, any-number, passes, empty, number, Bytes, no-bytes, byte}
-use Rattle.layout.specs.Read.{Got, got, no, pick, bind, readNumber, read}
+use Rattle.layout.specs.Layout.{Order, any-number, passes, empty, number, Bytes, no-bytes, byte, pick}
+use Rattle.layout.specs.Read.{Got, got, no, bind, readNumber, read}
 use Rattle.layout.specs.Laws as laws
 use Rattle.layout.specs.Reads.{numberOf, peek}
 use Rattle.fields.specs.Gives.{drop-bytes}

@@ -11,8 +11,8 @@ use lib.Dec.{leb, ltb}
 use borrow.Author.Tests.{leb-true, ltb-true, le-leb, lt-ltb}
 use Rattle.layout.specs.declared.Step.{Step}
 use Rattle.layout.specs.declared.Step.the-variants.{Next, Refused}
-use Rattle.layout.specs.Layout.{Order, little, big, Test, passes, Layout, empty, number, string, _▸_, times, leading, region, nothing, Tree, le, digits, spellAll, spell, Bytes, All, all-none, all-more, Valid}
-use Rattle.layout.specs.Read.{pick, refusal, too-short, limit-passed}
+use Rattle.layout.specs.Layout.{Order, little, big, Test, passes, Layout, empty, number, string, _▸_, times, leading, region, nothing, Tree, le, digits, spellAll, spell, Bytes, All, all-none, all-more, Valid, pick}
+use Rattle.layout.specs.Read.{refusal, too-short, limit-passed}
 use Rattle.layout.specs.Reads.{chain}
 use Rattle.fields.specs.declared.Name.{Name}
 use Rattle.fields.specs.Fields.{Fields, placedAll, placed, bytesOf, resolveAll, resolve}

@@ -5,10 +5,9 @@ ghost use Prim.Native.Nat.{_≤_, _-_};
 ghost use lib.ListN.{length, take, drop};
 ghost use mir.Syntax.{w32};
 ghost use mir.Val.{SFits};
-ghost use Rattle.layout.specs.Layout.{little, big, the-number, a-color, a-version, at-most, string, times};
+ghost use Rattle.layout.specs.Layout.{little, big, the-number, a-color, a-version, at-most, string, times, undigits};
 ghost use Rattle.layout.specs.Conventions as grammar;
 ghost use lib.Dec.{eqb};
-ghost use Rattle.layout.specs.Read.{undigits};
 ghost use Rattle.layout.specs.Reads.{verdict};
 ghost use Rattle.fields.specs.Gives.{Gives};
 ghost use Rattle.fields.specs.Values.{bit, twos};
@@ -29,6 +28,7 @@ use layout::number::fixed;
 use layout::number::left;
 use layout::number::limit;
 use layout::number::peek;
+use layout::number::unless_either;
 use layout::region::bytes;
 use layout::region::part;
 
@@ -44,15 +44,7 @@ pub fn high_byte(v: u64) -> u32
 pub fn known_two(v: u64, a: u64, b: u64) -> u32
     ensures { λ c. ⌜ c ≡ verdict (a-version (a ∷ b ∷ [])) v ⌝ }
 {
-    let first = v == a;
-    let second = v == b;
-    if first {
-        0
-    } else if second {
-        0
-    } else {
-        4
-    }
+    unless_either(v, a, b, 4)
 }
 
 // ---- fields

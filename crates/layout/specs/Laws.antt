@@ -7,8 +7,8 @@ use native.Mathlib.Nat.{zero-add}
 use native.Mathlib.Omega.{arith}
 use lib.ListN.{length, drop}
 use lib.Seq.{drop-drop}
-use Rattle.layout.specs.Layout.{Order, digits, Layout, Tree, spell, Bytes, Valid, Derivation}
-use Rattle.layout.specs.Read.{Got, got, no, undigits, bind, read}
+use Rattle.layout.specs.Layout.{Order, digits, Layout, Tree, spell, Bytes, Valid, Derivation, undigits}
+use Rattle.layout.specs.Read.{Got, got, no, bind, read}
 mod Digits
 pub mod IfGot
 mod Lead

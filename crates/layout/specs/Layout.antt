@@ -4,7 +4,7 @@ use mathlib.Core.Path.{_≡_}
 use mathlib.Core.Bool.{Bool, true, false, _||_}
 use mathlib.Core.Option.{Option, none, some}
 use mathlib.Core.List.{List, [], _∷_, _++_, reverse}
-use Prim.Native.Nat.{ℕ, zero, suc, _/_, _%_, _^_, _≤_, _<_}
+use Prim.Native.Nat.{ℕ, zero, suc, _+_, _*_, _/_, _%_, _^_, _≤_, _<_}
 use lib.ListN.{length, replicate, getD}
 use lib.Dec.{eqb, leb, ltb}
 
@@ -57,6 +57,11 @@ pub data Layout : Type 0 where
   -- no bytes have this layout, not even none: what is nested deeper than document 01 allows
   nothing : Layout
 
+-- one of two, as a bool says: for alternatives that a number chooses
+unfoldable pub pick {ℓ} : {X : Type ℓ} → Bool → X → X → X
+pick true x y = x
+pick false x y = y
+
 -- ---- derivation trees
 
 -- the content of a region
@@ -86,6 +91,16 @@ le (suc w) n = n % 256 ∷ le w (n / 256)
 unfoldable pub digits : Order → ℕ → ℕ → List ℕ
 digits little w n = le w n
 digits big w n = reverse (le w n)
+
+-- the number that bytes spell
+unfoldable pub undigit : List ℕ → ℕ
+undigit [] = 0
+undigit (b ∷ bs) = b + 256 * undigit bs
+
+unfoldable pub undigits : Order → List ℕ → ℕ
+unfolding undigit
+undigits little bs = undigit bs
+undigits big bs = undigit (reverse bs)
 
 unfoldable pub spellAll : {A : Type 0} → (A → List ℕ) → List A → List ℕ
 spellAll f [] = []

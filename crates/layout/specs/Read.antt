@@ -2,11 +2,11 @@
 -- "Refusal numbers". `Laws` says what this has to do with the derivations of `Layout`.
 use mathlib.Core.Bool.{Bool, true, false}
 use mathlib.Core.Option.{none, some}
-use mathlib.Core.List.{List, [], _∷_, reverse}
-use Prim.Native.Nat.{ℕ, zero, suc, _+_, _*_}
+use mathlib.Core.List.{List, [], _∷_}
+use Prim.Native.Nat.{ℕ, zero, suc, _+_}
 use lib.ListN.{length, take, drop}
 use lib.Dec.{eqb, leb, ltb}
-use Rattle.layout.specs.Layout.{Order, little, big, Test, any-number, the-number, a-version, a-bool, at-most, one-of, a-color, passes, Fill, exact, optional, open-ended, Filled, Layout, empty, number, string, _▸_, times, leading, region, nothing, Tree}
+use Rattle.layout.specs.Layout.{Order, little, big, Test, any-number, the-number, a-version, a-bool, at-most, one-of, a-color, passes, Fill, exact, optional, open-ended, Filled, Layout, empty, number, string, _▸_, times, leading, region, nothing, Tree, pick, undigits}
 
 pub data Got (A : Type 0) : Type 0 where
   -- a tree, the bytes left and their place
@@ -40,20 +40,6 @@ abbrev pub limit-passed : ℕ
 limit-passed = 7
 
 -- ---- the parts of a reading
-
-unfoldable pub undigit : List ℕ → ℕ
-undigit [] = 0
-undigit (b ∷ bs) = b + 256 * undigit bs
-
--- the number that bytes spell
-unfoldable pub undigits : Order → List ℕ → ℕ
-unfolding undigit
-undigits little bs = undigit bs
-undigits big bs = undigit (reverse bs)
-
-unfoldable pub pick {ℓ} : {X : Type ℓ} → Bool → X → X → X
-pick true x y = x
-pick false x y = y
 
 -- what comes after something was read; a refusal stays
 unfoldable pub bind : {A B : Type 0} → Got A → (A → List ℕ → ℕ → Got B) → Got B

@@ -10,8 +10,8 @@ use Rattle.layout.specs.declared.Step.{Step}
 use Rattle.layout.specs.declared.Step.the-variants.{Next, Refused}
 use Rattle.layout.specs.declared.Span.{Span}
 use Rattle.layout.specs.declared.Span.the-variants.{Of, Not}
-use Rattle.layout.specs.Layout.{Order, little, big, Test, passes, Fill, exact, optional, open-ended, Layout}
-use Rattle.layout.specs.Read.{Got, got, no, refusal, pick, readNumber, readCounted, lead, read, ends-early, limit-passed}
+use Rattle.layout.specs.Layout.{Order, little, big, Test, passes, Fill, exact, optional, open-ended, Layout, pick}
+use Rattle.layout.specs.Read.{Got, got, no, refusal, readNumber, readCounted, lead, read, ends-early, limit-passed}
 
 -- a reading without its tree and without what is left
 abbrev pub forget : {A : Type 0} → Got A → Step

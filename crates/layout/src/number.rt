@@ -3,9 +3,8 @@ ghost use mathlib.Core.Path.{_≡_};
 ghost use mathlib.Core.List.{[], _∷_};
 ghost use Prim.Native.Nat.{_≤_, _-_, min};
 ghost use lib.ListN.{length, take, drop};
-ghost use Rattle.layout.specs.Layout.{little, big, any-number, the-number, a-version, a-bool, at-most, one-of};
+ghost use Rattle.layout.specs.Layout.{little, big, any-number, the-number, a-version, a-bool, at-most, one-of, undigits, pick, among};
 ghost use Rattle.layout.specs.Conventions as grammar;
-ghost use Rattle.layout.specs.Read.{undigits};
 ghost use Rattle.layout.specs.Reads as spec;
 ghost use Rattle.layout.specs.Reads.{Reads, order, verdict};
 use crate::Step;
@@ -128,8 +127,9 @@ pub fn known(v: u64, n: u64) -> u32
     if same { 0 } else { 4 }
 }
 
-pub fn either(v: u64, a: u64, b: u64) -> u32
-    ensures { λ c. ⌜ c ≡ verdict (one-of (a ∷ b ∷ [])) v ⌝ }
+// 0 for one of two numbers, and the refusal for any other.
+pub fn unless_either(v: u64, a: u64, b: u64, refusal: u32) -> u32
+    ensures { λ c. ⌜ c ≡ pick (among v (a ∷ b ∷ [])) 0 refusal ⌝ }
 {
     let first = v == a;
     let second = v == b;
@@ -138,8 +138,14 @@ pub fn either(v: u64, a: u64, b: u64) -> u32
     } else if second {
         0
     } else {
-        3
+        refusal
     }
+}
+
+pub fn either(v: u64, a: u64, b: u64) -> u32
+    ensures { λ c. ⌜ c ≡ verdict (one-of (a ∷ b ∷ [])) v ⌝ }
+{
+    unless_either(v, a, b, 3)
 }
 
 // ---- fields

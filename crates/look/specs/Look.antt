@@ -5,9 +5,8 @@ use mathlib.Core.List.{List, [], _∷_}
 use Prim.Native.Nat.{ℕ}
 use lib.ListN.{length}
 use lib.Dec.{eqb}
-use Rattle.layout.specs.Layout.{little, big, the-number, a-version, one-of, a-color, at-most, Layout, empty, number, string, _▸_, times}
+use Rattle.layout.specs.Layout.{little, big, the-number, a-version, one-of, a-color, at-most, Layout, empty, number, string, _▸_, times, undigits}
 use Rattle.layout.specs.Conventions.{field, fixed, i, byte, bool, int16, int32}
-use Rattle.layout.specs.Read.{undigits}
 
 -- "a quoted name in 002 is its letters and nothing else" (document 01), and is one field
 abbrev pub quoted : List ℕ → Layout

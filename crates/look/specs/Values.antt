@@ -3,8 +3,7 @@ use mathlib.Core.Bool.{Bool, true, false}
 use mathlib.Core.List.{List, [], _∷_}
 use Prim.Native.Nat.{ℕ}
 use lib.Dec.{eqb}
-use Rattle.layout.specs.Layout.{big}
-use Rattle.layout.specs.Read.{undigits}
+use Rattle.layout.specs.Layout.{big, undigits}
 use Rattle.fields.specs.Fields.{Fields}
 use Rattle.fields.specs.Values.{bit, twos}
 use Rattle.look.specs.declared.Separator.{Separator}

@@ -9,7 +9,7 @@ use lib.Seq.{take-at, take-length}
 use lib.Dec.{leb}
 use Rattle.layout.specs.declared.Step.{Step}
 use Rattle.layout.specs.declared.Step.the-variants.{Next, Refused}
-use Rattle.layout.specs.Read.{pick}
+use Rattle.layout.specs.Layout.{pick}
 use Rattle.layout.specs.Reads.{chain}
 use Rattle.fields.specs.Check.{check}
 use Rattle.fields.specs.Puts.{Puts, stored}

@@ -12,8 +12,8 @@ use lib.Dec.{eqb, leb}
 use borrow.Author.Tests.{eqb-true, leb-true}
 use Rattle.layout.specs.declared.Step.{Step}
 use Rattle.layout.specs.declared.Step.the-variants.{Next, Refused}
-use Rattle.layout.specs.Layout.{Tree, spell, Bytes, Derivation}
-use Rattle.layout.specs.Read.{Got, got, no, pick, read}
+use Rattle.layout.specs.Layout.{Tree, spell, Bytes, Derivation, pick}
+use Rattle.layout.specs.Read.{Got, got, no, read}
 use Rattle.layout.specs.Laws as laws
 use Rattle.layout.specs.Reads.{chain}
 use Rattle.fields.specs.Fields.{Fields, placed, bytesOf, resolve}

@@ -6,8 +6,7 @@ use lib.ListN.{drop}
 use lib.Dec.{eqb, leb}
 use Rattle.layout.specs.declared.Step.{Step}
 use Rattle.layout.specs.declared.Step.the-variants.{Next, Refused}
-use Rattle.layout.specs.Layout.{spell}
-use Rattle.layout.specs.Read.{pick}
+use Rattle.layout.specs.Layout.{spell, pick}
 use Rattle.layout.specs.Reads.{chain}
 use Rattle.fields.specs.Fields.{resolve}
 use Rattle.fields.specs.Check.{check}

@@ -5,7 +5,7 @@ use mathlib.Core.List.{List, _++_}
 use Prim.Native.Nat.{ℕ, _*_}
 use lib.ListN.{length, take, drop}
 use lib.Dec.{leb}
-use Rattle.layout.specs.Read.{pick}
+use Rattle.layout.specs.Layout.{pick}
 use Rattle.table.specs.Walk.{word32}
 use Rattle.member.specs.Answer.{Outcome, table, refused, refusal, accepted, answerOf, nodesAfter, cellsAfter, Delivered}
 

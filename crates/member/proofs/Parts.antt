@@ -6,7 +6,7 @@ use native.Mathlib.Nat.{add-sub-cancel-left}
 use native.Mathlib.Omega.{arith}
 use lib.ListN.{length, take, drop}
 use borrow.Author.Tests.{le-leb, lt-leb}
-use Rattle.layout.specs.Read.{pick}
+use Rattle.layout.specs.Layout.{pick}
 use Rattle.member.specs.Part.{partOf}
 
 pub part-inside : (s : List ℕ) (place n : ℕ) → place + n ≤ length s → take (place + n - place) (drop place s) ≡ partOf s place n

@@ -9,8 +9,8 @@ use lib.ListN.{length, take, drop, length-append}
 use lib.Seq.{sets, sets-eq, take-at}
 use lib.Dec.{leb}
 use borrow.Author.Tests.{leb-true, leb-false}
-use Rattle.layout.specs.Layout.{_▸_, Tree, spell, Bytes, Valid}
-use Rattle.layout.specs.Read.{Got, got, no, pick, read}
+use Rattle.layout.specs.Layout.{_▸_, Tree, spell, Bytes, Valid, pick}
+use Rattle.layout.specs.Read.{Got, got, no, read}
 use Rattle.layout.specs.Laws.{complete}
 use Rattle.layout.specs.Laws.IfGot.{IfGot, of-got}
 use Rattle.value.specs.Value.{Value}

@@ -5,8 +5,8 @@ use mathlib.Core.List.{List, [], _∷_, map}
 use Prim.Native.Nat.{ℕ}
 use lib.ListN.{length, replicate}
 use lib.Dec.{leb, eqb, ltb}
-use Rattle.layout.specs.Layout.{passes, among}
-use Rattle.layout.specs.Read.{Got, got, no, pick, read, refusal}
+use Rattle.layout.specs.Layout.{passes, among, pick}
+use Rattle.layout.specs.Read.{Got, got, no, read, refusal}
 use Rattle.layout.specs.Reads.{step, chain, peek}
 use Rattle.units.specs.Units.{in-pixels, in-points}
 use Rattle.value.specs.Value.{Value, ValueIn, RawValueOf, TemplateOf, ArgumentOf}

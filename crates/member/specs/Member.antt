@@ -9,8 +9,7 @@ use Rattle.layout.specs.Layout.{Layout, _▸_, Tree, spell, Valid, All}
 use Rattle.sections.specs.Sections.{Front}
 use Rattle.checks.specs.Checks.{OnceEach, product}
 use Rattle.table.specs.Table.{Dimension, Dimensions, Axes, Cell, Cells}
-use Rattle.table.specs.Records.{total, size, dimNodes, dimLeaves, dimsWords, dimsEntries, entryIndex, cellIndex, cellWords, mapAll, rowsWords}
-use Rattle.table.specs.DimsAgree.{LeavesOnce}
+use Rattle.table.specs.Records.{total, size, dimNodes, dimLeaves, LeavesOnce, dimsWords, dimsEntries, entryIndex, cellIndex, cellWords, mapAll, rowsWords}
 
 -- ---- the grammar
 

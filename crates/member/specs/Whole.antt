@@ -11,9 +11,9 @@ use lib.Dec.{eqb, leb}
 use borrow.Author.Tests.{leb-true, leb-false, le-leb, lt-leb, eqb-true, eqb-false, eq-eqb}
 use Rattle.layout.specs.declared.Step.{Step}
 use Rattle.layout.specs.declared.Step.the-variants.{Next, Refused}
-use Rattle.layout.specs.Layout.{Order, little, Test, any-number, at-most, passes, Layout, number, _▸_, times, Tree, digits, spell, Bytes, Valid, All}
+use Rattle.layout.specs.Layout.{Order, little, Test, any-number, at-most, passes, Layout, number, _▸_, times, Tree, digits, spell, Bytes, Valid, All, pick}
 use Rattle.layout.specs.Conventions.{field, int32}
-use Rattle.layout.specs.Read.{Got, got, no, pick, bind, lead, readTimes, read}
+use Rattle.layout.specs.Read.{Got, got, no, bind, lead, readTimes, read}
 use Rattle.layout.specs.Reads.{step, chain, peek, forget}
 use Rattle.layout.specs.Laws.{digits-length}
 use Rattle.layout.specs.Laws.IfGot.{IfGot, is-got, is-no, bind-got}
@@ -23,11 +23,11 @@ use Rattle.checks.specs.Laws.{all-fresh}
 use Rattle.table.specs.Table.{Dimension, Dimensions, Axes, Cell, Cells}
 use Rattle.table.specs.Walk.{word32, Walked, on, off}
 use Rattle.table.specs.Scan as scans
-use Rattle.table.specs.Records.{total, size, dimNodes, dimLeaves, dimsWords, dimEntry, dimsEntries, entryIndex, entryWords, cellIndex, cellWords, mapAll, rowsWords}
+use Rattle.table.specs.Records.{total, size, dimNodes, dimLeaves, LeavesOnce, dimsWords, dimEntry, dimsEntries, entryIndex, entryWords, cellIndex, cellWords, mapAll, rowsWords}
 use Rattle.table.specs.Spelt.{Found, found, peek-spelt}
 use Rattle.table.specs.Agree.{bind-assoc, bind-pick}
 use Rattle.table.specs.RowsAgree.{RowsAgree, r-both, r-not, r-neither}
-use Rattle.table.specs.DimsAgree.{LeavesOnce, DimsAgree, d-both, d-not, d-neither}
+use Rattle.table.specs.DimsAgree.{DimsAgree, d-both, d-not, d-neither}
 use Rattle.member.specs.Member.{Member, final, dimensions, layers, rows, columns, order, cells, nodes, ns, places, dimensionsAt, cellsStart, nodeRecords, dimensionEntries, cellRecords, AsDemanded}
 use Rattle.member.specs.Kept.{length-zeros}
 use Rattle.member.specs.Answer.{Outcome, table, refused, zeros, withCells, withAxes, afterDims, withDims, dimsAt, fromStep, scan}

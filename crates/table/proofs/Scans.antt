@@ -9,9 +9,9 @@ use lib.Dec.{ltb, leb, eqb}
 use borrow.Author.Tests.{eq-eqb, ne-eqb, eqb-true, eqb-false}
 use Rattle.layout.specs.declared.Step.{Step}
 use Rattle.layout.specs.declared.Step.the-variants.{Next, Refused}
-use Rattle.layout.specs.Read.{pick, lead}
+use Rattle.layout.specs.Read.{lead}
 use Rattle.layout.specs.Reads.{skip}
-use Rattle.layout.specs.Layout.{among}
+use Rattle.layout.specs.Layout.{among, pick}
 use Rattle.checks.specs.Checks.{fresh}
 use Rattle.table.specs.Scan.{Dims, dims, andThenDim, dimAt, dimsFrom, Rows, rows, andThenRows, rowsFrom, endAt}
 

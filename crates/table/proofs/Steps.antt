@@ -5,7 +5,7 @@ use Prim.Native.Nat.{ℕ, zero, suc, _+_, _-_, _≤_, _<_}
 use native.Mathlib.Omega.{arith}
 use lib.Dec.{ltb}
 use borrow.Author.Tests.{lt-ltb, le-ltb}
-use Rattle.layout.specs.Read.{pick}
+use Rattle.layout.specs.Layout.{pick}
 use Rattle.table.specs.Walk.{Walked, on, off, andThen, visit, walkAll, walk, headAt}
 
 module _ (f : ℕ → ℕ → List ℕ → Walked) (n i at used : ℕ) (ns : List ℕ) where

@@ -10,9 +10,9 @@ use lib.ListN.{length, drop, set, length-append, length-drop}
 use lib.Seq.{sets}
 use borrow.Author.Tests.{ltb-true, ltb-false}
 use lib.Dec.{ltb}
-use Rattle.layout.specs.Layout.{little, Layout, number, times, Tree, spell, spellAll, passes, Bytes}
+use Rattle.layout.specs.Layout.{little, Layout, number, times, Tree, spell, spellAll, passes, Bytes, pick}
 use Rattle.layout.specs.Conventions.{i, int32}
-use Rattle.layout.specs.Read.{Got, got, no, bind, pick, readTimes, read}
+use Rattle.layout.specs.Read.{Got, got, no, bind, readTimes, read}
 use Rattle.layout.specs.Laws.{digits-length}
 use Rattle.value.specs.Value.{Value}
 use Rattle.table.specs.Table.{KindOf, CategoryOf, CategoryIn}

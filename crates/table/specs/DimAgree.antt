@@ -7,9 +7,9 @@ use native.Mathlib.Nat.{mod-eq-of-lt}
 use lib.ListN.{length, drop, length-append, length-drop, length-map}
 use lib.Seq.{sets}
 use Rattle.layout.specs.declared.Step.the-variants.{Next}
-use Rattle.layout.specs.Layout.{little, Layout, _▸_, Tree, spell, passes, Bytes}
+use Rattle.layout.specs.Layout.{little, Layout, _▸_, Tree, spell, passes, Bytes, pick}
 use Rattle.layout.specs.Conventions.{int32, many}
-use Rattle.layout.specs.Read.{Got, got, no, bind, pick, readNumber, readTimes, read}
+use Rattle.layout.specs.Read.{Got, got, no, bind, readNumber, readTimes, read}
 use Rattle.layout.specs.Reads.{forget, step, chain, numberOf, peek}
 use Rattle.layout.specs.Laws.{digits-length}
 use Rattle.layout.specs.Steps.Chain.{forget-map, step-then}

@@ -8,17 +8,12 @@ use lib.ListN.{length, drop}
 use lib.Seq.{sets, length-sets}
 use Rattle.layout.specs.Layout.{_▸_, Tree, Bytes, All, all-none, all-more}
 use Rattle.layout.specs.Read.{Got, got, no, bind, readTimes, read}
-use Rattle.checks.specs.Checks.{OnceEach}
 use Rattle.value.specs.Value.{Value}
 use Rattle.table.specs.Table.{CategoryIn, DimProperties, Dimension}
-use Rattle.table.specs.Records.{total, nodes, size, treeWords, dimNodes, dimLeaves, dimWords, dimEntry, dimsWords, dimsEntries}
+use Rattle.table.specs.Records.{total, nodes, size, treeWords, dimNodes, LeavesOnce, dimWords, dimEntry, dimsWords, dimsEntries}
 use Rattle.table.specs.Scan.{Dims, dims, no-dims, andThenDim, dimsFrom}
 use Rattle.table.specs.Agree.{sets-append, six-all, six-words}
 use Rattle.table.specs.DimAgree.{DimAgrees, one-both, one-not, one-neither, dim-agree}
-
--- the n leaves of a dimension have the indexes 0 to n-1, once each
-abbrev pub LeavesOnce : Tree Dimension → Type 0
-LeavesOnce t = OnceEach (length (dimLeaves t)) (dimLeaves t)
 
 -- from dimension i at the place `at`, the node number `used` and the words ns and ds
 pub data DimsAgree (s : List ℕ) (i at used : ℕ) (ns ds : List ℕ) : Dims → Got (List (Tree Dimension)) → Type 0 where

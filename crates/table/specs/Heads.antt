@@ -9,9 +9,9 @@ use lib.ListN.{length, drop, length-append, length-drop}
 use lib.Dec.{eqb, eqb·suc-zero}
 use Rattle.layout.specs.declared.Step.{Step}
 use Rattle.layout.specs.declared.Step.the-variants.{Next, Refused}
-use Rattle.layout.specs.Layout.{little, one-of, any-number, Layout, empty, number, _▸_, Tree, digits, spell, Bytes, Valid}
+use Rattle.layout.specs.Layout.{little, one-of, any-number, Layout, empty, number, _▸_, Tree, digits, spell, Bytes, Valid, pick}
 use Rattle.layout.specs.Conventions.{field, i, int32}
-use Rattle.layout.specs.Read.{Got, got, no, pick, read}
+use Rattle.layout.specs.Read.{Got, got, no, read}
 use Rattle.layout.specs.Reads.{forget, step, chain, peek, Reads}
 use Rattle.layout.specs.Laws.{digits-length}
 use Rattle.layout.specs.Steps.Chain.{then}

@@ -9,9 +9,8 @@ use lib.Dec.{ltb}
 use borrow.Author.Tests.{ltb-true}
 use Rattle.layout.specs.declared.Step.{Step}
 use Rattle.layout.specs.declared.Step.the-variants.{Next, Refused}
-use Rattle.layout.specs.Layout.{little, at-most}
+use Rattle.layout.specs.Layout.{little, at-most, pick}
 use Rattle.layout.specs.Conventions.{field, int32, int64}
-use Rattle.layout.specs.Read.{pick}
 use Rattle.layout.specs.Reads.{step, chain, peek}
 use Rattle.checks.specs.declared.Verdict.{Verdict}
 use Rattle.checks.specs.declared.Verdict.the-variants.{Fine, Bad}

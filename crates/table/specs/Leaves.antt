@@ -7,8 +7,7 @@ use native.Mathlib.Omega.{arith}
 use lib.ListN.{length, drop, take, getD}
 use lib.Seq.{getD-drop, drop-drop, drop-at, length-take-le, sets, sets-eq}
 use lib.Dec.{eqb}
-use Rattle.layout.specs.Layout.{Tree}
-use Rattle.layout.specs.Read.{pick}
+use Rattle.layout.specs.Layout.{Tree, pick}
 use Rattle.checks.specs.Checks.{word, Leaf, leaf, isLeaf, leaves, indexes}
 use Rattle.table.specs.Table.{CategoryIn}
 use Rattle.table.specs.Records.{Head, total, nodes, size, wordsAll, treeWords, concatAll, leafIndexes}

@@ -4,6 +4,7 @@ use Prim.Native.Nat.{ℕ, zero, suc, _+_, _-_, _^_}
 use lib.ListN.{length}
 use Rattle.layout.specs.Layout.{Layout, empty, _▸_, Tree, spell}
 use Rattle.layout.specs.Conventions.{int32}
+use Rattle.checks.specs.Checks.{OnceEach}
 use Rattle.value.specs.Value.{Value}
 use Rattle.table.specs.Table.{CategoryOf, CategoryIn, DimProperties, Dimension, Axes, Cell}
 
@@ -91,6 +92,10 @@ dimNodes t = total (nodes 8) (t .1 .1)
 -- its leaf indexes, in file order. n of a dimension is their number (document 01: its number of leaves at any depth)
 unfoldable pub dimLeaves : Tree Dimension → List ℕ
 dimLeaves t = concatAll (leafIndexes 8) (t .1 .1)
+
+-- the n leaves of a dimension have the indexes 0 to n-1, once each (document 01, our rule)
+abbrev pub LeavesOnce : Tree Dimension → Type 0
+LeavesOnce t = OnceEach (length (dimLeaves t)) (dimLeaves t)
 
 -- the node records of dimension i at the place `at`, whose first node has the number `used`. A category of the dimension itself has no parent
 unfoldable pub dimWords : ℕ → ℕ → ℕ → Tree Dimension → List ℕ

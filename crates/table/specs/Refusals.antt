@@ -6,9 +6,8 @@ use Prim.Native.Nat.{ℕ, zero, suc, _+_, _-_, _^_, min}
 use lib.ListN.{length}
 use lib.Dec.{eqb, ltb}
 use Rattle.layout.specs.declared.Step.{Step}
-use Rattle.layout.specs.Layout.{little, at-most, one-of, empty}
+use Rattle.layout.specs.Layout.{little, at-most, one-of, empty, pick}
 use Rattle.layout.specs.Conventions.{field, int32, int64}
-use Rattle.layout.specs.Read.{pick}
 use Rattle.layout.specs.Reads.{step, peek}
 use Rattle.layout.specs.Laws.Refusals.{real}
 use Rattle.layout.specs.Steps.Refusals.{RealStep, rs-next, rs-refused, step-real, chain-real}

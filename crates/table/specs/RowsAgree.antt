@@ -9,9 +9,9 @@ use native.Mathlib.Omega.{arith}
 use lib.ListN.{length, drop, set, getD, length-append, length-drop}
 use lib.Seq.{sets, length-sets, getD-set-same, getD-set-other}
 use Rattle.layout.specs.declared.Step.the-variants.{Next, Refused}
-use Rattle.layout.specs.Layout.{little, any-number, Layout, _▸_, Tree, spell, Bytes}
+use Rattle.layout.specs.Layout.{little, any-number, Layout, _▸_, Tree, spell, Bytes, pick}
 use Rattle.layout.specs.Conventions.{field, int32, int64}
-use Rattle.layout.specs.Read.{Got, got, no, pick, bind, readTimes, read}
+use Rattle.layout.specs.Read.{Got, got, no, bind, readTimes, read}
 use Rattle.layout.specs.Reads.{forget, step, peek}
 use Rattle.layout.specs.Laws.{digits-length}
 use Rattle.value.specs.Value.{Value}

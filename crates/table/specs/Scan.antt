@@ -6,9 +6,9 @@ use lib.ListN.{length, set, drop}
 use lib.Dec.{eqb, leb}
 use Rattle.layout.specs.declared.Step.{Step}
 use Rattle.layout.specs.declared.Step.the-variants.{Next, Refused}
-use Rattle.layout.specs.Layout.{little, at-most}
+use Rattle.layout.specs.Layout.{little, at-most, pick}
 use Rattle.layout.specs.Conventions.{field, int32, int64}
-use Rattle.layout.specs.Read.{pick, lead}
+use Rattle.layout.specs.Read.{lead}
 use Rattle.layout.specs.Reads.{step, chain, peek}
 use Rattle.value.specs.Value.{Value}
 use Rattle.checks.specs.declared.Verdict.{Verdict}

@@ -9,9 +9,9 @@ use lib.Seq.{drop-drop, drop-at, take-at}
 use lib.Dec.{leb}
 use borrow.Author.Tests.{le-leb}
 use Rattle.layout.specs.declared.Step.the-variants.{Next, Refused}
-use Rattle.layout.specs.Layout.{Order, Test, passes, digits, Layout, Tree, spell, Bytes, no-bytes, byte, Valid}
+use Rattle.layout.specs.Layout.{Order, Test, passes, digits, Layout, Tree, spell, Bytes, no-bytes, byte, Valid, pick, undigits}
 use Rattle.layout.specs.Conventions.{field}
-use Rattle.layout.specs.Read.{Got, got, no, pick, undigits, readNumber, read}
+use Rattle.layout.specs.Read.{Got, got, no, readNumber, read}
 use Rattle.layout.specs.Reads.{step, peek}
 use Rattle.layout.specs.Laws.{number-spelt, complete, sound, digits-length}
 use Rattle.table.specs.Records.{size}

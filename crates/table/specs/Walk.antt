@@ -6,9 +6,8 @@ use lib.ListN.{length, drop, set}
 use lib.Dec.{eqb, ltb}
 use Rattle.layout.specs.declared.Step.{Step}
 use Rattle.layout.specs.declared.Step.the-variants.{Next, Refused}
-use Rattle.layout.specs.Layout.{little, one-of, empty, _▸_}
+use Rattle.layout.specs.Layout.{little, one-of, empty, _▸_, pick}
 use Rattle.layout.specs.Conventions.{field, i, int32}
-use Rattle.layout.specs.Read.{pick}
 use Rattle.layout.specs.Reads.{step, chain, peek}
 use Rattle.value.specs.Value.{Value}
 use Rattle.table.specs.declared.Walk.{Walk}

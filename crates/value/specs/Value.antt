@@ -2,8 +2,7 @@
 use mathlib.Core.List.{List, [], _∷_}
 use Prim.Native.Nat.{ℕ, zero, suc}
 use lib.Dec.{eqb}
-use Rattle.layout.specs.Layout.{little, any-number, optional, Layout, empty, number, _▸_, times, leading, region, nothing}
-use Rattle.layout.specs.Read.{pick}
+use Rattle.layout.specs.Layout.{little, any-number, optional, Layout, empty, number, _▸_, times, leading, region, nothing, pick}
 use Rattle.layout.specs.Conventions.{fixed, i, byte, bool, int16, int32, double, lestring, many, either, if31, alternatives, count}
 
 -- ---- 003, ValueMod

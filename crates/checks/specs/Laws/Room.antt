@@ -7,8 +7,7 @@ use native.Mathlib.Omega.{arith}
 use borrow.Author.Tests.{eqb-true, eqb-false}
 use lib.Dec.{eqb}
 use lib.ListN.{length}
-use Rattle.layout.specs.Layout.{among, All, all-none, all-more}
-use Rattle.layout.specs.Read.{pick}
+use Rattle.layout.specs.Layout.{among, All, all-none, all-more, pick}
 use Rattle.checks.specs.Checks.{Distinct}
 use Rattle.checks.specs.Laws.Tests.{or-is-false}
 

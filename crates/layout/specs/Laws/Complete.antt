@@ -9,8 +9,8 @@ use lib.ListN.{length, take, drop, replicate, getD, length-append, length-replic
 use lib.Seq.{take-at, drop-at}
 use lib.Dec.{eqb, leb, ltb}
 use borrow.Author.Tests.{le-leb, lt-ltb, eq-eqb, ne-eqb}
-use Rattle.layout.specs.Layout.{Order, Fill, exact, optional, open-ended, Filled, Layout, empty, number, string, _▸_, times, leading, region, nothing, Tree, digits, spellAll, spellFill, spell, passes, All, all-none, all-more, Leads, ValidFill, Valid}
-use Rattle.layout.specs.Read.{Got, got, no, pick, bind, readNumber, readCounted, readTimes, lead, readLeading, ends, readFill, read}
+use Rattle.layout.specs.Layout.{Order, Fill, exact, optional, open-ended, Filled, Layout, empty, number, string, _▸_, times, leading, region, nothing, Tree, digits, spellAll, spellFill, spell, passes, All, all-none, all-more, Leads, ValidFill, Valid, pick}
+use Rattle.layout.specs.Read.{Got, got, no, bind, readNumber, readCounted, readTimes, lead, readLeading, ends, readFill, read}
 use Rattle.layout.specs.Laws.Lead.{lead-run}
 use Rattle.layout.specs.Laws.Digits.{length-digits, undigits-digits}
 

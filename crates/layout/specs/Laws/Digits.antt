@@ -5,8 +5,7 @@ use Prim.Native.Nat.{ℕ, zero, suc, _+_, _*_, _/_, _%_, _^_, _<_}
 use native.Mathlib.Nat.{pow-suc}
 use native.Mathlib.Omega.{arith}
 use lib.ListN.{length, length-reverse}
-use Rattle.layout.specs.Layout.{Order, little, big, le, digits, Bytes, no-bytes, byte}
-use Rattle.layout.specs.Read.{undigit, undigits}
+use Rattle.layout.specs.Layout.{Order, little, big, le, digits, Bytes, no-bytes, byte, undigit, undigits}
 
 length-le : (w n : ℕ) → length (le w n) ≡ w
 unfolding le

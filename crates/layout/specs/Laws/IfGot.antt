@@ -3,7 +3,8 @@ use mathlib.Core.Path.{_≡_, refl}
 use mathlib.Core.Bool.{Bool, true, false}
 use mathlib.Core.List.{List}
 use Prim.Native.Nat.{ℕ}
-use Rattle.layout.specs.Read.{Got, got, no, pick, bind}
+use Rattle.layout.specs.Layout.{pick}
+use Rattle.layout.specs.Read.{Got, got, no, bind}
 
 pub data IfGot {A : Type 0} (Q : A → List ℕ → ℕ → Type 0) : Got A → Type 0 where
   is-got : {t : A} {r : List ℕ} {p : ℕ} → Q t r p → IfGot Q (got t r p)

@@ -7,8 +7,8 @@ use native.Mathlib.Omega.{arith}
 use lib.ListN.{length, drop, replicate, getD, length-append, length-replicate}
 use lib.Dec.{eqb}
 use borrow.Author.Tests.{eqb-true, eqb-false, eq-eqb, ne-eqb}
-use Rattle.layout.specs.Layout.{Leads}
-use Rattle.layout.specs.Read.{pick, lead}
+use Rattle.layout.specs.Layout.{Leads, pick}
+use Rattle.layout.specs.Read.{lead}
 
 -- a run stops before another byte
 lead-none : (b n : ℕ) (xs r : List ℕ) → 0 < length xs → ¬ (getD xs 0 0 ≡ b) → lead b n (xs ++ r) ≡ 0

@@ -10,8 +10,8 @@ use lib.ListN.{length, take, drop, length-drop}
 use lib.Seq.{drop-drop, drop-length, length-take-le}
 use lib.Dec.{leb, ltb}
 use borrow.Author.Tests.{leb-true, ltb-true, ltb-false, lt-ltb, le-ltb}
-use Rattle.layout.specs.Layout.{Order, Fill, exact, optional, open-ended, Filled, Layout, empty, number, string, _▸_, times, leading, region, nothing, Tree, passes}
-use Rattle.layout.specs.Read.{Got, got, no, pick, bind, readNumber, readCounted, readTimes, lead, readLeading, ends, readFill, read, refusal, too-short, differs, limit-passed, undigits}
+use Rattle.layout.specs.Layout.{Order, Fill, exact, optional, open-ended, Filled, Layout, empty, number, string, _▸_, times, leading, region, nothing, Tree, passes, pick, undigits}
+use Rattle.layout.specs.Read.{Got, got, no, bind, readNumber, readCounted, readTimes, lead, readLeading, ends, readFill, read, refusal, too-short, differs, limit-passed}
 use Rattle.layout.specs.Laws.Lead.{lead-short}
 
 -- ---- what is left is the tail from its place

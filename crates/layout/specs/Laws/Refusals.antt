@@ -5,8 +5,8 @@ use mathlib.Core.List.{List, [], _∷_}
 use Prim.Native.Nat.{ℕ, zero, suc, _+_}
 use lib.ListN.{length, drop}
 use lib.Dec.{eqb, leb, ltb}
-use Rattle.layout.specs.Layout.{Order, Test, any-number, the-number, a-version, a-bool, at-most, one-of, a-color, passes, Fill, exact, optional, open-ended, Layout, empty, number, string, _▸_, times, leading, region, nothing}
-use Rattle.layout.specs.Read.{Got, got, no, refusal, pick, bind, readNumber, readCounted, readTimes, lead, readLeading, ends, readFill, read}
+use Rattle.layout.specs.Layout.{Order, Test, any-number, the-number, a-version, a-bool, at-most, one-of, a-color, passes, Fill, exact, optional, open-ended, Layout, empty, number, string, _▸_, times, leading, region, nothing, pick}
+use Rattle.layout.specs.Read.{Got, got, no, refusal, bind, readNumber, readCounted, readTimes, lead, readLeading, ends, readFill, read}
 
 abbrev pub real : ℕ → Bool
 real k = not (eqb k 0 || (eqb k 12 || eqb k 13))

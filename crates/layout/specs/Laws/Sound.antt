@@ -9,8 +9,8 @@ use lib.ListN.{length, take, drop, replicate, getD, length-append, length-replic
 use lib.Seq.{length-take-le}
 use lib.Dec.{eqb, leb, ltb}
 use borrow.Author.Tests.{leb-true, ltb-true, eqb-true, eqb-false}
-use Rattle.layout.specs.Layout.{Order, Fill, exact, optional, open-ended, Filled, Layout, empty, number, string, _▸_, times, leading, region, nothing, Tree, digits, spellAll, spellFill, spell, passes, Bytes, no-bytes, byte, All, all-none, all-more, Leads, ValidFill, Valid}
-use Rattle.layout.specs.Read.{Got, got, no, undigits, pick, bind, readNumber, readCounted, readTimes, lead, readLeading, ends, readFill, read}
+use Rattle.layout.specs.Layout.{Order, Fill, exact, optional, open-ended, Filled, Layout, empty, number, string, _▸_, times, leading, region, nothing, Tree, digits, spellAll, spellFill, spell, passes, Bytes, no-bytes, byte, All, all-none, all-more, Leads, ValidFill, Valid, undigits, pick}
+use Rattle.layout.specs.Read.{Got, got, no, bind, readNumber, readCounted, readTimes, lead, readLeading, ends, readFill, read}
 use Rattle.layout.specs.Laws.Lead.{Run, run-lead}
 use Rattle.layout.specs.Laws.IfGot.{IfGot, is-got, is-no, bind-got, pick-got, of-got}
 use Rattle.layout.specs.Laws.Digits.{length-digits, digits-undigits, undigits-lt}

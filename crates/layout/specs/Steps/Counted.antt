@@ -12,8 +12,8 @@ use Rattle.layout.specs.declared.Step.{Step}
 use Rattle.layout.specs.declared.Step.the-variants.{Next, Refused}
 use Rattle.layout.specs.declared.Span.{Span}
 use Rattle.layout.specs.declared.Span.the-variants.{Of, Not}
-use Rattle.layout.specs.Layout.{Order, Fill, exact, optional, open-ended, Layout, string, region}
-use Rattle.layout.specs.Read.{Got, got, no, too-short, pick, bind, readCounted, ends, readFill, read}
+use Rattle.layout.specs.Layout.{Order, Fill, exact, optional, open-ended, Layout, string, region, pick}
+use Rattle.layout.specs.Read.{Got, got, no, too-short, bind, readCounted, ends, readFill, read}
 use Rattle.layout.specs.Laws.Places.{took-length, Within, w-got, w-no, within, Announced, announced, too-few, counted-view, announced-length, shift, read-shifts}
 use Rattle.layout.specs.Reads.{forget, step, chain, Reads, spanOf, part, bytes, past, filled, close}
 use Rattle.layout.specs.Steps.Chain.{forget-map, forget-rest}

@@ -8,9 +8,9 @@ use lib.Seq.{drop-drop}
 use lib.Dec.{eqb, leb}
 use Rattle.layout.specs.declared.Step.{Step}
 use Rattle.layout.specs.declared.Step.the-variants.{Next, Refused}
-use Rattle.layout.specs.Layout.{Order, little, Test, any-number, the-number, a-version, a-bool, at-most, one-of, a-color, among, passes, Layout, empty, number, Tree}
+use Rattle.layout.specs.Layout.{Order, little, Test, any-number, the-number, a-version, a-bool, at-most, one-of, a-color, among, passes, Layout, empty, number, Tree, pick, undigits}
 use borrow.Author.Tests.{ne-eqb}
-use Rattle.layout.specs.Read.{Got, got, no, refusal, too-short, pick, bind, undigits, readNumber, read}
+use Rattle.layout.specs.Read.{Got, got, no, refusal, too-short, bind, readNumber, read}
 use Rattle.layout.specs.Reads.{forget, step, chain, Reads, numberOf, peek, verdict, judged, field}
 use Rattle.layout.specs.Steps.Chain.{forget-map, kept}
 

@@ -10,8 +10,8 @@ use lib.Dec.{leb, ltb}
 use borrow.Author.Tests.{ltb-true, lt-ltb}
 use Rattle.layout.specs.declared.Step.{Step}
 use Rattle.layout.specs.declared.Step.the-variants.{Next, Refused}
-use Rattle.layout.specs.Layout.{passes, Layout, empty, number, string, _▸_, times, leading, region, nothing, Tree}
-use Rattle.layout.specs.Read.{Got, got, no, pick, bind, readNumber, lead, readLeading, read, differs}
+use Rattle.layout.specs.Layout.{passes, Layout, empty, number, string, _▸_, times, leading, region, nothing, Tree, pick}
+use Rattle.layout.specs.Read.{Got, got, no, bind, readNumber, lead, readLeading, read, differs}
 use Rattle.layout.specs.Laws.Places.{Within, w-got, w-no, within}
 use Rattle.layout.specs.Reads.{forget, step, chain, Reads, bytes, past, skip}
 

@@ -2,8 +2,7 @@ use mathlib.Core.Path.{refl}
 use borrow.Author.Needs.{needs}
 use native.Mathlib.Omega.{arith}
 use lib.Dec.{eqb}
-use Rattle.layout.specs.Layout.{passes, among}
-use Rattle.layout.specs.Read.{pick}
+use Rattle.layout.specs.Layout.{passes, among, pick}
 use Rattle.layout.specs.Reads.{verdict}
 use Rattle.fields.specs.Puts.{_⊳_, plain-switch}
 use Rattle.look.specs.Look as grammar

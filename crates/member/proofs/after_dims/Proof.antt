@@ -1,5 +1,5 @@
 use borrow.Author.Needs.{needs}
-use Rattle.layout.specs.Read.{pick}
+use Rattle.layout.specs.Layout.{pick}
 use Rattle.member.specs.Answer.{afterDims}
 use Rattle.member.proofs.after_dims.Statement.{statement}
 use Rattle.member.proofs.after_dims.Tie as tie

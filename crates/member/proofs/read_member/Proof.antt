@@ -1,5 +1,5 @@
 use borrow.Author.Needs.{needs}
-use Rattle.layout.specs.Read.{pick}
+use Rattle.layout.specs.Layout.{pick}
 use Rattle.member.specs.Answer.{zeros, outcome}
 use Rattle.member.specs.Kept.{fitting}
 use Rattle.member.proofs.Areas.{of-refusal}

@@ -10,8 +10,7 @@ use lib.ListN.{length, take, drop, length-append}
 use lib.Seq.{sets, take-at}
 use lib.Dec.{leb}
 use borrow.Author.Tests.{leb-true, leb-false}
-use Rattle.layout.specs.Layout.{Tree, Bytes, Valid, passes}
-use Rattle.layout.specs.Read.{pick}
+use Rattle.layout.specs.Layout.{Tree, Bytes, Valid, passes, pick}
 use Rattle.table.specs.Table.{Dimension}
 use Rattle.table.specs.Records.{dimsEntries, dimEntry, size, mapAll, dimNodes}
 use Rattle.table.specs.Walk.{word32}

@@ -4,8 +4,7 @@ use mathlib.Core.List.{List, _++_}
 use Prim.Native.Nat.{ℕ, _*_, _-_}
 use lib.ListN.{length, drop}
 use lib.Dec.{leb}
-use Rattle.layout.specs.Layout.{Tree}
-use Rattle.layout.specs.Read.{pick}
+use Rattle.layout.specs.Layout.{Tree, pick}
 use Rattle.member.specs.declared.Answer.{Answer}
 use Rattle.member.specs.Answer.{zeros}
 use Rattle.member.specs.Member.{Member, dimensions, layers, rows, columns, order, cells, nodes, nodeRecords, dimensionEntries, cellRecords, MemberDerivation, AsDemanded, LargeEnough}

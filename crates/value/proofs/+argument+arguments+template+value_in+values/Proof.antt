@@ -5,8 +5,7 @@ use borrow.Author.Needs.{needs}
 use native.Mathlib.Omega.{arith}
 use mathlib.Core.Path.{refl}
 use borrow.Fn.PlainCycle.{Measures}
-use Rattle.layout.specs.Layout.{passes, among}
-use Rattle.layout.specs.Read.{pick}
+use Rattle.layout.specs.Layout.{passes, among, pick}
 use Rattle.layout.specs.Steps.{reads}
 use Rattle.layout.specs.Steps.Chain.{then, Left, left-more, left-none, left-kept}
 use Rattle.value.specs.Value as grammar

@@ -1,5 +1,5 @@
-use Rattle.layout.specs.Layout.{passes}
-use Rattle.layout.specs.Read.{pick, refusal}
+use Rattle.layout.specs.Layout.{passes, pick}
+use Rattle.layout.specs.Read.{refusal}
 use Rattle.layout.specs.Reads.{verdict}
 use Rattle.fields.proofs.read.high_byte.Statement.{statement}
 use Rattle.fields.proofs.read.high_byte.Tie as tie

@@ -3,8 +3,8 @@ use mathlib.Core.Bool.{true, false}
 use borrow.Author.Needs.{needs}
 use native.Mathlib.Omega.{arith}
 use lib.ListN.{length}
-use Rattle.layout.specs.Layout.{big, the-number, passes}
-use Rattle.layout.specs.Read.{pick, refusal, undigits}
+use Rattle.layout.specs.Layout.{big, the-number, passes, pick, undigits}
+use Rattle.layout.specs.Read.{refusal}
 use Rattle.layout.specs.Steps.Chain.{kept}
 use Rattle.fields.specs.Gives.{fixed-gives}
 use Rattle.fields.specs.Letters.{number-short, number-here}

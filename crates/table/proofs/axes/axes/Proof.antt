@@ -1,6 +1,6 @@
 use borrow.Author.Needs.{needs}
 use native.Mathlib.Omega.{arith}
-use Rattle.layout.specs.Read.{pick}
+use Rattle.layout.specs.Layout.{pick}
 use Rattle.layout.specs.Reads.{chain}
 use Rattle.table.specs.Scan.{axesAt}
 use Rattle.table.proofs.axes.axes.Statement.{statement}

@@ -1,4 +1,4 @@
-use Rattle.layout.specs.Read.{pick}
+use Rattle.layout.specs.Layout.{pick}
 use Rattle.layout.specs.Reads.{chain}
 use Rattle.table.specs.Walk.{kindAt, headAt}
 use Rattle.table.proofs.category.head.Statement.{statement}

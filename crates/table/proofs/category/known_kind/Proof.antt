@@ -1,5 +1,5 @@
-use Rattle.layout.specs.Layout.{passes, among}
-use Rattle.layout.specs.Read.{pick, refusal}
+use Rattle.layout.specs.Layout.{passes, among, pick}
+use Rattle.layout.specs.Read.{refusal}
 use Rattle.layout.specs.Reads.{verdict}
 use Rattle.table.proofs.category.known_kind.Statement.{statement}
 use Rattle.table.proofs.category.known_kind.Tie as tie
