@@ -9,5 +9,6 @@ pub mod Counted
 pub mod Runs
 pub mod Rows
 pub mod Refusals
+pub mod Least
 
 pub ruleset reads = (then, free-of, tested-of, string-of, nothing-of, switch-of, region-of, leading-of, yes-of, no-of, empty-of)

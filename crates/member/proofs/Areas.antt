@@ -2,16 +2,28 @@
 use mathlib.Core.Path.{_≡_, refl}
 use mathlib.Core.Bool.{true, false}
 use mathlib.Core.List.{List, _++_}
-use Prim.Native.Nat.{ℕ, _*_}
+use Prim.Native.Nat.{ℕ, _*_, _≤_, _<_}
 use lib.ListN.{length, take, drop}
 use lib.Dec.{leb}
+use borrow.Author.Tests.{le-leb, lt-leb}
 use Rattle.layout.specs.Layout.{pick}
 use Rattle.table.specs.Walk.{word32}
-use Rattle.member.specs.Answer.{Outcome, table, refused, refusal, accepted, answerOf, nodesAfter, cellsAfter, Delivered}
+use Rattle.member.specs.declared.Answer.{Answer}
+use Rattle.member.specs.Answer.{Outcome, scanned, outcome, table, refused, refusal, accepted, answerOf, nodesAfter, cellsAfter, Delivered}
 
 pub of-refusal : (n p : ℕ) (nodes cells : List ℕ) → Delivered (refused n p) nodes cells (refusal n p 0 0) nodes cells
 unfolding answerOf nodesAfter cellsAfter
 of-refusal n p nodes cells = record { answer = refl; node-area = refl; cell-area = refl }
+
+-- a member that is short enough is read, and a longer one is not
+pub of-scan : (s nodes cells : List ℕ) (r : Answer) (nodes′ cells′ : List ℕ) → length s ≤ 1048576
+    → Delivered (scanned s) nodes cells r nodes′ cells′ → Delivered (outcome s) nodes cells r nodes′ cells′
+unfolding outcome pick
+of-scan s nodes cells r nodes′ cells′ h d = rw (le-leb (length s) 1048576 h) d
+
+pub of-length : (s nodes cells : List ℕ) → 1048576 < length s → Delivered (outcome s) nodes cells (refusal 1 0 0 0) nodes cells
+unfolding outcome pick
+of-length s nodes cells h = rw (lt-leb (length s) 1048576 h) (of-refusal 1 0 nodes cells)
 
 module _ (d used l r c m : ℕ) (ns ds os cs nodes cells : List ℕ) where
   pub of-both : leb (6 * used) (length nodes) ≡ true → leb (3 * m) (length cells) ≡ true

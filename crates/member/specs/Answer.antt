@@ -68,9 +68,13 @@ scan s ns ds os cs =
     let d = peek little 4 s front in
     fromStep (chain front (step (field little 4 (at-most 16)) s)) (λ p. dimsAt s d p ns ds os cs)
 
+-- with room for 4,096 nodes, 16 dimensions and 4,096 cells
+abbrev pub scanned : List ℕ → Outcome
+scanned s = scan s (zeros 24576) (zeros 64) (zeros 16) (zeros 12288)
+
 -- the whole: a member of more than 1,048,576 bytes is refused before anything else
 unfoldable pub outcome : List ℕ → Outcome
-outcome s = pick (leb (length s) 1048576) (scan s (zeros 24576) (zeros 64) (zeros 16) (zeros 12288)) (refused 1 0)
+outcome s = pick (leb (length s) 1048576) (scanned s) (refused 1 0)
 
 -- ---- the answer
 
@@ -113,5 +117,5 @@ pub record Delivered (o : Outcome) (nodes cells : List ℕ) (r : Answer) (nodes�
 pub record Fitting (used m : ℕ) (ns cs : List ℕ) : Type 0 where
   pub few-nodes : used ≤ 4096
   pub few-cells : m ≤ 4096
-  pub node-words : length ns ≡ 24576
-  pub cell-words : length cs ≡ 12288
+  pub node-words : 6 * used ≤ length ns
+  pub cell-words : 3 * m ≤ length cs

@@ -21,7 +21,7 @@ use Rattle.table.specs.Agree.{six-all, six-words}
 use Rattle.table.specs.RowsAgree.{entries-agree, cells-agree}
 use Rattle.table.specs.DimsAgree.{dims-agree}
 use Rattle.member.specs.Answer.{Outcome, table, refused, zeros, scan, outcome}
-use Rattle.member.specs.Kept.{length-zeros}
+use Rattle.member.specs.Room.{length-zeros}
 use Rattle.member.specs.Member.{Member, final, dimensions, cells, nodes, nodeRecords, cellRecords, MemberDerivation, AsDemanded}
 use Rattle.member.specs.Whole.{Good, said, Agrees, a-table, a-refused, scanned}
 

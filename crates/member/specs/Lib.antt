@@ -1,6 +1,6 @@
 pub mod Answer
 pub mod Part
-pub mod Kept
+pub mod Room
 pub mod Member
 pub mod Whole
 pub mod Core

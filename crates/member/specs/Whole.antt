@@ -29,7 +29,7 @@ use Rattle.table.specs.Agree.{bind-assoc, bind-pick}
 use Rattle.table.specs.RowsAgree.{RowsAgree, r-both, r-not, r-neither}
 use Rattle.table.specs.DimsAgree.{DimsAgree, d-both, d-not, d-neither}
 use Rattle.member.specs.Member.{Member, final, dimensions, layers, rows, columns, order, cells, nodes, ns, places, dimensionsAt, cellsStart, nodeRecords, dimensionEntries, cellRecords, AsDemanded}
-use Rattle.member.specs.Kept.{length-zeros}
+use Rattle.member.specs.Room.{length-zeros}
 use Rattle.member.specs.Answer.{Outcome, table, refused, zeros, withCells, withAxes, afterDims, withDims, dimsAt, fromStep, scan}
 
 -- ---- reading in parts

@@ -7,6 +7,7 @@ ghost use Rattle.layout.specs.Reads as reads;
 ghost use Rattle.member.specs.Answer as spec;
 ghost use Rattle.member.specs.Answer.{Delivered, Fitting};
 ghost use Rattle.member.specs.Part.{partOf};
+ghost use Rattle.member.specs.Room.{Roomy};
 use checks::product_of;
 use layout::LITTLE;
 use layout::Step;
@@ -49,10 +50,10 @@ fn after_dims(
     at: usize,
     d: usize,
     used: usize,
-    nodes: &[u32; 24576],
+    nodes: &[u32],
     dims: &[u32; 64],
     order: &mut [u32; 16],
-    cells: &mut [u32; 12288],
+    cells: &mut [u32],
 ) -> Found
     ensures { λ r. ⌜ spec.outcomeOf r (now (nodes .entry)) (now (dims .entry)) (now (order .exit)) (now (cells .exit)) ≡ spec.afterDims (now (s .entry)) d at used (now (nodes .entry)) (now (dims .entry)) (now (order .entry)) (now (cells .entry)) ⌝ }
 {
@@ -76,10 +77,10 @@ fn from_dims(
     s: &[u8],
     at: usize,
     d: usize,
-    nodes: &mut [u32; 24576],
+    nodes: &mut [u32],
     dims: &mut [u32; 64],
     order: &mut [u32; 16],
-    cells: &mut [u32; 12288],
+    cells: &mut [u32],
 ) -> Found
     ensures { λ r. ⌜ spec.outcomeOf r (now (nodes .exit)) (now (dims .exit)) (now (order .exit)) (now (cells .exit)) ≡ spec.dimsAt (now (s .entry)) d at (now (nodes .entry)) (now (dims .entry)) (now (order .entry)) (now (cells .entry)) ⌝ }
 {
@@ -92,10 +93,10 @@ fn from_dims(
 // A member, its words in four lists.
 fn scan(
     s: &[u8],
-    nodes: &mut [u32; 24576],
+    nodes: &mut [u32],
     dims: &mut [u32; 64],
     order: &mut [u32; 16],
-    cells: &mut [u32; 12288],
+    cells: &mut [u32],
 ) -> Found
     ensures { λ r. ⌜ spec.outcomeOf r (now (nodes .exit)) (now (dims .exit)) (now (order .exit)) (now (cells .exit)) ≡ spec.scan (now (s .entry)) (now (nodes .entry)) (now (dims .entry)) (now (order .entry)) (now (cells .entry)) ⌝ }
 {
@@ -163,8 +164,8 @@ fn deliver(
     m: usize,
     dims: [u32; 64],
     order: [u32; 16],
-    node_words: &[u32; 24576],
-    cell_words: &[u32; 12288],
+    node_words: &[u32],
+    cell_words: &[u32],
     nodes: &mut [u32],
     cells: &mut [u32],
 ) -> Answer
@@ -199,39 +200,65 @@ fn deliver(
     }
 }
 
+// Reads a member by way of two lists of words, zeros that have room for its records.
+fn by_way_of(
+    member: &[u8],
+    node_words: &mut [u32],
+    cell_words: &mut [u32],
+    nodes: &mut [u32],
+    cells: &mut [u32],
+) -> Answer
+    requires { ⌜ Roomy (now member) (now «node_words») (now «cell_words») ⌝ }
+    ensures { λ r. ⌜ Delivered (spec.scanned (now (member .entry))) (now (nodes .entry)) (now (cells .entry)) r (now (nodes .exit)) (now (cells .exit)) ⌝ }
+{
+    let mut dims = [0u32; 64];
+    let mut order = [0u32; 16];
+    match scan(member, node_words, &mut dims, &mut order, cell_words) {
+        Found::Off(r, p) => refused(r, p, 0, 0),
+        Found::Table(d, used, layers, rows, columns, m) => deliver(
+            d,
+            used,
+            layers,
+            rows,
+            columns,
+            m,
+            dims,
+            order,
+            node_words,
+            cell_words,
+            nodes,
+            cells,
+        ),
+    }
+}
+
+// A member of at most 4,608 bytes: they hold at most 288 nodes and 512 cells, and shorter lists are sooner cleared.
+fn read_short(member: &[u8], nodes: &mut [u32], cells: &mut [u32]) -> Answer
+    requires { ⌜ length (now member) ≤ 4608 ⌝ }
+    ensures { λ r. ⌜ Delivered (spec.scanned (now (member .entry))) (now (nodes .entry)) (now (cells .entry)) r (now (nodes .exit)) (now (cells .exit)) ⌝ }
+{
+    let mut node_words = [0u32; 1728];
+    let mut cell_words = [0u32; 1536];
+    by_way_of(member, &mut node_words, &mut cell_words, nodes, cells)
+}
+
+// A member of any length.
+fn read_long(member: &[u8], nodes: &mut [u32], cells: &mut [u32]) -> Answer
+    ensures { λ r. ⌜ Delivered (spec.scanned (now (member .entry))) (now (nodes .entry)) (now (cells .entry)) r (now (nodes .exit)) (now (cells .exit)) ⌝ }
+{
+    let mut node_words = [0u32; 24576];
+    let mut cell_words = [0u32; 12288];
+    by_way_of(member, &mut node_words, &mut cell_words, nodes, cells)
+}
+
 // Reads a member. On a refusal both areas hold what they held; on acceptance the records, and beyond them what was there.
 pub fn read_member(member: &[u8], nodes: &mut [u32], cells: &mut [u32]) -> Answer
     ensures { λ r. ⌜ Delivered (spec.outcome (now (member .entry))) (now (nodes .entry)) (now (cells .entry)) r (now (nodes .exit)) (now (cells .exit)) ⌝ }
 {
-    let short = member.len() <= 1048576;
-    if short {
-        let mut node_words = [0u32; 24576];
-        let mut dims = [0u32; 64];
-        let mut order = [0u32; 16];
-        let mut cell_words = [0u32; 12288];
-        match scan(
-            member,
-            &mut node_words,
-            &mut dims,
-            &mut order,
-            &mut cell_words,
-        ) {
-            Found::Off(r, p) => refused(r, p, 0, 0),
-            Found::Table(d, used, layers, rows, columns, m) => deliver(
-                d,
-                used,
-                layers,
-                rows,
-                columns,
-                m,
-                dims,
-                order,
-                &node_words,
-                &cell_words,
-                nodes,
-                cells,
-            ),
-        }
+    if member.len() <= 4608 {
+        read_short(member, nodes, cells)
+    } else if member.len() <= 1048576 {
+        read_long(member, nodes, cells)
     } else {
         refused(1, 0, 0, 0)
     }

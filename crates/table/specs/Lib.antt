@@ -5,7 +5,7 @@ pub mod Records
 pub mod Spelt
 pub mod Heads
 pub mod Agree
-pub mod Kept
+pub mod Room
 pub mod Refusals
 pub mod RowsAgree
 pub mod Leaves

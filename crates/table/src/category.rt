@@ -8,6 +8,7 @@ ghost use Rattle.table.specs.Table as grammar;
 ghost use Rattle.table.specs.Walk as spec;
 use crate::Front;
 use crate::Walk;
+use crate::put;
 use layout::LITTLE;
 use layout::Step;
 use layout::number::any;
@@ -106,7 +107,7 @@ fn head(s: &[u8], at: usize) -> Front
 
 // The six words of the node numbered `used`.
 fn store(
-    nodes: &mut [u32; 24576],
+    nodes: &mut [u32],
     used: usize,
     kind: u32,
     dimension: u32,
@@ -119,12 +120,12 @@ fn store(
     ensures { λ _. ⌜ now (nodes .exit) ≡ spec.store used kind dimension parent name size word (now (nodes .entry)) ⌝ }
 {
     let at = 6 * used;
-    nodes[at] = kind;
-    nodes[at + 1] = dimension;
-    nodes[at + 2] = parent;
-    nodes[at + 3] = name;
-    nodes[at + 4] = size;
-    nodes[at + 5] = word;
+    put(nodes, at, kind);
+    put(nodes, at + 1, dimension);
+    put(nodes, at + 2, parent);
+    put(nodes, at + 3, name);
+    put(nodes, at + 4, size);
+    put(nodes, at + 5, word);
 }
 
 // A category, `depth` levels of which are allowed, and its nodes from the number `used` on.
@@ -135,7 +136,7 @@ fn category(
     dimension: u32,
     parent: u32,
     used: usize,
-    nodes: &mut [u32; 24576],
+    nodes: &mut [u32],
 ) -> Walk
     ensures { λ r. ⌜ spec.walked r (now (nodes .exit)) ≡ spec.walk depth (now (s .entry)) dimension parent at used (now (nodes .entry)) ⌝ }
 {
@@ -173,7 +174,7 @@ pub fn categories(
     parent: u32,
     count: u64,
     used: usize,
-    nodes: &mut [u32; 24576],
+    nodes: &mut [u32],
 ) -> Walk
     ensures { λ r. ⌜ spec.walked r (now (nodes .exit)) ≡ spec.walkAll (spec.walk depth (now (s .entry)) dimension parent) count at used (now (nodes .entry)) ⌝ }
 {

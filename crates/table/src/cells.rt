@@ -6,6 +6,7 @@ ghost use Rattle.table.specs.Walk as walk;
 ghost use Rattle.table.specs.Scan as spec;
 use crate::Walk;
 use crate::at_most;
+use crate::put;
 use checks::seen_before;
 use layout::LITTLE;
 use layout::Step;
@@ -16,7 +17,7 @@ use layout::run::skip;
 use value::value;
 
 // x is an index below `total` that none of the first j cells has.
-fn is_fresh(cells: &[u32; 12288], total: u64, j: usize, x: u64) -> bool
+fn is_fresh(cells: &[u32], total: u64, j: usize, x: u64) -> bool
     requires { ⌜ j ≤ 4096 ⌝ }
     ensures { λ r. ⌜ r ≡ fresh total (firsts 3 (now (cells .entry)) j) x ⌝ }
 {
@@ -37,18 +38,18 @@ fn length(a: usize, e: usize) -> u32
 }
 
 // The three words of cell j.
-fn store(cells: &mut [u32; 12288], j: usize, index: u32, place: u32, length: u32)
+fn store(cells: &mut [u32], j: usize, index: u32, place: u32, length: u32)
     requires { ⌜ j < 4096 ⌝ }
     ensures { λ _. ⌜ now (cells .exit) ≡ spec.storeCell j index place length (now (cells .entry)) ⌝ }
 {
     let at = 3 * j;
-    cells[at] = index;
-    cells[at + 1] = place;
-    cells[at + 2] = length;
+    put(cells, at, index);
+    put(cells, at + 1, place);
+    put(cells, at + 2, length);
 }
 
 // The Value of cell j, whose index is x, and its record.
-fn record(s: &[u8], at: usize, j: usize, x: u64, cells: &mut [u32; 12288]) -> Step
+fn record(s: &[u8], at: usize, j: usize, x: u64, cells: &mut [u32]) -> Step
     requires { ⌜ j < 4096 ⌝ }
     ensures { λ r. ⌜ spec.rowsOf r (now (cells .exit)) ≡ spec.recordAt (now (s .entry)) at j x (now (cells .entry)) ⌝ }
 {
@@ -69,7 +70,7 @@ fn record(s: &[u8], at: usize, j: usize, x: u64, cells: &mut [u32; 12288]) -> St
 }
 
 // Cell j.
-fn cell(s: &[u8], at: usize, total: u64, j: usize, cells: &mut [u32; 12288]) -> Step
+fn cell(s: &[u8], at: usize, total: u64, j: usize, cells: &mut [u32]) -> Step
     requires { ⌜ j < 4096 ⌝ }
     ensures { λ r. ⌜ spec.rowsOf r (now (cells .exit)) ≡ spec.cellAt (now (s .entry)) total j at (now (cells .entry)) ⌝ }
 {
@@ -88,7 +89,7 @@ fn cell(s: &[u8], at: usize, total: u64, j: usize, cells: &mut [u32; 12288]) -> 
 }
 
 // n cells, in a table of `total` places.
-fn cells(s: &[u8], at: usize, total: u64, n: usize, words: &mut [u32; 12288]) -> Step
+fn cells(s: &[u8], at: usize, total: u64, n: usize, words: &mut [u32]) -> Step
     requires { ⌜ n ≤ 4096 ⌝ }
     ensures { λ r. ⌜ spec.rowsOf r (now (words .exit)) ≡ spec.rowsFrom (spec.cellAt (now (s .entry)) total) n 0 at (now (words .entry)) ⌝ }
 {
@@ -126,7 +127,7 @@ fn ending(s: &[u8], at: usize) -> Step
 }
 
 // The n cells from a position on, and the end.
-fn last(s: &[u8], at: usize, total: u64, n: usize, words: &mut [u32; 12288]) -> Walk
+fn last(s: &[u8], at: usize, total: u64, n: usize, words: &mut [u32]) -> Walk
     requires { ⌜ n ≤ 4096 ⌝ }
     ensures { λ r. ⌜ walk.walked r (now (words .exit)) ≡ spec.lastAt (now (s .entry)) total n at (now (words .entry)) ⌝ }
 {
@@ -140,7 +141,7 @@ fn last(s: &[u8], at: usize, total: u64, n: usize, words: &mut [u32; 12288]) -> 
 }
 
 // The cells of a table of `total` places, and the end of the member: where it ends, and the number of cells.
-pub fn section(s: &[u8], at: usize, total: u64, words: &mut [u32; 12288]) -> Walk
+pub fn section(s: &[u8], at: usize, total: u64, words: &mut [u32]) -> Walk
     ensures { λ r. ⌜ walk.walked r (now (words .exit)) ≡ spec.cellsAt (now (s .entry)) total at (now (words .entry)) ⌝ }
 {
     let n = peek(s, Step::Next(at), LITTLE, 4);

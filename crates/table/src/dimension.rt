@@ -67,7 +67,7 @@ fn close(
     name: Step,
     used: usize,
     w: Walk,
-    nodes: &[u32; 24576],
+    nodes: &[u32],
     dims: &mut [u32; 64],
 ) -> Walk
     requires { ⌜ i < 16 ⌝ }
@@ -99,7 +99,7 @@ fn close(
 }
 
 // The categories of a dimension, from where the count ends.
-fn inner(s: &[u8], st: Step, i: u32, n: u64, used: usize, nodes: &mut [u32; 24576]) -> Walk
+fn inner(s: &[u8], st: Step, i: u32, n: u64, used: usize, nodes: &mut [u32]) -> Walk
     ensures { λ r. ⌜ walk.walked r (now (nodes .exit)) ≡ spec.fromStep st (λ p. walk.walkAll (walk.walk 8 (now (s .entry)) i 4294967295) n p used (now (nodes .entry))) ⌝ }
 {
     match st {
@@ -114,7 +114,7 @@ fn dimension(
     i: usize,
     at: usize,
     used: usize,
-    nodes: &mut [u32; 24576],
+    nodes: &mut [u32],
     dims: &mut [u32; 64],
 ) -> Walk
     requires { ⌜ i < 16 ⌝ }
@@ -129,7 +129,7 @@ fn dimension(
 }
 
 // n dimensions.
-fn all(s: &[u8], at: usize, n: usize, nodes: &mut [u32; 24576], dims: &mut [u32; 64]) -> Walk
+fn all(s: &[u8], at: usize, n: usize, nodes: &mut [u32], dims: &mut [u32; 64]) -> Walk
     requires { ⌜ n ≤ 16 ⌝ }
     ensures { λ r. ⌜ spec.dimsOf r (now (nodes .exit)) (now (dims .exit)) ≡ spec.dimsFrom (now (s .entry)) n 0 at 0 (now (nodes .entry)) (now (dims .entry)) ⌝ }
 {
@@ -152,13 +152,7 @@ fn all(s: &[u8], at: usize, n: usize, nodes: &mut [u32; 24576], dims: &mut [u32;
 }
 
 // n dimensions; a number above 16 counts as 16.
-pub fn dimensions(
-    s: &[u8],
-    at: usize,
-    n: usize,
-    nodes: &mut [u32; 24576],
-    dims: &mut [u32; 64],
-) -> Walk
+pub fn dimensions(s: &[u8], at: usize, n: usize, nodes: &mut [u32], dims: &mut [u32; 64]) -> Walk
     ensures { λ r. ⌜ spec.dimsOf r (now (nodes .exit)) (now (dims .exit)) ≡ spec.dimsFrom (now (s .entry)) (min n 16) 0 at 0 (now (nodes .entry)) (now (dims .entry)) ⌝ }
 {
     all(s, at, at_most(n, 16), nodes, dims)

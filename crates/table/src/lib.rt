@@ -1,6 +1,7 @@
 // Dimensions, their categories and their records; axes; cells.
 ghost use mathlib.Core.Path.{_≡_};
 ghost use Prim.Native.Nat.{min};
+ghost use lib.ListN.{set};
 
 pub mod axes; // axis entries
 pub mod category; // categories and their node records
@@ -12,6 +13,15 @@ fn at_most(n: usize, most: usize) -> usize
     ensures { λ r. ⌜ r ≡ min n most ⌝ }
 {
     if n <= most { n } else { most }
+}
+
+// The word x at place i, where there is such a place.
+fn put(words: &mut [u32], i: usize, x: u32)
+    ensures { λ _. ⌜ now (words .exit) ≡ set (now (words .entry)) i x ⌝ }
+{
+    if i < words.len() {
+        words[i] = x;
+    }
 }
 
 // What a walk gives: the next position and the number of nodes so far; or the refusal's number and place.

@@ -14,14 +14,16 @@ after-dims-spec =
     let x = c .before .before .before in
     let p = x .before .before .before in
     rw (← (p .product-of .ensures), x .before .before .if1 .taken, ← (x .axes .ensures), c .before .r .given .1))
+    (λ c. search needs)
     (λ c.
-    let y = c .before .before .before in
+    let y = c .before .before .before .before .before in
     let l = y .before .before .before in
     let x = l .before .before in
     let p = x .before .before .before in
     rw (← (p .product-of .ensures), x .before .before .if1 .taken, ← (x .axes .ensures), l .layers .given .1, ← (y .section .ensures), c .before .r2 .given .1))
+    (λ c. search needs)
     (λ c.
-    let y = c .before .before .before in
+    let y = c .before .before .before .before .before in
     let l = y .before .before .before in
     let x = l .before .before in
     let p = x .before .before .before in

@@ -8,8 +8,10 @@ unfolding dimsAt
 from-dims-spec =
     tie.close
     (tie.spec
-    (λ _ _. tt) (λ c. search needs) (λ c. search needs) (λ _ _. tt)
-    (λ c. rw (← (c .before .before .before .dimensions .ensures), c .before .r .given .1))
+    (λ _ _. tt) (λ c. search needs) (λ c. search needs) (λ _ _. tt) (λ c. search needs)
+    (λ c. rw (← (c .before .before .before .before .before .dimensions .ensures), c .before .r .given .1))
+    (λ c. search needs) (λ c. search needs)
     (λ c.
-    let n = c .before .before .before .before .before .before in
-    rw (← (n .before .before .dimensions .ensures), n .next .given .1) (c .after-dims .ensures)))
+    let t = c .before .before in
+    let n = t .before .before .before .before .before .before in
+    rw (← (n .before .before .before .before .dimensions .ensures), n .next .given .1) (t .after-dims .ensures)))

@@ -13,7 +13,9 @@ scan-spec =
     (λ c.
     let k = c .before .before .before in
     rw (← (k .before .before .front .ensures .is), ← (k .count .ensures .is), c .before .r .given .1))
+    (λ c. search needs) (λ c. search needs)
     (λ c.
-    let p = c .before .before .before .before .before .before in
+    let t = c .before .before .before .before in
+    let p = t .before .before .before .before .before .before in
     let k = p .before .before in
-    rw (← (k .before .before .front .ensures .is), ← (k .before .peek .ensures), ← (k .count .ensures .is), p .p .given .1) (c .from-dims .ensures)))
+    rw (← (k .before .before .front .ensures .is), ← (k .before .peek .ensures), ← (k .count .ensures .is), p .p .given .1) (t .from-dims .ensures)))

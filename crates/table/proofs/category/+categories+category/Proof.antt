@@ -5,6 +5,7 @@ use native.Mathlib.Omega.{arith}
 use borrow.Author.Needs.{needs}
 use borrow.Fn.Kinds.{In}
 use borrow.Fn.PlainCycle.{Measures, is, falls, and}
+use lib.ListN.{length}
 use Rattle.table.specs.Walk.{walk, walkAll}
 use Rattle.table.proofs.Steps.{all-more, all-none, deep, full, visits}
 use Rattle.table.proofs.category.categories.Reads as categories
@@ -38,7 +39,7 @@ category-below t = and 2 category-kinds.ps (falls 2 category-kinds.ps _<_ μ-cat
 
 abbrev categories-Inv-loop : categories-lts.InvT-loop
 categories-Inv-loop s at depth dimension parent count used nodes₀ at₀ used₀ i₀ nodes at' used' i =
-    (i ≤ count) × (walkAll (walk depth s dimension parent) count at used nodes₀ ≡ walkAll (walk depth s dimension parent) (count - i) at' used' nodes)
+    (i ≤ count) × (length nodes ≡ length nodes₀) × (walkAll (walk depth s dimension parent) count at used nodes₀ ≡ walkAll (walk depth s dimension parent) (count - i) at' used' nodes)
 
 abbrev categories-μ-loop : categories-lts.MeasureT-loop
 categories-μ-loop s at depth dimension parent count used nodes₀ at₀ used₀ i₀ nodes at' used' i = count - i
@@ -48,23 +49,25 @@ pub +categories+category-spec : {M : Type 1} → statement M
     close μ-categories μ-category
     (λ t.
     categories-lts.spec (category-below t, category.Post) (categories-at t) categories.Post categories-Inv-loop categories-μ-loop
-    (λ c. (omega arith, rw sub-zero))
+    (λ c. (omega arith, refl, rw sub-zero))
     (λ c κs. omega arith)
     (λ c. search needs)
+    (λ c. omega arith)
     (λ c.
-    let l = c .before .before .before .before .before .before in
-    let h : l .loop .i < l .before .before .args .count = omega arith in
-    sym (l .loop .inv .1 ∙ rw (all-more, ← (c .before .before .before .category .ensures), c .before .r .given .1)))
+    let l = c .before .before .before .before .before .before .before .before in
+    let h : l .loop .i < l .before .before .before .args .count = omega arith in
+    sym (l .loop .inv .2 ∙ rw (all-more, ← (c .before .before .before .before .before .category .ensures), c .before .r .given .1)))
     (λ c. search needs)
     (λ c. omega arith)
     (λ c. omega arith)
     (λ c.
-    let l = c .before .before .before .before .before .before in
-    let h : l .loop .i < l .before .before .args .count = omega arith in
-    (omega arith, rw (all-more, ← (c .before .before .before .category .ensures), c .before .a .given .1) at (l .loop .inv .1)))
+    let l = c .before .before .before .before .before .before .before .before in
+    let h : l .loop .i < l .before .before .before .args .count = omega arith in
+    (omega arith, omega arith, rw (all-more, ← (c .before .before .before .before .before .category .ensures), c .before .a .given .1) at (l .loop .inv .2)))
+    (λ c. omega arith)
     (λ c.
-    let h : c .before .before .before .args .count ≤ c .before .loop .i = omega arith in
-    sym (c .before .loop .inv .1 ∙ rw all-none)))
+    let h : c .before .before .before .before .args .count ≤ c .before .loop .i = omega arith in
+    sym (c .before .loop .inv .2 ∙ rw all-none)))
     (λ t.
     category-lts.spec (head-reads.Asked, head-reads.Learnt, store-reads.Asked, store-reads.Learnt, categories-below t, categories.Post) (category-at t) category.Post
     (λ c. sym (deep _ _ _ _ _ _ _ (c .if1 .taken)))
@@ -81,8 +84,11 @@ pub +categories+category-spec : {M : Type 1} → statement M
     (λ c.
     let h = c .before .before .before in
     sym (visits _ _ _ _ _ _ _ (h .before .before .if1 .left) (h .before .if2 .left) ∙ rw (← (h .head .ensures), c .before .r .given .1)))
+    (λ c. search needs)
     (λ c.
-    let h = c .before .before .before .before .before .before .before in
-    c .categories .ensures
+    let k = c .before .before in
+    let st = k .before .before .before .before in
+    let h = st .before .before .before .before .before in
+    k .categories .ensures
     ∙ sym (visits _ _ _ _ _ _ _ (h .before .before .if1 .left) (h .before .if2 .left)
-    ∙ rw (← (h .head .ensures), c .before .before .before .before .before .kind .given .1, ← (c .before .before .store .ensures)))))
+    ∙ rw (← (h .head .ensures), st .before .before .before .kind .given .1, ← (st .store .ensures)))))

@@ -16,11 +16,14 @@ cell-spec =
     (λ c.
     let a = c .before .before .before in
     rw (sym (a .any .ensures .0 .is) ∙ c .before .r .given .1))
+    (λ c. search needs)
     (λ c.
-    let f = c .before .before .before in
+    let t = c .before .before in
+    let f = t .before .before .before in
     let a = f .before .before .before .before .before in
     let e = sym (a .any .ensures .0 .is) ∙ f .before .before .before .p .given .1 in
-    rw (e, ← (a .before .peek .ensures), ← (f .is-fresh .ensures), c .before .before .if1 .taken) (c .«record» .ensures))
+    rw (e, ← (a .before .peek .ensures), ← (f .is-fresh .ensures), t .before .before .if1 .taken) (t .«record» .ensures))
+    (λ c. search needs)
     (λ c.
     let f = c .before in
     let a = f .before .before .before .before .before in

@@ -15,7 +15,9 @@ record-spec =
     (λ c.
     let a = c .before .before .before in
     rw (sym (a .value .ensures .is) ∙ c .before .r .given .1))
+    (λ c. search needs)
     (λ c.
-    let q = c .before .before .before .before in
+    let t = c .before .before in
+    let q = t .before .before .before .before in
     let e = sym (q .before .before .value .ensures .is) ∙ q .q .given .1 in
-    rw (e, ← (c .before .before .length .ensures)) (ap (rows (q .q .given .0 .0)) (c .store .ensures))))
+    rw (e, ← (t .before .before .length .ensures)) (ap (rows (q .q .given .0 .0)) (t .store .ensures))))

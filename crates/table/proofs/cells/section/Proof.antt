@@ -12,8 +12,10 @@ section-spec =
     (tie.spec
     (λ _ _. tt) (λ _ _. tt) (λ c. search needs) (λ c. search needs) (λ _ _. tt) (λ c κs. search needs)
     (λ c. rw (sym (c .before .before .before .count .ensures .is) ∙ c .before .r .given .1))
+    (λ c. search needs)
     (λ c.
-    let m = c .before .before in
+    let t = c .before .before in
+    let m = t .before .before in
     let p = m .before .before in
     let e = sym (p .before .before .count .ensures .is) ∙ p .p .given .1 in
-    rw (e, ← (p .before .before .before .peek .ensures), ← (m .at-most .ensures)) (c .last .ensures)))
+    rw (e, ← (p .before .before .before .peek .ensures), ← (m .at-most .ensures)) (t .last .ensures)))

@@ -15,12 +15,13 @@ close-spec =
     (λ c. simp (c .before .w .given .1))
     (λ c.
     let k = c .before .before .before in
-    let w = k .before .before .before .before .before .before in
-    simp (w .w2 .given .1, ← (k .before .before .before .before .between .ensures), ← (k .before .before .count-leaves .ensures), ← (k .check-leaves .ensures), c .before .q .given .1))
+    let b = k .before .before in
+    let w = b .before .before in
+    simp (w .w2 .given .1, ← (b .between .ensures), ← (k .before .count-leaves .ensures), ← (k .check-leaves .ensures), c .before .q .given .1))
     (λ c.
     let t = c .before .before .before in
     let k = t .before .before in
-    let b = k .before .before .before .before in
+    let b = k .before .before in
     let w = b .before .before in
-    simp (w .w2 .given .1, ← (b .between .ensures), ← (k .before .before .count-leaves .ensures), ← (k .check-leaves .ensures), t .enum-told .given .1, ← (c .before .before .name-length .ensures))
-    (ap (dims (w .w2 .given .0 .0) (w .w2 .given .0 .1 .0) (w .before .before .args .nodes .now)) (c .store .ensures))))
+    simp (w .w2 .given .1, ← (b .between .ensures), ← (k .before .count-leaves .ensures), ← (k .check-leaves .ensures), t .enum-told .given .1, ← (c .before .before .name-length .ensures))
+    (ap (dims (w .w2 .given .0 .0) (w .w2 .given .0 .1 .0) (w .before .before .before .args .nodes .now)) (c .store .ensures))))

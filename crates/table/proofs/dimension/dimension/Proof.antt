@@ -9,9 +9,9 @@ unfolding dimAt chain
 dimension-spec =
     tie.close
     (tie.spec
-    (λ _ _. tt) (λ _ _. tt) (λ _ _. tt) (λ _ _. tt) (λ c. search needs) (λ _ _. tt) (λ c κs. search needs)
+    (λ _ _. tt) (λ _ _. tt) (λ _ _. tt) (λ _ _. tt) (λ c. search needs) (λ _ _. tt) (λ c κs. search needs) (λ c. search needs)
     (λ c.
-    let n = c .before .before .before in
+    let n = c .before .before .before .before .before in
     let a = n .before .before in
     let v = a .before .before .before in
     rw (← (v .value .ensures .is), ← (a .before .before .properties .ensures .is), ← (a .any .ensures .0 .is), ← (a .before .peek .ensures), ← (n .inner .ensures)) (c .close .ensures)))

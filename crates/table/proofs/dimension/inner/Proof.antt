@@ -7,5 +7,6 @@ inner-spec =
     tie.close
     (tie.spec
     (λ c. search needs) (λ _ _. tt) (λ c. search needs)
-    (λ c. simp (c .before .before .before .st .given .1) (c .categories .ensures))
+    (λ c. search needs)
+    (λ c. let t = c .before .before in simp (t .before .before .before .st .given .1) (t .categories .ensures))
     (λ c. simp (c .before .st2 .given .1)))
