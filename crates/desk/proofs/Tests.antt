@@ -21,6 +21,6 @@ pub points-to : (member nodes : List ℕ) (i : ℕ) {place n : ℕ} → 6 * (i +
 unfolding nameOf pick
 points-to member nodes i h p q = rw (le-leb (6 * (i + 1)) (length nodes) h, p, q)
 
-pub no-record : (member nodes : List ℕ) (i : ℕ) → length nodes < 6 * (i + 1) → [] ≡ nameOf member nodes i
+pub no-whole-record : (member nodes : List ℕ) (i : ℕ) → length nodes < 6 * (i + 1) → [] ≡ nameOf member nodes i
 unfolding nameOf pick
-no-record member nodes i h = rw (lt-leb (6 * (i + 1)) (length nodes) h)
+no-whole-record member nodes i h = rw (lt-leb (6 * (i + 1)) (length nodes) h)

@@ -1,7 +1,7 @@
 use mathlib.Core.Path.{_∙_}
 use borrow.Author.Needs.{needs}
 use native.Mathlib.Omega.{arith}
-use Rattle.desk.proofs.Tests.{points-to, no-record}
+use Rattle.desk.proofs.Tests.{points-to, no-whole-record}
 use Rattle.desk.proofs.name_of.Statement.{statement}
 use Rattle.desk.proofs.name_of.Tie as tie
 
@@ -17,4 +17,4 @@ name-of-spec =
     ∙ points-to (a .member .now) (a .nodes .now) (a .i) (omega arith) (c .before .before .before .wide .ensures) (c .before .wide2 .ensures))
     (λ c.
     let a = c .before .before .before .before .args in
-    no-record (a .member .now) (a .nodes .now) (a .i) (omega arith)))
+    no-whole-record (a .member .now) (a .nodes .now) (a .i) (omega arith)))
