@@ -1,4 +1,5 @@
-// The member and its filled node area, kept together.
+// The member and its filled node area, kept together (01, "What the caller gets"). The functions over `Desk` are thin and proved by
+// hand; the work is in `filled` and `name_of`, which take slices.
 ghost use mathlib.Core.Path.{_≡_};
 ghost use Rattle.desk.specs.Desk.{filledOf, nameOf};
 use member::part;
@@ -15,7 +16,8 @@ fn wide(x: u32) -> usize
     x as usize
 }
 
-// The words of that many node records; the empty part where the area has fewer.
+// The words of that many node records, six each. An area that has fewer was not filled with so many: the empty part. The test divides,
+// since 6 * count need not fit.
 pub fn filled(area: &[u32], count: usize) -> &[u32]
     ensures { λ r. ⌜ now r ≡ filledOf (now (area .entry)) count ⌝ }
 {
@@ -39,12 +41,14 @@ pub fn name_of<'a, 'b>(member: &'a [u8], nodes: &'b [u32], i: usize) -> &'a [u8]
     }
 }
 
+// Keeps the two together. Hand it what `filled` gives, and no name comes from beyond the records.
 pub fn open<'a, 'b>(member: &'a [u8], nodes: &'b [u32]) -> Desk<'a, 'b>
     ensures { λ r. ⌜ (r .member ≡ member .entry) × (r .nodes ≡ nodes .entry) ⌝ }
 {
     Desk { member, nodes }
 }
 
+// The name of node i.
 pub fn name<'a, 'b>(desk: Desk<'a, 'b>, i: usize) -> &'a [u8]
     ensures { λ r. ⌜ now r ≡ nameOf (now (desk .entry .member)) (now (desk .entry .nodes)) i ⌝ }
 {
