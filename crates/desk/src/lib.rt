@@ -1,0 +1,63 @@
+// The member and its filled node area, kept together (01, "What the caller gets"). The functions over `Desk` are thin and proved by
+// hand; the work is in `filled` and `name_of`, which take slices.
+ghost use mathlib.Core.Path.{_≡_};
+ghost use Rattle.desk.specs.Desk.{filledOf, nameOf};
+use member::part;
+
+// The lent member, and of the node area only the words filled.
+pub struct Desk<'a, 'b> {
+    pub member: &'a [u8],
+    pub nodes: &'b [u32],
+}
+
+fn wide(x: u32) -> usize
+    ensures { λ r. ⌜ r ≡ x ⌝ }
+{
+    x as usize
+}
+
+// The words of that many node records, six each. An area that has fewer was not filled with so many: the empty part. The test divides,
+// since 6 * count need not fit.
+pub fn filled(area: &[u32], count: usize) -> &[u32]
+    ensures { λ r. ⌜ now r ≡ filledOf (now (area .entry)) count ⌝ }
+{
+    if count <= area.len() / 6 {
+        let end = 6 * count;
+        &area[..end]
+    } else {
+        &area[..0]
+    }
+}
+
+// The name of node i: the part of the member that its record points to; the empty part if there is no whole record i.
+pub fn name_of<'a, 'b>(member: &'a [u8], nodes: &'b [u32], i: usize) -> &'a [u8]
+    ensures { λ r. ⌜ now r ≡ nameOf (now (member .entry)) (now (nodes .entry)) i ⌝ }
+{
+    if i < nodes.len() / 6 {
+        let at = 6 * i;
+        part(member, wide(nodes[at + 3]), wide(nodes[at + 4]))
+    } else {
+        &member[..0]
+    }
+}
+
+// Keeps the two together. Hand it what `filled` gives, and no name comes from beyond the records.
+pub fn open<'a, 'b>(member: &'a [u8], nodes: &'b [u32]) -> Desk<'a, 'b>
+    ensures { λ r. ⌜ (r .member ≡ member .entry) × (r .nodes ≡ nodes .entry) ⌝ }
+{
+    Desk { member, nodes }
+}
+
+// The name of node i.
+pub fn name<'a, 'b>(desk: Desk<'a, 'b>, i: usize) -> &'a [u8]
+    ensures { λ r. ⌜ now r ≡ nameOf (now (desk .entry .member)) (now (desk .entry .nodes)) i ⌝ }
+{
+    name_of(desk.member, desk.nodes, i)
+}
+
+// The same of a member and a node area with that many records, for callers that hold no Desk.
+pub fn node_name<'a, 'b>(member: &'a [u8], area: &'b [u32], count: usize, i: usize) -> &'a [u8]
+    ensures { λ r. ⌜ now r ≡ nameOf (now (member .entry)) (filledOf (now (area .entry)) count) i ⌝ }
+{
+    name(open(member, filled(area, count)), i)
+}

@@ -1,0 +1,63 @@
+// One member of fewer than 65,536 bytes on standard input; the test program's line and, if it is accepted, the name of each node: its
+// number, its length and its bytes in hexadecimal. The last line asks for a node that is not there.
+use libc::STDIN_FILENO;
+use libc::STDOUT_FILENO;
+
+fn text(s: &[u8]) {
+    io::write_all(STDOUT_FILENO, s);
+}
+
+fn number(n: usize) {
+    io::print_decimal(STDOUT_FILENO, n as u64);
+}
+
+fn byte(b: u8) {
+    text(b" ");
+    io::print_hex(STDOUT_FILENO, b as u64, 2);
+}
+
+fn bytes(s: &[u8]) {
+    let mut i = 0;
+    while i < s.len() {
+        byte(s[i]);
+        i += 1;
+    }
+}
+
+fn line(i: usize, name: &[u8]) {
+    text(b"name ");
+    number(i);
+    text(b" ");
+    number(name.len());
+    bytes(name);
+    text(b"\n");
+}
+
+fn names(s: &[u8], nodes: &[u32], count: usize) {
+    let mut i = 0;
+    while i < count {
+        line(i, desk::node_name(s, nodes, count, i));
+        i += 1;
+    }
+    line(count, desk::node_name(s, nodes, count, count));
+}
+
+// The node area holds 1 everywhere before, so that a name taken from beyond the records would have a byte.
+fn answer(s: &[u8]) {
+    let mut nodes = [1u32; 24576];
+    let mut cells = [0u32; 12288];
+    let a = member::read_member(s, &mut nodes, &mut cells);
+    if report::line(a) {
+        names(s, &nodes, a.nodes as usize);
+    }
+}
+
+fn main() {
+    let mut buf = io::large_buffer();
+    let n = io::read_full(STDIN_FILENO, &mut buf);
+    if n == 65536 {
+        report::refusal(1, 0);
+        return;
+    }
+    answer(&buf[..n]);
+}
