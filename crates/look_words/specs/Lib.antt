@@ -1,0 +1,3 @@
+pub mod LookWords
+pub mod FieldWords
+pub mod Stores
