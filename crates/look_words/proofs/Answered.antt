@@ -11,7 +11,8 @@ use Rattle.layout.specs.Read.{read}
 use Rattle.look.specs.declared.Answer.{Answer}
 use Rattle.look.specs.Look.{table-look}
 use Rattle.look.specs.Answers.{outcome, expected}
-use Rattle.look_words.specs.FieldWords.{answerWords, codeWords, answer-same, answer-long}
+use Rattle.look_words.specs.FieldWords.{answerWords}
+use Rattle.look_words.specs.Theorems.{codeWords, answer-same, answer-long}
 use Rattle.look_words.specs.Stores.{Stores, AtFront, with-room}
 
 module _ (s b : List ℕ) (a : Answer) {c : Answer} {b′ : List ℕ} {r : Step} where

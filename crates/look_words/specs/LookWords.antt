@@ -1,7 +1,6 @@
 -- A look as 32-bit words, in the order of source document 002: 262 words.
 use mathlib.Core.List.{List, [], _∷_, _++_}
 use Prim.Native.Nat.{ℕ, _%_, _^_}
-use Rattle.fields.specs.declared.Name.{Name}
 use Rattle.fields.specs.Values.{bit, twos}
 use Rattle.look.specs.declared.Separator.{Separator}
 use Rattle.look.specs.declared.Separator.the-variants.{NotDrawn, Drawn}
@@ -18,13 +17,9 @@ use Rattle.look.specs.declared.Frames.{Frames}
 use Rattle.look.specs.declared.V2Styles.{V2Styles}
 use Rattle.look.specs.declared.Look.{Look}
 
--- a place or a length, which the code holds in 64 bits
+-- a place or a length, which the code holds in 64 bits; of an accepted look it is that number (`Kept.antt`)
 abbrev pub word : ℕ → ℕ
 word n = n % 2 ^ 32
-
--- place and length
-abbrev pub name : Name → List ℕ
-name n = word (n .place) ∷ word (n .length) ∷ []
 
 -- 3 words
 abbrev pub settings : Settings → List ℕ
@@ -45,7 +40,7 @@ lines x = four (x .«horizontal_dimension») (x .«vertical_dimension») (x .«h
 abbrev pub frame : Frame → List ℕ
 frame x = four (x .left) (x .right) (x .top) (x .bottom)
 
--- 44 words
+-- 44 words: title, inner frame, outer frame, left and top of the data area
 unfoldable pub frames : Frames → List ℕ
 frames x = separator (x .title) ++ frame (x .inner) ++ frame (x .outer) ++ separator (x .«data_left») ++ separator (x .«data_top»)
 
@@ -78,10 +73,14 @@ most-areas x =
     area (x .layers) ++ area (x .corner) ++ area (x .«row_labels») ++ area (x .«column_labels») ++ area (x .data) ++ area (x .caption)
     ++ area (x .footer)
 
--- 2 words, and 4
+-- 6 words: place and length of the continuation, and the widths and heights
 abbrev pub v2-numbers : V2Styles → List ℕ
-v2-numbers x = name (x .continuation) ++ x .«min_col_width» ∷ x .«max_col_width» ∷ x .«min_row_height» ∷ x .«max_row_height» ∷ []
+v2-numbers x =
+    word (x .continuation .place) ∷ word (x .continuation .length) ∷ x .«min_col_width» ∷ x .«max_col_width» ∷ x .«min_row_height»
+    ∷ x .«max_row_height» ∷ []
 
+-- 0 version; 1 to 3 settings; 4 to 19 rows; 20 to 35 columns; 36 to 57 title; 58 to 211 the other areas; 212 to 255 the borders of version 02;
+-- 256 to 261 its numbers
 unfoldable pub lookWords : Look → List ℕ
 lookWords x =
     (x .version ∷ settings (x .settings)) ++ lines (x .rows) ++ lines (x .columns) ++ area (x .title) ++ most-areas (x .«most_areas»)

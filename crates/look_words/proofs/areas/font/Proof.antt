@@ -6,8 +6,6 @@ use mir.Val.{SFits}
 use Rattle.fields.specs.Values.{twos}
 use Rattle.look_words.proofs.areas.font.Statement.{statement}
 use Rattle.look_words.proofs.areas.font.Tie as tie
-use Rattle.look_words.proofs.areas.font.Reads as reads
-use Rattle.look_words.proofs.areas.font.Lts as lts
 
 pub font-spec : {M : Type 1} → statement M
 font-spec =

@@ -2,8 +2,6 @@ use borrow.Author.Needs.{needs}
 use Rattle.look_words.specs.LookWords.{separator}
 use Rattle.look_words.proofs.borders.separator.Statement.{statement}
 use Rattle.look_words.proofs.borders.separator.Tie as tie
-use Rattle.look_words.proofs.borders.separator.Reads as reads
-use Rattle.look_words.proofs.borders.separator.Lts as lts
 
 pub separator-spec : {M : Type 1} → statement M
 unfolding separator

@@ -5,9 +5,6 @@ use Rattle.fields.specs.Puts.{copied-kept, copied-short, copied-done}
 use Rattle.look_words.specs.Stores.{long}
 use Rattle.look_words.proofs.store.put.Statement.{statement}
 use Rattle.look_words.proofs.store.put.Tie as tie
-use Rattle.look_words.proofs.store.put.Reads as reads
-use Rattle.look_words.proofs.store.put.Lts as lts
-use Rattle.look_words.proofs.store.copy.Reads as copy-reads
 
 returns-2 : tie.Need-returns-2
 returns-2 c =
