@@ -11,7 +11,7 @@ use Rattle.layout.specs.Layout.{Layout, empty, number, string, _▸_, times, le
 use Rattle.layout.specs.Read.{Got, got, no, read}
 use Rattle.layout.specs.Laws as laws
 use Rattle.fields.specs.Fields.{Fields, placedAll, placed}
-use Rattle.fields.specs.Puts.{Fit, placeOf}
+use Rattle.fields.specs.Puts.{Fit}
 use Rattle.fields.specs.Trees.{Stands, check-placed}
 use Rattle.look.specs.Look as grammar
 use Rattle.look.specs.Look.{table-look}

@@ -15,7 +15,7 @@ use Rattle.layout.specs.Reads.{chain}
 use Rattle.fields.specs.Puts.{stored, writes-both, writes-as, Copied}
 
 -- The words xs were stored in b from the position st on, which made it b′ and the position r. What `Copied` says of bytes in a buffer holds
--- of words too: there is no refusal, and nothing is said of an area that is too short.
+-- of words too. 0: there is no refusal of their own. Of an area that is too short nothing is said.
 abbrev pub Stores : List ℕ → List ℕ → Step → List ℕ → Step → Type 0
 Stores xs b st b′ r = Copied xs 0 b st b′ r
 

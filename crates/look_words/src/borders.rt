@@ -1,4 +1,4 @@
-// The words of borders: separators one by one, in fours and in elevens.
+// The words of borders: separators one by one, in fours, and the eleven of version 02.
 ghost use Rattle.look_words.specs.LookWords as words;
 ghost use Rattle.look_words.specs.Stores.{Stores};
 use crate::store::put;

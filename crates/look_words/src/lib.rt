@@ -22,7 +22,7 @@ use look::Look;
 use look::V2Styles;
 use look::read::read_look;
 
-// What follows the borders of version 02.
+// The six words that follow the borders of version 02.
 fn v2_numbers(out: &mut [u32], st: Step, x: V2Styles) -> Step
     ensures { λ r. ⌜ Stores (words.v2-numbers x) (now (out .entry)) st (now (out .exit)) r ⌝ }
 {
@@ -41,6 +41,7 @@ fn v2_numbers(out: &mut [u32], st: Step, x: V2Styles) -> Step
     )
 }
 
+// The 262 words of a look.
 fn whole(out: &mut [u32], st: Step, x: Look) -> Step
     ensures { λ r. ⌜ Stores (lookWords x) (now (out .entry)) st (now (out .exit)) r ⌝ }
 {
@@ -69,7 +70,7 @@ fn whole(out: &mut [u32], st: Step, x: Look) -> Step
     v2_numbers(out, st, v2)
 }
 
-// The 262 words of a look at the front of an area; 0 and nothing changed if it is shorter.
+// Puts the 262 words of a look at the front of an area and gives 262; 0, with nothing changed, if the area is shorter.
 pub fn look_words(look: Look, area: &mut [u32]) -> usize
     ensures { λ r. ⌜ AtFront 262 (lookWords look) (now (area .entry)) r (now (area .exit)) ⌝ }
 {
@@ -82,8 +83,8 @@ pub fn look_words(look: Look, area: &mut [u32]) -> usize
     }
 }
 
-// What reading a look answers, as 264 words at the front of an area: the refusal, 0 if the look is accepted, and its place; then the
-// 262 words of the look, 0 on a refusal. 0 and nothing changed if the area is shorter.
+// Reads a look and puts 264 words at the front of an area: the refusal, 0 if the look is accepted, and its place; then the 262 words of
+// the look, all 0 on a refusal. Gives 264; 0, with nothing changed, if the area is shorter.
 pub fn look_answer(file: &[u8], area: &mut [u32]) -> usize
     ensures { λ r. ⌜ AtFront 264 (answerWords (expected (read table-look (now (file .entry)) 0))) (now (area .entry)) r (now (area .exit)) ⌝ }
 {

@@ -10,4 +10,6 @@ separator-spec =
     (tie.spec
     (λ c. search needs) (λ c. search needs) (λ _ _. tt) (λ c. search needs) (λ c. search needs) (λ c. search needs)
     (λ c. search needs) (λ _ _. tt) (λ c. search needs)
-    (λ c. rw (c .before .before .before .before .before .enum-told .given .1) (c .before .before .put .ensures)) (λ c. search needs) (λ c. rw (c .before .before .before .before .before .before .x .given .1) (c .before .before .put2 .ensures)))
+    (λ c. rw (c .before .before .before .before .before .enum-told .given .1) (c .before .before .put .ensures))
+    (λ c. search needs)
+    (λ c. rw (c .before .before .before .before .before .before .x .given .1) (c .before .before .put2 .ensures)))
