@@ -1,0 +1,48 @@
+-- The words of a look's fields in the file, and of what reading a file answers.
+use mathlib.Core.List.{List, [], _∷_, _++_}
+use Prim.Native.Nat.{ℕ}
+use lib.ListN.{take, replicate}
+use Rattle.layout.specs.Layout.{Test, any-number, the-number, a-version, a-bool, at-most, one-of, a-color, Layout, empty, number, string, _▸_, times, leading, region, nothing}
+use Rattle.fields.specs.Fields.{Fields}
+use Rattle.look.specs.Look as grammar
+use Rattle.look.specs.Look.{table-look}
+use Rattle.look.specs.Answers.{Outcome, accepted, refused}
+use Rattle.look_words.specs.LookWords.{word}
+
+-- A number and the words of what follows it. A fixed number has no word; a choice (002 has one, Separator) has three words after it, 0 where
+-- less follows.
+abbrev pub numbered : Test → ℕ → List ℕ → List ℕ
+numbered (the-number v) n rest = rest
+numbered (one-of ns) n rest = n ∷ take 3 (rest ++ 0 ∷ 0 ∷ 0 ∷ [])
+numbered any-number n rest = n ∷ rest
+numbered (a-version ns) n rest = n ∷ rest
+numbered a-bool n rest = n ∷ rest
+numbered (at-most m) n rest = n ∷ rest
+numbered a-color n rest = n ∷ rest
+
+unfoldable pub wordsAll : {A : Type 0} → (A → List ℕ) → List A → List ℕ
+wordsAll f [] = []
+wordsAll f (x ∷ xs) = f x ++ wordsAll f xs
+
+-- (A look has no runs and no regions.)
+unfoldable pub words : (g : Layout) → Fields g → List ℕ
+words empty f = []
+words (number o w test k) f = numbered test (f .0) (words (k (f .0)) (f .1))
+words (string o w) f = word (f .place) ∷ word (f .length) ∷ []
+words (a ▸ b) f = words a (f .0) ++ words b (f .1)
+words (times n a) f = wordsAll (words a) f
+words (leading b n a) f = []
+words (region o m a) f = []
+words nothing f = []
+
+-- the words of a look: its version, its settings, its three other sections, and its V2 data
+unfoldable pub fieldWords : Fields table-look → Fields grammar.v2-styles → List ℕ
+fieldWords f v =
+    f .1 .0 ∷ words grammar.settings (f .1 .1 .0)
+    ++ words (grammar.pv-separator-style ▸ grammar.pv-cell-style ▸ grammar.pv-text-style) (f .1 .1 .1 .0)
+    ++ words grammar.v2-styles v
+
+-- 264 words: the refusal, 0 if the look is accepted, and its place; then the look, all 0 on a refusal
+unfoldable pub answerWords : Outcome → List ℕ
+answerWords (accepted f v) = 0 ∷ 0 ∷ fieldWords f v
+answerWords (refused n p) = n ∷ word p ∷ replicate 262 0

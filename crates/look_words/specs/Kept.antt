@@ -1,0 +1,124 @@
+-- In the words of an accepted look no place and no length of a name has lost a bit.
+use mathlib.Core.Path.{_≡_, refl, sym, ap, _∙_}
+use mathlib.Core.Bool.{Bool, true, false}
+use mathlib.Core.List.{List, [], _∷_, append-nil}
+use Prim.Native.Nat.{ℕ, suc, _+_, _^_, _≤_, _<_}
+use native.Mathlib.Nat.{mod-eq-of-lt}
+use native.Mathlib.Omega.{arith}
+use lib.ListN.{length, length-append}
+use lib.Dec.{eqb}
+use Rattle.layout.specs.Layout.{Layout, empty, number, string, _▸_, times, leading, region, nothing, Tree, spellAll, spell, Bytes, All, all-none, all-more, Valid}
+use Rattle.layout.specs.Read.{Got, got, no, read}
+use Rattle.layout.specs.Laws as laws
+use Rattle.fields.specs.Fields.{Fields, placedAll, placed}
+use Rattle.fields.specs.Puts.{Fit}
+use Rattle.fields.specs.Trees.{Stands, check-placed}
+use Rattle.look.specs.Look as grammar
+use Rattle.look.specs.Look.{table-look}
+use Rattle.look.specs.Values as values
+use Rattle.look.specs.Values.{_&_}
+use Rattle.look.specs.Answers.{blank, accepted, expected, v2-data, v2-of}
+use Rattle.look_write.specs.Bounds.{longest-look}
+use Rattle.look_words.specs.LookWords.{word}
+
+-- each name of the fields
+abbrev pub Kept : (g : Layout) → Fields g → Type 0
+Kept empty f = Unit {0}
+Kept (number o w test k) f = Kept (k (f .0)) (f .1)
+Kept (string o w) f = (word (f .place) ≡ f .place) × (word (f .length) ≡ f .length)
+Kept (a ▸ b) f = Kept a (f .0) × Kept b (f .1)
+Kept (times n a) f = All (Kept a) f
+Kept (leading b n a) f = Unit {0}
+Kept (region o m a) f = Unit {0}
+Kept nothing f = Unit {0}
+
+word-same : (n : ℕ) → n < 2 ^ 32 → word n ≡ n
+word-same n h = mod-eq-of-lt h
+
+-- ---- names that lie in fewer than 2^32 bytes
+
+module _ {A B : Type 0} (f : A → ℕ → B) (sp : A → List ℕ) (P : B → Type 0) (one : (x : A) (at : ℕ) → at + length (sp x) < 2 ^ 32 → P (f x at)) where
+  kept-all : (xs : List A) (at : ℕ) → at + length (spellAll sp xs) < 2 ^ 32 → All P (placedAll f sp xs at)
+  unfolding placedAll spellAll
+  kept-all [] at h = all-none
+  kept-all (x ∷ xs) at h =
+      let h′ : at + (length (sp x) + length (spellAll sp xs)) < 2 ^ 32 = rw length-append at h in
+      all-more (one x at (omega arith)) (kept-all xs (at + length (sp x)) (omega arith))
+
+kept-placed : (g : Layout) (t : Tree g) (at : ℕ) → at + length (spell g t) < 2 ^ 32 → Kept g (placed g t at)
+unfolding placed spell
+kept-placed empty t at h = tt
+kept-placed (number o w test k) t at h =
+    kept-placed (k (t .0)) (t .1) (at + w) (omega (arith, rw (length-append, laws.digits-length) at h))
+kept-placed (string o w) t at h =
+    let h′ : at + (w + length t) < 2 ^ 32 = rw (length-append, laws.digits-length) at h in
+    (word-same (at + w) (omega arith), word-same (length t) (omega arith))
+kept-placed (a ▸ b) t at h =
+    let h′ : at + (length (spell a (t .0)) + length (spell b (t .1))) < 2 ^ 32 = rw length-append at h in
+    (kept-placed a (t .0) at (omega arith), kept-placed b (t .1) (at + length (spell a (t .0))) (omega arith))
+kept-placed (times n a) t at h = kept-all (placed a) (spell a) (Kept a) (λ x at h. kept-placed a x at h) t at h
+kept-placed (leading b n a) t at h = tt
+kept-placed (region o m a) t at h = tt
+
+-- ---- an accepted look has so few bytes
+
+module _ {A B : Type 0} (f : A → ℕ → B) (sp : A → List ℕ) (P : A → Type 0) (Q : B → Type 0) (one : (x : A) → P x → (at : ℕ) → Q (f x at)) where
+  fit-all : {xs : List A} → All P xs → (at : ℕ) → All Q (placedAll f sp xs at)
+  unfolding placedAll
+  fit-all all-none at = all-none
+  fit-all (all-more {x} h hs) at = all-more (one x h at) (fit-all hs (at + length (sp x)))
+
+placed-length : {A B : Type 0} (f : A → ℕ → B) (sp : A → List ℕ) (xs : List A) (at : ℕ) → length (placedAll f sp xs at) ≡ length xs
+unfolding placedAll
+placed-length f sp [] at = refl
+placed-length f sp (x ∷ xs) at = ap suc (placed-length f sp xs (at + length (sp x)))
+
+-- the fields of a valid tree fit
+fit-placed : (g : Layout) (t : Tree g) → Valid g t → (at : ℕ) → Fit g (placed g t at)
+unfolding placed
+fit-placed empty t v at = tt
+fit-placed (number o w test k) t v at = (v .0, fit-placed (k (t .0)) (t .1) (v .2) (at + w))
+fit-placed (string o w) t v at = tt
+fit-placed (a ▸ b) t v at = (fit-placed a (t .0) (v .0) at, fit-placed b (t .1) (v .1) (at + length (spell a (t .0))))
+fit-placed (times n a) t v at =
+    (placed-length (placed a) (spell a) t at ∙ v .0, fit-all (placed a) (spell a) (Valid a) (Fit a) (λ x h at. fit-placed a x h at) (v .1) at)
+fit-placed (leading b n a) t v at = v
+fit-placed (region o m a) t v at = v
+
+-- "the longest 2,770 and 3,152" (document 01)
+short : (t : Tree table-look) → Valid table-look t → length (spell table-look t) ≤ 3152
+short t v =
+    let s = spell table-look t in
+    let stands : Stands s s 0 [] = record { inside = omega arith; here = sym (append-nil s) } in
+    let far = longest-look .is s (placed table-look t 0) 0 (fit-placed table-look t v 0) in
+    omega (arith, rw (check-placed table-look t v s 0 [] stands) at far)
+
+-- ---- V2 data
+
+no-names : (b : Bool) (f : Fields (grammar.separator-if b)) → Kept (grammar.separator-if b) f
+no-names true f = tt & tt & tt & tt
+no-names false f = tt
+
+kept-separators : (fs : List (Fields grammar.separator)) → All (Kept grammar.separator) fs
+kept-separators [] = all-none
+kept-separators (f ∷ fs) = all-more (no-names (eqb (f .0) 1) (f .1)) (kept-separators fs)
+
+v2-kept : (b : Bool) (f : Fields (grammar.v2-styles-if b)) → Kept (grammar.v2-styles-if b) f → Kept grammar.v2-styles (v2-data b f)
+v2-kept true f h = h
+v2-kept false f h = kept-separators (values.frames (blank .frames)) & (refl, refl) & tt & tt & tt & tt
+
+-- whatever fields and V2 data `read_look` gives for bytes that it accepts
+pub kept : (s : List ℕ) → Bytes s → (f : Fields table-look) (v : Fields grammar.v2-styles) → accepted f v ≡ expected (read table-look s 0)
+    → Kept table-look f × Kept grammar.v2-styles v
+unfolding expected
+kept s bs f v e = go (read table-look s 0) refl e
+  where
+    go : (x : Got (Tree table-look)) → read table-look s 0 ≡ x → accepted f v ≡ expected x → Kept table-look f × Kept grammar.v2-styles v
+    go (got t [] p) i j =
+        let valid = laws.sound table-look s bs 0 t [] p i .0 in
+        let k : Kept table-look (placed table-look t 0) = kept-placed table-look t 0 (omega (arith, short t valid)) in
+        let f≡ : f ≡ placed table-look t 0 = cc in
+        let v≡ : v ≡ v2-of (placed table-look t 0) = cc in
+        rw (f≡, v≡) (k, v2-kept (eqb (placed table-look t 0 .1 .0) 2) (placed table-look t 0 .1 .1 .1 .1) (k .1 .1 .1))
+    go (got t (b ∷ r) p) i j = absurd (let z : _≡_ {A = ℕ} 0 1 = cc in omega arith)
+    go (no n p) i j = absurd (let z : _≡_ {A = ℕ} 0 1 = cc in omega arith)

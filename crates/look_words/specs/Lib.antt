@@ -1,0 +1,5 @@
+pub mod LookWords
+pub mod FieldWords
+pub mod Theorems
+pub mod Stores
+pub mod Kept

@@ -1,0 +1,105 @@
+-- The words of a look, named one by one, are those of its fields in the file's order; and how many words there are.
+use mathlib.Core.Path.{_≡_, refl}
+use mathlib.Core.List.{List, _∷_, _++_, append-nil, append-assoc}
+use Prim.Native.Nat.{ℕ}
+use lib.ListN.{length, replicate, length-append}
+use Rattle.layout.specs.Layout.{Layout, _▸_}
+use Rattle.fields.specs.Fields.{Fields}
+use Rattle.look.specs.declared.Separator.{Separator}
+use Rattle.look.specs.declared.Separator.the-variants.{NotDrawn, Drawn}
+use Rattle.look.specs.declared.Settings.{Settings}
+use Rattle.look.specs.declared.Lines.{Lines}
+use Rattle.look.specs.declared.Area.{Area}
+use Rattle.look.specs.declared.MostAreas.{MostAreas}
+use Rattle.look.specs.declared.Frames.{Frames}
+use Rattle.look.specs.declared.V2Styles.{V2Styles}
+use Rattle.look.specs.declared.Look.{Look}
+use Rattle.look.specs.declared.Answer.{Answer}
+use Rattle.look.specs.declared.Answer.the-variants.{Accepted, Refused}
+use Rattle.look.specs.Look as grammar
+use Rattle.look.specs.Values as values
+use Rattle.look.specs.Values.{_&_}
+use Rattle.look.specs.Answers.{outcome}
+use Rattle.look_words.specs.LookWords as named
+use Rattle.look_words.specs.LookWords.{word, lookWords}
+use Rattle.look_words.specs.FieldWords.{wordsAll, words, fieldWords, answerWords}
+
+separator-same : (x : Separator) → words grammar.separator (values.separator x) ≡ named.separator x
+unfolding words named.separator
+separator-same NotDrawn = refl
+separator-same (Drawn color style width) = refl
+
+separators : List (Fields grammar.separator) → List ℕ
+separators = wordsAll (words grammar.separator)
+
+lines-same : (x : Lines) → separators (values.lines x) ≡ named.lines x
+unfolding separators wordsAll named.four
+lines-same x = simp (separator-same, append-nil, append-assoc)
+
+frames-same : (x : Frames) → separators (values.frames x) ≡ named.frames x
+unfolding separators wordsAll named.four named.frames
+frames-same x = simp (separator-same, append-nil, append-assoc)
+
+settings-same : (x : Settings) → words grammar.settings (values.settings x) ≡ named.settings x
+unfolding words
+settings-same x = refl
+
+borders-same : (rows columns : Lines) → words grammar.pv-separator-style (values.separator-style rows columns) ≡ named.lines rows ++ named.lines columns
+unfolding words separators
+borders-same rows columns = rw (← (lines-same rows), ← (lines-same columns)) (simp append-nil)
+
+areas-same : (title : Area) (most : MostAreas)
+    → words grammar.pv-cell-style (values.cell-style (title .color)) ++ words grammar.pv-text-style (values.text-style (title .style) most)
+    ≡ named.area title ++ named.most-areas most
+unfolding words wordsAll named.area named.most-areas
+areas-same title most = refl
+
+v2-same : (x : V2Styles) → words grammar.v2-styles (values.v2-styles x) ≡ named.frames (x .frames) ++ named.v2-numbers x
+unfolding words separators
+v2-same x = rw (← (frames-same (x .frames))) (simp append-assoc)
+
+three : (a b c : Layout) (f : Fields a) (g : Fields b) (h : Fields c) → words (a ▸ b ▸ c) (f & g & h) ≡ words a f ++ (words b g ++ words c h)
+unfolding words
+three a b c f g h = append-assoc (words a f) (words b g) (words c h)
+
+regroup : (s r c t m f n : List ℕ) → s ++ ((r ++ c) ++ (t ++ m)) ++ (f ++ n) ≡ s ++ r ++ c ++ t ++ m ++ f ++ n
+regroup s r c t m f n = simp append-assoc
+
+-- for every look, whatever its version
+pub in-order : (x : Look) → fieldWords (values.fields x) (values.v2-styles (x .v2)) ≡ lookWords x
+unfolding fieldWords lookWords
+in-order x =
+    rw (
+      settings-same (x .settings),
+      three grammar.pv-separator-style grammar.pv-cell-style grammar.pv-text-style,
+      borders-same (x .rows) (x .columns),
+      areas-same (x .title) (x .«most_areas»),
+      v2-same (x .v2),
+    )
+    (regroup (x .version ∷ named.settings (x .settings)) (named.lines (x .rows)) (named.lines (x .columns)) (named.area (x .title)) (named.most-areas (x .«most_areas»)) (named.frames (x .v2 .frames)) (named.v2-numbers (x .v2)))
+
+-- ---- lengths
+
+separator-long : (x : Separator) → length (named.separator x) ≡ 4
+unfolding named.separator
+separator-long NotDrawn = refl
+separator-long (Drawn color style width) = refl
+
+pub look-long : (x : Look) → length (lookWords x) ≡ 262
+unfolding lookWords named.four named.area named.most-areas named.frames
+look-long x = simp (length-append, separator-long)
+
+-- ---- an answer of the code
+
+abbrev pub codeWords : Answer → List ℕ
+codeWords (Accepted x) = 0 ∷ 0 ∷ lookWords x
+codeWords (Refused n p) = n ∷ word p ∷ replicate 262 0
+
+pub answer-same : (a : Answer) → answerWords (outcome a) ≡ codeWords a
+unfolding answerWords
+answer-same (Accepted x) = rw (in-order x)
+answer-same (Refused n p) = refl
+
+pub answer-long : (a : Answer) → length (codeWords a) ≡ 264
+answer-long (Accepted x) = rw (look-long x)
+answer-long (Refused n p) = refl

@@ -1,0 +1,107 @@
+// A look as 32-bit words in a lent area.
+
+mod areas; // colors and styles
+mod borders; // separators
+mod store; // runs of words
+
+ghost use Rattle.layout.specs.Read.{read};
+ghost use Rattle.look.specs.Look.{table-look};
+ghost use Rattle.look.specs.Answers.{expected};
+ghost use Rattle.look_words.specs.LookWords as words;
+ghost use Rattle.look_words.specs.LookWords.{lookWords};
+ghost use Rattle.look_words.specs.FieldWords.{answerWords};
+ghost use Rattle.look_words.specs.Stores.{Stores, AtFront};
+use crate::areas::area;
+use crate::areas::most_areas;
+use crate::borders::frames;
+use crate::borders::lines;
+use crate::store::put;
+use layout::Step;
+use look::Answer;
+use look::Look;
+use look::V2Styles;
+use look::read::read_look;
+
+// The six words that follow the borders of version 02.
+fn v2_numbers(out: &mut [u32], st: Step, x: V2Styles) -> Step
+    ensures { λ r. ⌜ Stores (words.v2-numbers x) (now (out .entry)) st (now (out .exit)) r ⌝ }
+{
+    let continuation = x.continuation;
+    put(
+        out,
+        st,
+        &[
+            (continuation.place % 4294967296) as u32,
+            (continuation.length % 4294967296) as u32,
+            x.min_col_width,
+            x.max_col_width,
+            x.min_row_height,
+            x.max_row_height,
+        ],
+    )
+}
+
+// The 262 words of a look.
+fn whole(out: &mut [u32], st: Step, x: Look) -> Step
+    ensures { λ r. ⌜ Stores (lookWords x) (now (out .entry)) st (now (out .exit)) r ⌝ }
+{
+    let settings = x.settings;
+    let rows = x.rows;
+    let columns = x.columns;
+    let title = x.title;
+    let most = x.most_areas;
+    let v2 = x.v2;
+    let frames_of = v2.frames;
+    let st = put(
+        out,
+        st,
+        &[
+            x.version as u32,
+            settings.flags as u32,
+            settings.nested_row_labels as u32,
+            settings.footnote_marker_subscripts as u32,
+        ],
+    );
+    let st = lines(out, st, rows);
+    let st = lines(out, st, columns);
+    let st = area(out, st, title);
+    let st = most_areas(out, st, most);
+    let st = frames(out, st, frames_of);
+    v2_numbers(out, st, v2)
+}
+
+// Puts the 262 words of a look at the front of an area and gives 262; 0, with nothing changed, if the area is shorter.
+pub fn look_words(look: Look, area: &mut [u32]) -> usize
+    ensures { λ r. ⌜ AtFront 262 (lookWords look) (now (area .entry)) r (now (area .exit)) ⌝ }
+{
+    let room = 262 <= area.len();
+    if room {
+        whole(area, Step::Next(0), look);
+        262
+    } else {
+        0
+    }
+}
+
+// Reads a look and puts 264 words at the front of an area: the refusal, 0 if the look is accepted, and its place; then the 262 words of
+// the look, all 0 on a refusal. Gives 264; 0, with nothing changed, if the area is shorter.
+pub fn look_answer(file: &[u8], area: &mut [u32]) -> usize
+    ensures { λ r. ⌜ AtFront 264 (answerWords (expected (read table-look (now (file .entry)) 0))) (now (area .entry)) r (now (area .exit)) ⌝ }
+{
+    let room = 264 <= area.len();
+    if room {
+        match read_look(file) {
+            Answer::Accepted(look) => {
+                let st = put(area, Step::Next(0), &[0, 0]);
+                whole(area, st, look);
+            }
+            Answer::Refused(n, p) => {
+                let st = put(area, Step::Next(0), &[n, (p % 4294967296) as u32]);
+                put(area, st, &[0u32; 262]);
+            }
+        }
+        264
+    } else {
+        0
+    }
+}
