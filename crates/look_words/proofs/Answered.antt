@@ -13,7 +13,7 @@ use Rattle.look.specs.Look.{table-look}
 use Rattle.look.specs.Answers.{outcome, expected}
 use Rattle.look_words.specs.FieldWords.{answerWords}
 use Rattle.look_words.specs.Theorems.{codeWords, answer-same, answer-long}
-use Rattle.look_words.specs.Stores.{Stores, AtFront, with-room}
+use Rattle.words.specs.Stores.{Stores, AtFront, with-room}
 
 module _ (s b : List ℕ) (a : Answer) {c : Answer} {b′ : List ℕ} {r : Step} where
   pub answered : outcome a ≡ expected (read table-look s 0) → leb 264 (length b) ≡ true → a ≡ c → Stores (codeWords c) b (Next 0) b′ r

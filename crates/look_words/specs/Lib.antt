@@ -1,5 +1,4 @@
 pub mod LookWords
 pub mod FieldWords
 pub mod Theorems
-pub mod Stores
 pub mod Kept

@@ -2,29 +2,28 @@
 
 mod areas; // colors and styles
 mod borders; // separators
-mod store; // runs of words
 
 ghost use Rattle.layout.specs.Read.{read};
 ghost use Rattle.look.specs.Look.{table-look};
 ghost use Rattle.look.specs.Answers.{expected};
-ghost use Rattle.look_words.specs.LookWords as words;
+ghost use Rattle.look_words.specs.LookWords as spec;
 ghost use Rattle.look_words.specs.LookWords.{lookWords};
 ghost use Rattle.look_words.specs.FieldWords.{answerWords};
-ghost use Rattle.look_words.specs.Stores.{Stores, AtFront};
+ghost use Rattle.words.specs.Stores.{Stores, AtFront};
 use crate::areas::area;
 use crate::areas::most_areas;
 use crate::borders::frames;
 use crate::borders::lines;
-use crate::store::put;
 use layout::Step;
 use look::Answer;
 use look::Look;
 use look::V2Styles;
 use look::read::read_look;
+use words::put;
 
 // The six words that follow the borders of version 02.
 fn v2_numbers(out: &mut [u32], st: Step, x: V2Styles) -> Step
-    ensures { λ r. ⌜ Stores (words.v2-numbers x) (now (out .entry)) st (now (out .exit)) r ⌝ }
+    ensures { λ r. ⌜ Stores (spec.v2-numbers x) (now (out .entry)) st (now (out .exit)) r ⌝ }
 {
     let continuation = x.continuation;
     put(

@@ -3,7 +3,7 @@ use Rattle.layout.specs.Read.{read}
 use Rattle.look.specs.Look.{table-look}
 use Rattle.look.specs.Answers.{expected}
 use Rattle.look_words.specs.FieldWords.{answerWords}
-use Rattle.look_words.specs.Stores.{_⊳_, long, without-room}
+use Rattle.words.specs.Stores.{_⊳_, long, without-room}
 use Rattle.look_words.proofs.Answered.{answered}
 use Rattle.look_words.proofs.look_answer.Statement.{statement}
 use Rattle.look_words.proofs.look_answer.Tie as tie

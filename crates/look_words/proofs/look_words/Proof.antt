@@ -1,6 +1,6 @@
 use Rattle.look_words.specs.LookWords.{lookWords}
 use Rattle.look_words.specs.Theorems.{look-long}
-use Rattle.look_words.specs.Stores.{long, with-room, without-room}
+use Rattle.words.specs.Stores.{long, with-room, without-room}
 use Rattle.look_words.proofs.look_words.Statement.{statement}
 use Rattle.look_words.proofs.look_words.Tie as tie
 

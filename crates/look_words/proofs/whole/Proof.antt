@@ -1,6 +1,6 @@
 use borrow.Author.Needs.{needs}
 use Rattle.look_words.specs.LookWords.{lookWords}
-use Rattle.look_words.specs.Stores.{_⊳_, long}
+use Rattle.words.specs.Stores.{_⊳_, long}
 use Rattle.look_words.proofs.whole.Statement.{statement}
 use Rattle.look_words.proofs.whole.Tie as tie
 

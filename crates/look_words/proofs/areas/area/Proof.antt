@@ -1,6 +1,6 @@
 use borrow.Author.Needs.{needs}
 use Rattle.look_words.specs.LookWords.{area}
-use Rattle.look_words.specs.Stores.{_⊳_}
+use Rattle.words.specs.Stores.{_⊳_}
 use Rattle.look_words.proofs.areas.area.Statement.{statement}
 use Rattle.look_words.proofs.areas.area.Tie as tie
 

@@ -1,5 +1,5 @@
 use Rattle.look_words.specs.LookWords.{most-areas}
-use Rattle.look_words.specs.Stores.{_⊳_, long}
+use Rattle.words.specs.Stores.{_⊳_, long}
 use Rattle.look_words.proofs.areas.most_areas.Statement.{statement}
 use Rattle.look_words.proofs.areas.most_areas.Tie as tie
 

@@ -1,6 +1,6 @@
 use borrow.Author.Needs.{needs}
 use Rattle.look_words.specs.LookWords.{four}
-use Rattle.look_words.specs.Stores.{_⊳_}
+use Rattle.words.specs.Stores.{_⊳_}
 use Rattle.look_words.proofs.borders.four.Statement.{statement}
 use Rattle.look_words.proofs.borders.four.Tie as tie
 

@@ -1,5 +1,5 @@
 use Rattle.look_words.specs.LookWords.{frames}
-use Rattle.look_words.specs.Stores.{_⊳_, long}
+use Rattle.words.specs.Stores.{_⊳_, long}
 use Rattle.look_words.proofs.borders.frames.Statement.{statement}
 use Rattle.look_words.proofs.borders.frames.Tie as tie
 

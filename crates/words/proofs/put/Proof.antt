@@ -2,9 +2,9 @@ use mathlib.Core.Path.{refl}
 use borrow.Author.Needs.{needs}
 use native.Mathlib.Omega.{arith}
 use Rattle.fields.specs.Puts.{copied-kept, copied-short, copied-done}
-use Rattle.look_words.specs.Stores.{long}
-use Rattle.look_words.proofs.store.put.Statement.{statement}
-use Rattle.look_words.proofs.store.put.Tie as tie
+use Rattle.words.specs.Stores.{long}
+use Rattle.words.proofs.put.Statement.{statement}
+use Rattle.words.proofs.put.Tie as tie
 
 returns-2 : tie.Need-returns-2
 returns-2 c =

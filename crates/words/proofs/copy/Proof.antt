@@ -6,8 +6,8 @@ use native.Mathlib.Omega.{arith}
 use lib.ListN.{length, take, drop}
 use lib.Seq.{paste, paste-zero, paste-suc, length-paste, take-length}
 use Rattle.fields.specs.Puts.{stored}
-use Rattle.look_words.proofs.store.copy.Statement.{statement}
-use Rattle.look_words.proofs.store.copy.Tie as tie
+use Rattle.words.proofs.copy.Statement.{statement}
+use Rattle.words.proofs.copy.Tie as tie
 
 -- what the first i words are copied to
 abbrev Inv-loop : tie.InvT-loop

@@ -1,9 +1,9 @@
-// Runs of words, stored in a lent area.
+// Runs of 32-bit words, stored in a lent area.
 ghost use mathlib.Core.Path.{_≡_};
 ghost use Prim.Native.Nat.{_+_, _≤_};
 ghost use lib.ListN.{length};
 ghost use Rattle.fields.specs.Puts.{stored};
-ghost use Rattle.look_words.specs.Stores.{Stores};
+ghost use Rattle.words.specs.Stores.{Stores};
 use layout::Step;
 
 fn copy(out: &mut [u32], at: usize, words: &[u32])

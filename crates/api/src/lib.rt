@@ -1,0 +1,164 @@
+// The library for programs in C, Rust and other languages: numbers and slices alone. A slice is a pointer and a length there;
+// include/digarumbi.h has these functions and the layout of their words.
+mod words; // answers as words
+
+ghost use mathlib.Core.Path.{_≡_};
+ghost use lib.ListN.{length};
+ghost use Rattle.layout.specs.Read.{read};
+ghost use Rattle.units.specs.Units.{in-pixels, in-points, height};
+ghost use Rattle.member.specs.Part.{partOf};
+ghost use Rattle.desk.specs.Desk.{nameOf};
+ghost use Rattle.look.specs.Look.{table-look};
+ghost use Rattle.look.specs.Answers.{expected};
+ghost use Rattle.look_words.specs.FieldWords as look_spec;
+ghost use Rattle.words.specs.Stores.{AtFront};
+ghost use Rattle.api.specs.Api.{MemberRead, namePlace, Rewritten};
+use crate::words::member_words;
+use crate::words::step_words;
+use desk::name_of;
+use look::Answer;
+use look::read::read_look;
+use look_words::look_answer;
+use look_write::Written;
+use look_write::write_look;
+use member::part;
+use member::read_member;
+use units::Pt;
+use units::Px;
+use units::font_height;
+use units::pt_to_px;
+use units::px_to_pt;
+
+// Reads a member. 88, with the answer in the first 88 words of `answer` and the records in the two areas where it is accepted; 0, with
+// nothing read and nothing changed, if `answer` is shorter.
+#[no_mangle]
+pub extern "C" fn digarumbi_read_member(
+    member: &[u8],
+    answer: &mut [u32],
+    nodes: &mut [u32],
+    cells: &mut [u32],
+) -> usize
+    ensures { λ n. ⌜ MemberRead (now (member .entry)) (now (answer .entry)) (now (nodes .entry)) (now (cells .entry)) n (now (answer .exit)) (now (nodes .exit)) (now (cells .exit)) ⌝ }
+{
+    let room = 88 <= answer.len();
+    if room {
+        let a = read_member(member, nodes, cells);
+        member_words(answer, a);
+        88
+    } else {
+        0
+    }
+}
+
+// The place of the name of node i; 0 if there is no record i, or if it points outside the member.
+fn name_place(member: &[u8], nodes: &[u32], i: usize) -> usize
+    ensures { λ r. ⌜ r ≡ namePlace (now (member .entry)) (now (nodes .entry)) i ⌝ }
+{
+    if i < nodes.len() / 6 {
+        let at = 6 * i;
+        let place = nodes[at + 3] as usize;
+        let length = nodes[at + 4] as usize;
+        if place + length <= member.len() {
+            place
+        } else {
+            0
+        }
+    } else {
+        0
+    }
+}
+
+// The length of the name of node i, and its place in the member; both 0 if there is no record i, or if it points outside the member.
+// `nodes` has the words filled and no more.
+#[no_mangle]
+pub extern "C" fn digarumbi_node_name(
+    member: &[u8],
+    nodes: &[u32],
+    i: usize,
+    place: &mut usize,
+) -> usize
+    ensures { λ n. ⌜ n ≡ length (nameOf (now (member .entry)) (now (nodes .entry)) i) ⌝ }
+    ensures { λ _. ⌜ now (place .exit) ≡ namePlace (now (member .entry)) (now (nodes .entry)) i ⌝ }
+{
+    *place = name_place(member, nodes, i);
+    name_of(member, nodes, i).len()
+}
+
+// The length of that part of the member; 0 if it does not lie inside.
+#[no_mangle]
+pub extern "C" fn digarumbi_part(member: &[u8], place: usize, n: usize) -> usize
+    ensures { λ r. ⌜ r ≡ length (partOf (now (member .entry)) place n) ⌝ }
+{
+    part(member, place, n).len()
+}
+
+// Reads a look. 264, with the answer in the first 264 words of `answer`; 0, with nothing read and nothing changed, if it is shorter.
+#[no_mangle]
+pub extern "C" fn digarumbi_read_look(file: &[u8], answer: &mut [u32]) -> usize
+    ensures { λ n. ⌜ AtFront 264 (look_spec.answerWords (expected (read table-look (now (file .entry)) 0))) (now (answer .entry)) n (now (answer .exit)) ⌝ }
+{
+    look_answer(file, answer)
+}
+
+// Reads a look and writes it again. 3, with the refusal or 0, its place and the length in the first 3 words of `answer`; 0, with nothing
+// written and nothing changed, if it is shorter.
+#[no_mangle]
+pub extern "C" fn digarumbi_rewrite_look(file: &[u8], out: &mut [u8], answer: &mut [u32]) -> usize
+    ensures { λ n. ⌜ Rewritten (now (file .entry)) (now (out .entry)) (now (answer .entry)) n (now (out .exit)) (now (answer .exit)) ⌝ }
+{
+    let got = read_look(file);
+    let room = 3 <= answer.len();
+    if room {
+        match got {
+            Answer::Refused(n, p) => {
+                step_words(answer, n, p, 0);
+            }
+            Answer::Accepted(look) => match write_look(look, file, out) {
+                Written::Refused(n, p) => {
+                    step_words(answer, n, p, 0);
+                }
+                Written::Length(n) => {
+                    step_words(answer, 0, 0, n);
+                }
+            },
+        }
+        3
+    } else {
+        0
+    }
+}
+
+// Points in pixels: 0 or the refusal's number, 7; the place is 0.
+#[no_mangle]
+pub extern "C" fn digarumbi_pt_to_px(points: u32, pixels: &mut u32) -> u32
+    ensures { λ r. ⌜ r ≡ in-pixels record { 0 = points } .refusal ⌝ }
+    ensures { λ _. ⌜ now (pixels .exit) ≡ in-pixels record { 0 = points } .value .0 ⌝ }
+{
+    let r = pt_to_px(Pt(points));
+    let value = r.value;
+    *pixels = value.0;
+    r.refusal
+}
+
+// Pixels in points, likewise.
+#[no_mangle]
+pub extern "C" fn digarumbi_px_to_pt(pixels: u32, points: &mut u32) -> u32
+    ensures { λ r. ⌜ r ≡ in-points record { 0 = pixels } .refusal ⌝ }
+    ensures { λ _. ⌜ now (points .exit) ≡ in-points record { 0 = pixels } .value .0 ⌝ }
+{
+    let r = px_to_pt(Px(pixels));
+    let value = r.value;
+    *points = value.0;
+    r.refusal
+}
+
+// The height of a font of that size, likewise.
+#[no_mangle]
+pub extern "C" fn digarumbi_font_height(size: i32, value: &mut u32) -> u32
+    ensures { λ r. ⌜ r ≡ height size .refusal ⌝ }
+    ensures { λ _. ⌜ now (value .exit) ≡ height size .value ⌝ }
+{
+    let r = font_height(size);
+    *value = r.value;
+    r.refusal
+}
