@@ -32,7 +32,7 @@ impl Areas {
         self.out.compare(&expected.out)
     }
 
-    /// Stores an answer, if the area is long enough for it. Gives what a call then returns.
+    /// Stores an answer. Gives its number of words.
     fn store(&mut self, words: &[u32]) -> usize {
         self.answer.lent()[..words.len()].copy_from_slice(words);
         words.len()
@@ -55,16 +55,14 @@ impl Check for LookCheck {
         self.looks.count(look.as_ref().map_or_else(|refusal| refusal.number, |_| 0));
         for answer_words in [LOOK_ANSWER, LOOK_ANSWER - 1, 0, LOOK_ANSWER + 9] {
             self.compare_read(file, &look, answer_words)
-                .map_err(|difference| difference.with(format!("{answer_words} words")))?;
+                .map_err(|difference| difference.with(format_args!("{answer_words} words")))?;
         }
         let length = file.len();
         for out_length in [length, length.saturating_sub(1), 0, length + 9, LONGEST_LOOK] {
             for answer_words in [REWRITE_ANSWER, REWRITE_ANSWER - 1, 0, REWRITE_ANSWER + 2] {
-                self.compare_rewritten(file, &look, out_length, answer_words).map_err(
-                    |difference| {
-                        difference.with(format!("{out_length} bytes, {answer_words} words"))
-                    },
-                )?;
+                let lengths = format_args!("{out_length} bytes, {answer_words} words");
+                self.compare_rewritten(file, &look, out_length, answer_words)
+                    .map_err(|difference| difference.with(lengths))?;
             }
         }
         let expected = look.as_ref().map(|_| file.to_vec()).map_err(Refusal::to_string);

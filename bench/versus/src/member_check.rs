@@ -137,7 +137,7 @@ impl MemberCheck {
     fn compare(&mut self, member: &[u8], lengths: Lengths) -> Result<Option<Answer>, Difference> {
         let answer = self
             .read_both(member, lengths)
-            .map_err(|difference| difference.with(format!("{lengths:?} in words")))?;
+            .map_err(|difference| difference.with(format_args!("{lengths:?} in words")))?;
         if let Some(answer) = answer {
             self.readings.count(answer.refusal);
         }
@@ -177,7 +177,7 @@ impl MemberCheck {
             let inside = end.is_some_and(|end| end <= member.len());
             let expected = if inside { length } else { 0 };
             let found = lent::part(member, place, length);
-            Difference::compare(format!("part {place} {length}"), &expected, &found)?;
+            Difference::compare(format_args!("part {place} {length}"), &expected, &found)?;
         }
         Ok(())
     }
@@ -215,5 +215,5 @@ fn expected_name(member: &[u8], nodes: &[u32], i: usize) -> (usize, usize) {
 fn check_name(member: &[u8], nodes: &[u32], i: usize) -> Result<(), Difference> {
     let expected = expected_name(member, nodes, i);
     let found = lent::node_name(member, nodes, i);
-    Difference::compare(format!("name of node {i} in {nodes:?}"), &expected, &found)
+    Difference::compare(format_args!("name of node {i} in {nodes:?}"), &expected, &found)
 }
