@@ -29,8 +29,13 @@ int main(int argc, char **argv)
     size_t length;
     FILE *file;
 
-    if (argc != 2 || (file = fopen(argv[1], "rb")) == NULL) {
+    if (argc != 2) {
         fprintf(stderr, "usage: read_member FILE\n");
+        return 2;
+    }
+    file = fopen(argv[1], "rb");
+    if (file == NULL) {
+        perror(argv[1]);
         return 2;
     }
     length = fread(member, 1, sizeof member, file);
