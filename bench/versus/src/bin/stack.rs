@@ -14,7 +14,8 @@ use digarumbi_versus::large::{
 };
 use digarumbi_versus::stored;
 
-/// Most that is tried, and the step, in KiB.
+/// Least that is tried, which every thread has, the most, and the step, in KiB.
+const LEAST: usize = 16;
 const MOST: usize = 8_192;
 const STEP: usize = 4;
 
@@ -31,7 +32,7 @@ fn main() {
 
 /// The smallest stack with which the work ends, by bisection.
 fn smallest_stack(work: &str) -> usize {
-    let (mut too_small, mut enough) = (0, MOST / STEP);
+    let (mut too_small, mut enough) = (LEAST / STEP - 1, MOST / STEP);
     while enough - too_small > 1 {
         let tried = (too_small + enough) / 2;
         if ends(work, STEP * tried) {
