@@ -22,7 +22,7 @@ pub fn cells(cursor: &mut Cursor, table_places: u64) -> Result<Vec<Cell>, Refusa
     let place = cursor.place();
     let count = cursor.int32()?;
     refuse_if(count > CELLS, LIMIT, place)?;
-    let mut seen = HashSet::new();
+    let mut seen = HashSet::with_capacity(count as usize);
     (0..count).map(|_| cell(cursor, table_places, &mut seen)).collect()
 }
 

@@ -1,0 +1,185 @@
+//! Times of the proved library and of the independent reader on the same inputs, as tables in
+//! markdown.
+
+use std::fs;
+use std::hint::black_box;
+
+use digarumbi::lent::{
+    self, CELL_AREA, LONGEST_LOOK, LOOK_ANSWER, MEMBER_ANSWER, NODE_AREA, REWRITE_ANSWER,
+};
+use digarumbi_bench::generate::look_bytes;
+use digarumbi_bench::limits::MEMBER_BYTES;
+use digarumbi_bench::look::{read_look, write_look};
+use digarumbi_bench::member::read_member;
+use digarumbi_bench::random::Random;
+use digarumbi_versus::large::{
+    ascending, member_of_strings, member_with_cells, member_with_nested_categories, shuffled,
+};
+use digarumbi_versus::stored;
+use digarumbi_versus::timing::{measure, Times};
+
+const SIZES_IN_BYTES: [usize; 5] = [65_536, 131_072, 262_144, 524_288, MEMBER_BYTES];
+const NUMBERS_OF_CELLS: [u64; 5] = [256, 512, 1_024, 2_048, 4_096];
+
+fn main() {
+    println!("{}\n", conditions());
+    real_members();
+    large_members();
+    growth_with_bytes();
+    growth_with_cells();
+    looks();
+}
+
+fn conditions() -> String {
+    format!(
+        "Measured on {}. Both readers take the same bytes and write into the same areas, which were \
+         allocated once, before the timing, and are not cleared between calls. The two are called in \
+         batches that alternate; a time is the median over all batches. The Rust reader allocates its \
+         own vectors inside the timing.",
+        processor()
+    )
+}
+
+fn processor() -> String {
+    let text = fs::read_to_string("/proc/cpuinfo").unwrap_or_default();
+    let model = text.lines().find_map(|line| line.strip_prefix("model name")?.split(": ").nth(1));
+    model.unwrap_or("an unknown processor").to_string()
+}
+
+/// Times of reading these members one after the other.
+fn member_times(members: &[&[u8]]) -> Times {
+    let mut areas = (vec![0; MEMBER_ANSWER], vec![0; NODE_AREA], vec![0; CELL_AREA]);
+    measure(
+        &mut areas,
+        |(answer, nodes, cells)| {
+            for member in members {
+                black_box(lent::read_member(black_box(member), answer, nodes, cells));
+            }
+        },
+        |(_, nodes, cells)| {
+            for member in members {
+                black_box(read_member(black_box(member), nodes, cells));
+            }
+        },
+    )
+}
+
+const TABLE_HEAD: &str =
+    "| bytes | nodes | cells | Rattle, µs | Rust, µs | Rattle, MB/s | Rust, MB/s | Rattle : Rust |";
+const TABLE_RULE: &str = "|---|---:|---:|---:|---:|---:|---:|---:|---:|";
+
+fn table_head(title: &str, first_column: &str) {
+    println!("### {title}\n");
+    println!("| {first_column} {TABLE_HEAD}\n{TABLE_RULE}");
+}
+
+/// A row for the members that are read one after the other.
+fn member_row(name: &str, members: &[&[u8]]) {
+    let (mut nodes, mut cells, mut bytes) = (0, 0, 0);
+    for member in members {
+        let answer = read_member(member, &mut [0; NODE_AREA], &mut [0; CELL_AREA]);
+        assert_eq!(answer.refusal, 0, "{name} is accepted");
+        nodes += answer.node_count;
+        cells += answer.cell_count;
+        bytes += member.len();
+    }
+    row(&format!("{name} | {bytes} | {nodes} | {cells}"), bytes, member_times(members));
+}
+
+fn row(start: &str, bytes: usize, times: Times) {
+    let microseconds = |nanoseconds: f64| nanoseconds / 1e3;
+    // bytes in a nanosecond are gigabytes in a second
+    let megabytes = |nanoseconds: f64| 1e3 * bytes as f64 / nanoseconds;
+    println!(
+        "| {start} | {:.2} | {:.2} | {:.0} | {:.0} | {:.2} |",
+        microseconds(times.rattle),
+        microseconds(times.rust),
+        megabytes(times.rattle),
+        megabytes(times.rust),
+        times.ratio()
+    );
+}
+
+fn real_members() {
+    let members = stored::real_members();
+    table_head("Real members", "member");
+    for member in &members {
+        member_row(&member.name, &[&member.bytes]);
+    }
+    let all: Vec<&[u8]> = members.iter().map(|member| &member.bytes[..]).collect();
+    member_row("all in turn", &all);
+    println!();
+}
+
+fn large_members() {
+    table_head("Large members", "member");
+    for (name, member) in [
+        ("4,096 cells, ascending", member_with_cells(&ascending(4_096))),
+        ("4,096 cells, shuffled", member_with_cells(&shuffled(4_096))),
+        ("4,096 nested categories", member_with_nested_categories(4_096)),
+        ("1 MiB of strings", member_of_strings(MEMBER_BYTES)),
+    ] {
+        member_row(name, &[&member]);
+    }
+    println!();
+}
+
+fn growth_with_bytes() {
+    table_head("Growth with bytes: strings of 12 letters", "member");
+    for bytes in SIZES_IN_BYTES {
+        member_row("strings", &[&member_of_strings(bytes)]);
+    }
+    println!();
+}
+
+fn growth_with_cells() {
+    table_head("Growth with cells", "order");
+    for cells in NUMBERS_OF_CELLS {
+        member_row("ascending", &[&member_with_cells(&ascending(cells))]);
+        member_row("shuffled", &[&member_with_cells(&shuffled(cells))]);
+    }
+    println!();
+}
+
+fn looks() {
+    println!("### Looks\n");
+    println!(
+        "| look | bytes | Rattle, µs | Rust, µs | Rattle, MB/s | Rust, MB/s | Rattle : Rust |"
+    );
+    println!("|---|---:|---:|---:|---:|---:|---:|");
+    let mut looks: Vec<(String, Vec<u8>)> =
+        stored::looks().into_iter().map(|look| (look.name, look.bytes)).collect();
+    looks.extend(
+        (1..4).map(|seed| (format!("generated {seed}"), look_bytes(&mut Random::new(seed)))),
+    );
+    looks.retain(|(_, file)| read_look(file).is_ok());
+    for (name, file) in &looks {
+        row(&format!("{name}, read | {}", file.len()), file.len(), look_times(file));
+        row(&format!("{name}, rewritten | {}", file.len()), file.len(), rewrite_times(file));
+    }
+}
+
+fn look_times(file: &[u8]) -> Times {
+    measure(
+        &mut vec![0; LOOK_ANSWER],
+        |answer| {
+            black_box(lent::read_look(black_box(file), answer));
+        },
+        |_| {
+            let _ = black_box(read_look(black_box(file)));
+        },
+    )
+}
+
+fn rewrite_times(file: &[u8]) -> Times {
+    measure(
+        &mut (vec![0; LONGEST_LOOK], vec![0; REWRITE_ANSWER]),
+        |(out, answer)| {
+            black_box(lent::rewrite_look(black_box(file), out, answer));
+        },
+        |(out, _)| {
+            let look = read_look(black_box(file));
+            let _ = black_box(look.and_then(|look| write_look(&look, file, out)));
+        },
+    )
+}

@@ -1,0 +1,93 @@
+//! Reads many members and looks by the proved library and by the independent readers, and compares
+//! everything that both answer and store. Stops at the first difference and prints the input.
+//!
+//! Usage: differential [SEED]; the same seed gives the same inputs.
+
+use std::env;
+use std::process::ExitCode;
+
+use digarumbi_bench::generate::{look_bytes, member};
+use digarumbi_bench::limits::MEMBER_BYTES;
+use digarumbi_bench::vectors;
+use digarumbi_versus::difference::Difference;
+use digarumbi_versus::inputs::Inputs;
+use digarumbi_versus::large::{
+    ascending, deepest_member, member_of_strings, member_with_cells, member_with_nested_categories,
+    shuffled,
+};
+use digarumbi_versus::look_check::LookCheck;
+use digarumbi_versus::member_check::MemberCheck;
+use digarumbi_versus::stored;
+use digarumbi_versus::unit_check;
+
+const GENERATED_MEMBERS: u64 = 70_000;
+const GENERATED_LOOKS: u64 = 25_000;
+
+/// The refusal numbers that these functions can give. 16 is not among them: it is the writer's
+/// for looks that no file gives.
+const MEMBER_NUMBERS: [u32; 13] = [1, 2, 3, 4, 5, 6, 7, 8, 9, 10, 11, 12, 13];
+const LOOK_NUMBERS: [u32; 8] = [2, 3, 4, 5, 7, 11, 14, 15];
+
+fn main() -> ExitCode {
+    let seed = env::args().nth(1).map_or(Ok(1), |seed| seed.parse());
+    match run(seed.expect("usage: differential [SEED]")) {
+        Ok(()) => ExitCode::SUCCESS,
+        Err(difference) => {
+            println!("DIFFERENT: {difference}");
+            ExitCode::FAILURE
+        }
+    }
+}
+
+fn run(seed: u64) -> Result<(), Difference> {
+    let members = members(seed)?;
+    println!("{} members: {}", members.members.total(), members.members);
+    println!("{} readings of them: {}", members.readings.total(), members.readings);
+    let looks = looks(seed)?;
+    println!("{} looks: {}", looks.looks.total(), looks.looks);
+    println!("{} rewritings of them: {}", looks.rewritten.total(), looks.rewritten);
+    println!("{} numbers as points, pixels and font sizes", unit_check::check(seed)?);
+    members.readings.all_seen(&MEMBER_NUMBERS)?;
+    looks.rewritten.all_seen(&LOOK_NUMBERS)?;
+    println!("no difference");
+    Ok(())
+}
+
+fn members(seed: u64) -> Result<MemberCheck, Difference> {
+    let mut inputs = Inputs::new(MemberCheck::new(seed), seed);
+    for case in vectors::cases() {
+        inputs.whole(&case.name, &case.bytes)?;
+    }
+    for (name, bytes) in large_members() {
+        inputs.whole(name, &bytes)?;
+    }
+    inputs.stored(&stored::members())?;
+    inputs.stored_cut(&stored::real_members())?;
+    inputs.generated(GENERATED_MEMBERS, |random| member(random).bytes)?;
+    Ok(inputs.check)
+}
+
+/// Members at the limits and past them.
+fn large_members() -> Vec<(&'static str, Vec<u8>)> {
+    let mut repeated = shuffled(4_096);
+    repeated[4_095] = repeated[0];
+    vec![
+        ("4,096 cells", member_with_cells(&ascending(4_096))),
+        ("4,096 cells, shuffled", member_with_cells(&shuffled(4_096))),
+        ("4,096 cells, the last one repeated", member_with_cells(&repeated)),
+        ("4,097 cells", member_with_cells(&ascending(4_097))),
+        ("4,096 nodes", member_with_nested_categories(4_096)),
+        ("4,104 nodes", member_with_nested_categories(4_104)),
+        ("categories and values nested 8 deep", deepest_member()),
+        ("the longest member", member_of_strings(MEMBER_BYTES)),
+        ("a member one byte too long", member_of_strings(MEMBER_BYTES + 1)),
+    ]
+}
+
+fn looks(seed: u64) -> Result<LookCheck, Difference> {
+    let mut inputs = Inputs::new(LookCheck::default(), seed);
+    inputs.stored(&stored::looks())?;
+    inputs.stored_cut(&stored::looks())?;
+    inputs.generated(GENERATED_LOOKS, look_bytes)?;
+    Ok(inputs.check)
+}

@@ -1,0 +1,91 @@
+//! The smallest stack of a thread in which the library reads members, and looks.
+//!
+//! Usage: stack; it runs itself as `stack WORK KIB`, which ends without a result where a stack of
+//! that size is too small.
+
+use std::env;
+use std::process::{Command, Stdio};
+use std::thread;
+
+use digarumbi::lent::{self, CELL_AREA, LONGEST_LOOK, LOOK_ANSWER, MEMBER_ANSWER, NODE_AREA};
+use digarumbi_bench::limits::MEMBER_BYTES;
+use digarumbi_versus::large::{
+    deepest_member, member_of_strings, member_with_cells, member_with_nested_categories, shuffled,
+};
+use digarumbi_versus::stored;
+
+/// Least that is tried, which every thread has, the most, and the step, in KiB.
+const LEAST: usize = 16;
+const MOST: usize = 8_192;
+const STEP: usize = 4;
+
+const WORK: [&str; 3] = ["nothing", "members", "looks"];
+
+fn main() {
+    let arguments: Vec<String> = env::args().skip(1).collect();
+    match arguments.as_slice() {
+        [] => WORK.iter().for_each(|work| println!("{work}: {} KiB", smallest_stack(work))),
+        [work, kib] => run(work, kib.parse().expect("a number of KiB")),
+        _ => panic!("usage: stack"),
+    }
+}
+
+/// The smallest stack with which the work ends, by bisection.
+fn smallest_stack(work: &str) -> usize {
+    let (mut too_small, mut enough) = (LEAST / STEP - 1, MOST / STEP);
+    while enough - too_small > 1 {
+        let tried = (too_small + enough) / 2;
+        if ends(work, STEP * tried) {
+            enough = tried;
+        } else {
+            too_small = tried;
+        }
+    }
+    STEP * enough
+}
+
+/// Whether a process that does the work with a stack of this size ends well.
+fn ends(work: &str, kib: usize) -> bool {
+    let program = env::current_exe().expect("the path of this program");
+    let status =
+        Command::new(program).args([work, &kib.to_string()]).stderr(Stdio::null()).status();
+    status.is_ok_and(|status| status.success())
+}
+
+fn run(work: &str, kib: usize) {
+    // The inputs are made outside the small stack.
+    let inputs = match work {
+        "members" => members(),
+        "looks" => stored::looks().into_iter().map(|look| look.bytes).collect(),
+        _ => Vec::new(),
+    };
+    let read = if work == "members" { read_members } else { read_looks };
+    let thread = thread::Builder::new().stack_size(1_024 * kib).spawn(move || read(&inputs));
+    thread.expect("a thread").join().expect("a thread that ends");
+}
+
+fn members() -> Vec<Vec<u8>> {
+    let mut members: Vec<Vec<u8>> =
+        stored::members().into_iter().map(|member| member.bytes).collect();
+    members.push(deepest_member());
+    members.push(member_with_cells(&shuffled(4_096)));
+    members.push(member_with_nested_categories(4_096));
+    members.push(member_of_strings(MEMBER_BYTES));
+    members
+}
+
+fn read_members(members: &[Vec<u8>]) {
+    let mut answer = vec![0; MEMBER_ANSWER];
+    let (mut nodes, mut cells) = (vec![0; NODE_AREA], vec![0; CELL_AREA]);
+    for member in members {
+        lent::read_member(member, &mut answer, &mut nodes, &mut cells);
+    }
+}
+
+fn read_looks(looks: &[Vec<u8>]) {
+    let (mut out, mut answer) = (vec![0; LONGEST_LOOK], vec![0; LOOK_ANSWER]);
+    for look in looks {
+        lent::read_look(look, &mut answer);
+        lent::rewrite_look(look, &mut out, &mut answer);
+    }
+}

@@ -1,0 +1,15 @@
+//! The proved library beside the readers of `digarumbi_bench`: what both answer, and how long
+//! they take.
+
+pub mod area;
+pub mod difference;
+pub mod inputs;
+pub mod large;
+pub mod look_check;
+pub mod member_check;
+pub mod stored;
+pub mod table_check;
+pub mod tally;
+pub mod timing;
+pub mod unit_check;
+pub mod words;

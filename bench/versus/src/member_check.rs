@@ -1,0 +1,219 @@
+//! One member, read by both readers with lent areas of several lengths.
+
+use digarumbi::lent::{self, CELL_AREA, CELL_RECORD, MEMBER_ANSWER, NODE_AREA, NODE_RECORD};
+use digarumbi_bench::member::{read_member, Answer};
+use digarumbi_bench::random::Random;
+use digarumbi_bench::refusal::{CELL_AREA as CELLS_DO_NOT_FIT, NODE_AREA as NODES_DO_NOT_FIT};
+
+use crate::area::Area;
+use crate::difference::Difference;
+use crate::inputs::Check;
+use crate::table_check::check_table;
+use crate::tally::Tally;
+use crate::words;
+
+/// Every so many members are also read with the areas that always suffice.
+const FULL_AREAS_EVERY: u64 = 32;
+/// Most nodes of a member whose names are asked for.
+const NAMES_ASKED: usize = 40;
+
+/// Numbers of nodes and cells.
+#[derive(Clone, Copy, Default)]
+struct Counts {
+    nodes: usize,
+    cells: usize,
+}
+
+/// Lengths of the lent areas, in words.
+#[derive(Clone, Copy, Debug)]
+struct Lengths {
+    answer: usize,
+    nodes: usize,
+    cells: usize,
+}
+
+struct Areas {
+    answer: Area<u32>,
+    nodes: Area<u32>,
+    cells: Area<u32>,
+}
+
+impl Areas {
+    fn new() -> Areas {
+        let [answer, nodes, cells] = ["answer", "nodes", "cells"].map(Area::words);
+        Areas { answer, nodes, cells }
+    }
+
+    fn fill(&mut self, lengths: Lengths) {
+        self.answer.fill(lengths.answer);
+        self.nodes.fill(lengths.nodes);
+        self.cells.fill(lengths.cells);
+    }
+
+    /// Reads by the independent reader.
+    fn read(&mut self, member: &[u8]) -> Answer {
+        let answer = read_member(member, self.nodes.lent(), self.cells.lent());
+        let words = words::member_answer(&answer);
+        self.answer.lent()[..words.len()].copy_from_slice(&words);
+        answer
+    }
+
+    fn compare(&self, expected: &Areas) -> Result<(), Difference> {
+        self.answer.compare(&expected.answer)?;
+        self.nodes.compare(&expected.nodes)?;
+        self.cells.compare(&expected.cells)
+    }
+}
+
+pub struct MemberCheck {
+    expected: Areas,
+    found: Areas,
+    random: Random,
+    /// What members got with areas of the right lengths.
+    pub members: Tally,
+    /// What all readings got.
+    pub readings: Tally,
+}
+
+impl Check for MemberCheck {
+    fn check(&mut self, member: &[u8], original: &[u8]) -> Result<(), Difference> {
+        // A refused member gets areas as long as those of the member it was made from.
+        let counts = counts(member).or_else(|| counts(original)).unwrap_or_default();
+        let (nodes, cells) = (NODE_RECORD * counts.nodes, CELL_RECORD * counts.cells);
+        let exact = Lengths { answer: MEMBER_ANSWER, nodes, cells };
+        for lengths in self.lengths(exact) {
+            self.compare(member, lengths)?;
+        }
+        let answer = self.compare(member, exact)?.expect("an answer area of the right length");
+        self.members.count(answer.refusal);
+        if answer.refusal == 0 {
+            self.check_names(member, counts)?;
+            check_table(member, &answer, self.expected.nodes.lent(), self.expected.cells.lent())?;
+        }
+        self.check_parts(member)
+    }
+
+    /// The start, and the first dimension: most damage before it is refused before it.
+    fn damage_starts(&self, original: &[u8]) -> Vec<usize> {
+        let answer = read_member(original, &mut [0; NODE_AREA], &mut [0; CELL_AREA]);
+        vec![0, answer.dimensions[0].name_place as usize]
+    }
+}
+
+impl MemberCheck {
+    pub fn new(seed: u64) -> MemberCheck {
+        MemberCheck {
+            expected: Areas::new(),
+            found: Areas::new(),
+            random: Random::new(seed),
+            members: Tally::default(),
+            readings: Tally::default(),
+        }
+    }
+
+    /// Lengths other than the exact ones: the areas one word short, empty and larger.
+    fn lengths(&mut self, exact: Lengths) -> Vec<Lengths> {
+        let short = |words: usize| words.saturating_sub(1);
+        let mut lengths = vec![
+            Lengths { answer: exact.answer - 1, ..exact },
+            Lengths { answer: 0, ..exact },
+            Lengths { nodes: short(exact.nodes), ..exact },
+            Lengths { cells: short(exact.cells), ..exact },
+            Lengths { nodes: 0, cells: 0, ..exact },
+            Lengths {
+                answer: exact.answer + 1 + self.random.size(20),
+                nodes: exact.nodes + 1 + self.random.size(20),
+                cells: exact.cells + 1 + self.random.size(20),
+            },
+        ];
+        if self.members.total() % FULL_AREAS_EVERY == 0 {
+            lengths.push(Lengths { nodes: NODE_AREA, cells: CELL_AREA, ..exact });
+        }
+        lengths
+    }
+
+    /// Reads by both readers with areas of these lengths. Gives the independent reader's answer,
+    /// or nothing if the area for it is too short.
+    fn compare(&mut self, member: &[u8], lengths: Lengths) -> Result<Option<Answer>, Difference> {
+        let answer = self
+            .read_both(member, lengths)
+            .map_err(|difference| difference.with(format_args!("{lengths:?} in words")))?;
+        if let Some(answer) = answer {
+            self.readings.count(answer.refusal);
+        }
+        Ok(answer)
+    }
+
+    fn read_both(&mut self, member: &[u8], lengths: Lengths) -> Result<Option<Answer>, Difference> {
+        self.expected.fill(lengths);
+        self.found.fill(lengths);
+        let answer = (lengths.answer >= MEMBER_ANSWER).then(|| self.expected.read(member));
+        let expected = answer.map_or(0, |_| MEMBER_ANSWER);
+        let Areas { answer: words, nodes, cells } = &mut self.found;
+        let found = lent::read_member(member, words.lent(), nodes.lent(), cells.lent());
+        Difference::compare("returned", &expected, &found)?;
+        self.found.compare(&self.expected)?;
+        Ok(answer)
+    }
+
+    /// The names of an accepted member's nodes, and what node areas with any words get.
+    fn check_names(&mut self, member: &[u8], counts: Counts) -> Result<(), Difference> {
+        let nodes = self.expected.nodes.lent();
+        for i in 0..=counts.nodes.min(NAMES_ASKED) {
+            check_name(member, nodes, i)?;
+        }
+        let last = counts.nodes.saturating_sub(1);
+        check_name(member, &nodes[..nodes.len().saturating_sub(1)], last)?;
+        check_name(member, nodes, usize::MAX)?;
+        let words: Vec<u32> =
+            (0..self.random.size(20)).map(|_| self.number(member.len()) as u32).collect();
+        (0..5).try_for_each(|i| check_name(member, &words, i))
+    }
+
+    fn check_parts(&mut self, member: &[u8]) -> Result<(), Difference> {
+        for _ in 0..4 {
+            let (place, length) = (self.number(member.len()), self.number(member.len()));
+            let end = place.checked_add(length);
+            let inside = end.is_some_and(|end| end <= member.len());
+            let expected = if inside { length } else { 0 };
+            let found = lent::part(member, place, length);
+            Difference::compare(format_args!("part {place} {length}"), &expected, &found)?;
+        }
+        Ok(())
+    }
+
+    /// A number, often near 0, a member's length or the largest.
+    fn number(&mut self, length: usize) -> usize {
+        let near = self.random.size(3);
+        match self.random.below(4) {
+            0 => near,
+            1 => (length + 1).saturating_sub(near),
+            2 => usize::MAX - near,
+            _ => self.random.size(length),
+        }
+    }
+}
+
+/// The counts of a member that is accepted if the areas are large enough.
+fn counts(member: &[u8]) -> Option<Counts> {
+    let answer = read_member(member, &mut [], &mut []);
+    matches!(answer.refusal, 0 | NODES_DO_NOT_FIT | CELLS_DO_NOT_FIT)
+        .then_some(Counts { nodes: answer.node_count as usize, cells: answer.cell_count as usize })
+}
+
+/// Place and length of a name, both 0 if there is no record `i` or it points outside the member.
+fn expected_name(member: &[u8], nodes: &[u32], i: usize) -> (usize, usize) {
+    let Some(record) = nodes.chunks_exact(NODE_RECORD).nth(i) else { return (0, 0) };
+    let (place, length) = (record[3] as usize, record[4] as usize);
+    if place + length <= member.len() {
+        (place, length)
+    } else {
+        (0, 0)
+    }
+}
+
+fn check_name(member: &[u8], nodes: &[u32], i: usize) -> Result<(), Difference> {
+    let expected = expected_name(member, nodes, i);
+    let found = lent::node_name(member, nodes, i);
+    Difference::compare(format_args!("name of node {i} in {nodes:?}"), &expected, &found)
+}

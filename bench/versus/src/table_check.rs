@@ -1,0 +1,70 @@
+//! The table that the Rust bindings make of an accepted member.
+
+use digarumbi::{Axes, Cell, Dimension, Node, NodeKind, Table};
+use digarumbi_bench::member::{Answer, CELL_WORDS, NODE_WORDS};
+
+use crate::difference::Difference;
+
+/// Compares the bindings' table with the independent reader's answer and records.
+pub fn check_table(
+    member: &[u8],
+    answer: &Answer,
+    nodes: &[u32],
+    cells: &[u32],
+) -> Result<(), Difference> {
+    let expected = Table {
+        dimensions: dimensions(member, answer),
+        axes: axes(answer),
+        nodes: nodes.chunks(NODE_WORDS).map(|record| node(member, record)).collect(),
+        cells: cells.chunks(CELL_WORDS).map(|record| cell(member, record)).collect(),
+    };
+    Difference::compare("the bindings' table", &Ok(expected), &digarumbi::read_member(member))
+}
+
+fn span(member: &[u8], place: u32, length: u32) -> &[u8] {
+    &member[place as usize..][..length as usize]
+}
+
+fn dimensions<'a>(member: &'a [u8], answer: &Answer) -> Vec<Dimension<'a>> {
+    let count = answer.dimension_count as usize;
+    (0..count)
+        .map(|i| {
+            let entry = answer.dimensions[i];
+            let last = i + 1 == count;
+            let end = if last { answer.node_count } else { answer.dimensions[i + 1].first_node };
+            Dimension {
+                name: span(member, entry.name_place, entry.name_length),
+                n: entry.leaves,
+                nodes: entry.first_node as usize..end as usize,
+            }
+        })
+        .collect()
+}
+
+fn axes(answer: &Answer) -> Axes {
+    let [layers, rows, columns] = answer.axis_counts.map(|count| count as usize);
+    let order = answer.axis_order.map(|dimension| dimension as usize);
+    Axes {
+        layers: order[..layers].to_vec(),
+        rows: order[layers..][..rows].to_vec(),
+        columns: order[layers + rows..][..columns].to_vec(),
+    }
+}
+
+fn node<'a>(member: &'a [u8], record: &[u32]) -> Node<'a> {
+    let kind = if record[0] == 0 {
+        NodeKind::Leaf { index: record[5] }
+    } else {
+        NodeKind::Group { children: record[5] }
+    };
+    Node {
+        name: span(member, record[3], record[4]),
+        kind,
+        dimension: record[1] as usize,
+        parent: (record[2] != u32::MAX).then_some(record[2] as usize),
+    }
+}
+
+fn cell<'a>(member: &'a [u8], record: &[u32]) -> Cell<'a> {
+    Cell { index: record[0], value: span(member, record[1], record[2]) }
+}

@@ -1,0 +1,55 @@
+//! The C functions, as `include/digarumbi.h` declares them.
+//!
+//! A pointer with a length points to that many elements and is not null. An area that is written
+//! overlaps nothing else that the call is given.
+
+extern "C" {
+    pub fn digarumbi_read_member(
+        member: *const u8,
+        member_length: usize,
+        answer: *mut u32,
+        answer_words: usize,
+        nodes: *mut u32,
+        node_words: usize,
+        cells: *mut u32,
+        cell_words: usize,
+    ) -> usize;
+
+    pub fn digarumbi_node_name(
+        member: *const u8,
+        member_length: usize,
+        nodes: *const u32,
+        node_words: usize,
+        i: usize,
+        place: *mut usize,
+    ) -> usize;
+
+    pub fn digarumbi_part(
+        member: *const u8,
+        member_length: usize,
+        place: usize,
+        length: usize,
+    ) -> usize;
+
+    pub fn digarumbi_read_look(
+        file: *const u8,
+        file_length: usize,
+        answer: *mut u32,
+        answer_words: usize,
+    ) -> usize;
+
+    pub fn digarumbi_rewrite_look(
+        file: *const u8,
+        file_length: usize,
+        out: *mut u8,
+        out_length: usize,
+        answer: *mut u32,
+        answer_words: usize,
+    ) -> usize;
+
+    pub fn digarumbi_pt_to_px(points: u32, pixels: *mut u32) -> u32;
+
+    pub fn digarumbi_px_to_pt(pixels: u32, points: *mut u32) -> u32;
+
+    pub fn digarumbi_font_height(size: i32, height: *mut u32) -> u32;
+}

@@ -1,0 +1,19 @@
+//! Reads version 3 light detail members and binary table looks (.tlo).
+//!
+//! The work is done by a library in which every function is proved to meet its contract. This
+//! crate declares its functions ([`ffi`]), calls them on slices ([`lent`]), and turns their
+//! answers into Rust types ([`read_member`], [`Look`]). Nothing checks these declarations against
+//! the library; `bench/versus` compares what comes back with an independent reader.
+
+pub mod ffi;
+pub mod lent;
+mod look;
+mod refusal;
+mod table;
+mod units;
+pub mod value_text;
+
+pub use look::{rewrite_look, Area, Frame, Look, Separator, Separators, V2Styles};
+pub use refusal::Refusal;
+pub use table::{part, read_member, Axes, Cell, Dimension, Node, NodeKind, Table};
+pub use units::{font_height, Pt, Px};

@@ -1,0 +1,135 @@
+//! Binary table looks.
+//!
+//! The fields are those of source document 002, under its names.
+
+mod words;
+
+use crate::lent::{self, LONGEST_LOOK, LOOK_ANSWER, REWRITE_ANSWER};
+use crate::Refusal;
+use words::Words;
+
+#[derive(Clone, Debug, PartialEq, Eq)]
+pub struct Look {
+    /// 0 or 2.
+    pub version: u8,
+    pub flags: u16,
+    pub nested_row_labels: bool,
+    pub footnote_marker_subscripts: bool,
+    pub rows: Separators,
+    pub columns: Separators,
+    pub title: Area,
+    pub layers: Area,
+    pub corner: Area,
+    pub row_labels: Area,
+    pub column_labels: Area,
+    pub data: Area,
+    pub caption: Area,
+    pub footer: Area,
+    /// Zero, empty and not drawn in version 00, whose files do not have it.
+    pub v2: V2Styles,
+}
+
+/// The separators of rows or of columns.
+#[derive(Clone, Debug, PartialEq, Eq)]
+pub struct Separators {
+    pub horizontal_dimension: Separator,
+    pub vertical_dimension: Separator,
+    pub horizontal_category: Separator,
+    pub vertical_category: Separator,
+}
+
+#[derive(Clone, Copy, Debug, PartialEq, Eq)]
+pub enum Separator {
+    NotDrawn,
+    Drawn { color: u32, style: u16, width: u16 },
+}
+
+#[derive(Clone, Debug, PartialEq, Eq)]
+pub struct Area {
+    pub color10: u32,
+    pub color0: u32,
+    /// 0 is pure `color0`, 10 pure `color10`.
+    pub shading: u8,
+    pub valign: u16,
+    pub halign: u16,
+    /// In 20ths of a point, as the margins.
+    pub decimal_offset: u16,
+    pub left_margin: u16,
+    pub right_margin: u16,
+    pub top_margin: u16,
+    pub bottom_margin: u16,
+    /// In negative 96ths of an inch; see [`font_height`](crate::font_height).
+    pub font_size: i32,
+    pub stretch: u16,
+    pub rotation_angle: u32,
+    pub weight: u16,
+    pub italic: bool,
+    pub underline: bool,
+    pub strikethrough: bool,
+    pub rtf_charset_number: u32,
+    pub x: u8,
+    pub font_name: Vec<u8>,
+    pub text_color: u32,
+}
+
+#[derive(Clone, Debug, PartialEq, Eq)]
+pub struct V2Styles {
+    pub title: Separator,
+    pub inner_frame: Frame,
+    pub outer_frame: Frame,
+    pub data_left: Separator,
+    pub data_top: Separator,
+    pub continuation: Vec<u8>,
+    /// In points, as the other three.
+    pub min_col_width: u32,
+    pub max_col_width: u32,
+    pub min_row_height: u32,
+    pub max_row_height: u32,
+}
+
+#[derive(Clone, Debug, PartialEq, Eq)]
+pub struct Frame {
+    pub left: Separator,
+    pub right: Separator,
+    pub top: Separator,
+    pub bottom: Separator,
+}
+
+impl Look {
+    /// Reads a look.
+    ///
+    /// ```
+    /// let file = std::fs::read("../../examples/look_02.tlo")?;
+    /// let look = digarumbi::Look::read(&file)?;
+    /// assert_eq!(look.version, 2);
+    /// # Ok::<(), Box<dyn std::error::Error>>(())
+    /// ```
+    pub fn read(file: &[u8]) -> Result<Look, Refusal> {
+        let mut answer = [0; LOOK_ANSWER];
+        lent::read_look(file, &mut answer);
+        let [number, place, look @ ..] = &answer;
+        match number {
+            0 => Ok(Words::new(look, file).look()),
+            _ => Err(Refusal::new(*number, *place)),
+        }
+    }
+}
+
+/// Reads a look and writes it; an accepted file is written back byte for byte.
+///
+/// ```
+/// let file = std::fs::read("../../examples/look_02.tlo")?;
+/// assert_eq!(digarumbi::rewrite_look(&file)?, file);
+/// # Ok::<(), Box<dyn std::error::Error>>(())
+/// ```
+pub fn rewrite_look(file: &[u8]) -> Result<Vec<u8>, Refusal> {
+    let mut out = vec![0; LONGEST_LOOK];
+    let mut answer = [0; REWRITE_ANSWER];
+    lent::rewrite_look(file, &mut out, &mut answer);
+    let [number, place, length] = answer;
+    if number != 0 {
+        return Err(Refusal::new(number, place));
+    }
+    out.truncate(length as usize);
+    Ok(out)
+}

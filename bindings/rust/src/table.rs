@@ -1,0 +1,208 @@
+//! Members: the table that an accepted one holds.
+
+use std::ops::Range;
+
+use crate::lent::{self, CELL_AREA, CELL_RECORD, MEMBER_ANSWER, NODE_AREA, NODE_RECORD};
+use crate::Refusal;
+
+/// First word of the dimensions in an answer, and the words of each.
+const DIMENSIONS: usize = 8;
+const DIMENSION_WORDS: usize = 4;
+/// First word of the axis order in an answer.
+const AXIS_ORDER: usize = 72;
+/// What stands for the parent of a node that has none.
+const NO_PARENT: u32 = u32::MAX;
+
+/// What an accepted member holds. Names and cell values are Values of source document 003, as
+/// they stand in the member; `value_text` makes a text of most.
+#[derive(Clone, Debug, PartialEq, Eq)]
+pub struct Table<'a> {
+    pub dimensions: Vec<Dimension<'a>>,
+    pub axes: Axes,
+    /// The nodes of all dimensions, in file order.
+    pub nodes: Vec<Node<'a>>,
+    /// The cells, in file order.
+    pub cells: Vec<Cell<'a>>,
+}
+
+#[derive(Clone, Debug, PartialEq, Eq)]
+pub struct Dimension<'a> {
+    pub name: &'a [u8],
+    /// Number of leaf categories at any depth.
+    pub n: u32,
+    /// Its nodes, by their numbers in the table.
+    pub nodes: Range<usize>,
+}
+
+/// A leaf category, or a group of categories.
+#[derive(Clone, Debug, PartialEq, Eq)]
+pub struct Node<'a> {
+    pub name: &'a [u8],
+    pub kind: NodeKind,
+    /// Number of its dimension.
+    pub dimension: usize,
+    /// Number of the group it stands in.
+    pub parent: Option<usize>,
+}
+
+#[derive(Clone, Copy, Debug, PartialEq, Eq)]
+pub enum NodeKind {
+    Leaf {
+        index: u32,
+    },
+    /// `children` is the number of direct children.
+    Group {
+        children: u32,
+    },
+}
+
+#[derive(Clone, Debug, PartialEq, Eq)]
+pub struct Cell<'a> {
+    pub index: u32,
+    pub value: &'a [u8],
+}
+
+/// The dimensions on each axis, inner ones first.
+#[derive(Clone, Debug, PartialEq, Eq)]
+pub struct Axes {
+    pub layers: Vec<usize>,
+    pub rows: Vec<usize>,
+    pub columns: Vec<usize>,
+}
+
+/// Reads a member.
+///
+/// ```
+/// let member = std::fs::read("../../examples/spine_18.bin")?;
+/// let table = digarumbi::read_member(&member)?;
+/// assert_eq!((table.dimensions.len(), table.nodes.len(), table.cells.len()), (2, 9, 10));
+///
+/// let refusal = digarumbi::read_member(&member[..1_000]).unwrap_err();
+/// assert_eq!(refusal.to_string(), "refused 2 at 911");
+/// # Ok::<(), Box<dyn std::error::Error>>(())
+/// ```
+pub fn read_member(member: &[u8]) -> Result<Table<'_>, Refusal> {
+    let mut answer = [0; MEMBER_ANSWER];
+    let mut nodes = vec![0; NODE_AREA];
+    let mut cells = vec![0; CELL_AREA];
+    lent::read_member(member, &mut answer, &mut nodes, &mut cells);
+    let [number, place, dimension_count, node_count, cell_count, ..] = answer;
+    if number != 0 {
+        return Err(Refusal { number, place, nodes: node_count, cells: cell_count });
+    }
+    nodes.truncate(NODE_RECORD * node_count as usize);
+    cells.truncate(CELL_RECORD * cell_count as usize);
+    Ok(Table {
+        dimensions: dimensions(member, &answer, dimension_count as usize, node_count as usize),
+        axes: axes(&answer),
+        nodes: node_records(member, &nodes),
+        cells: cells.chunks(CELL_RECORD).map(|record| cell(member, record)).collect(),
+    })
+}
+
+/// The part of the member at `place`; the empty part if it does not lie inside.
+///
+/// ```
+/// assert_eq!(digarumbi::part(b"member", 2, 3), b"mbe");
+/// assert_eq!(digarumbi::part(b"member", 2, 5), b"");
+/// ```
+pub fn part(member: &[u8], place: usize, length: usize) -> &[u8] {
+    match lent::part(member, place, length) {
+        0 => &[],
+        length => &member[place..place + length],
+    }
+}
+
+fn dimensions<'a>(
+    member: &'a [u8],
+    answer: &[u32; MEMBER_ANSWER],
+    count: usize,
+    node_count: usize,
+) -> Vec<Dimension<'a>> {
+    let records: Vec<&[u32]> =
+        answer[DIMENSIONS..AXIS_ORDER].chunks(DIMENSION_WORDS).take(count).collect();
+    let first_nodes = records.iter().map(|record| record[3] as usize);
+    let ends = first_nodes.clone().skip(1).chain([node_count]);
+    let ranges = first_nodes.zip(ends).map(|(first, end)| first..end);
+    let dimension = |(record, nodes): (&&[u32], _)| Dimension {
+        name: part(member, record[0] as usize, record[1] as usize),
+        n: record[2],
+        nodes,
+    };
+    records.iter().zip(ranges).map(dimension).collect()
+}
+
+fn axes(answer: &[u32; MEMBER_ANSWER]) -> Axes {
+    let mut order = answer[AXIS_ORDER..].iter().map(|&dimension| dimension as usize);
+    let mut axis = |count: u32| order.by_ref().take(count as usize).collect();
+    Axes { layers: axis(answer[5]), rows: axis(answer[6]), columns: axis(answer[7]) }
+}
+
+fn node_records<'a>(member: &'a [u8], nodes: &[u32]) -> Vec<Node<'a>> {
+    nodes
+        .chunks(NODE_RECORD)
+        .enumerate()
+        .map(|(i, record)| {
+            let (place, length) = lent::node_name(member, nodes, i);
+            node(&member[place..place + length], record)
+        })
+        .collect()
+}
+
+fn node<'a>(name: &'a [u8], record: &[u32]) -> Node<'a> {
+    let kind = match record[0] {
+        0 => NodeKind::Leaf { index: record[5] },
+        _ => NodeKind::Group { children: record[5] },
+    };
+    let parent = Some(record[2]).filter(|&parent| parent != NO_PARENT);
+    Node { name, kind, dimension: record[1] as usize, parent: parent.map(|parent| parent as usize) }
+}
+
+fn cell<'a>(member: &'a [u8], record: &[u32]) -> Cell<'a> {
+    Cell { index: record[0], value: part(member, record[1] as usize, record[2] as usize) }
+}
+
+impl<'a> Table<'a> {
+    /// The categories of a dimension and their groups, in file order.
+    pub fn categories(&self, dimension: usize) -> &[Node<'a>] {
+        &self.nodes[self.dimensions[dimension].nodes.clone()]
+    }
+
+    /// How many groups a node stands in.
+    pub fn depth(&self, node: &Node) -> usize {
+        let parent = |node: &Node| node.parent.map(|parent| &self.nodes[parent]);
+        std::iter::successors(parent(node), |node| parent(node)).count()
+    }
+
+    /// The coordinates of a cell: in each dimension the leaf index of its category.
+    /// The index is k = n_i * k + x_i, i from the first dimension to the last (003, Cells).
+    pub fn coordinates(&self, cell: &Cell) -> Vec<u32> {
+        let mut k = cell.index;
+        let mut coordinates: Vec<u32> = Vec::with_capacity(self.dimensions.len());
+        for dimension in self.dimensions.iter().rev() {
+            coordinates.push(k % dimension.n);
+            k /= dimension.n;
+        }
+        coordinates.reverse();
+        coordinates
+    }
+
+    /// The cells under a leaf category: those with its leaf index as coordinate in its dimension.
+    ///
+    /// ```
+    /// let member = std::fs::read("../../examples/spine_18.bin")?;
+    /// let table = digarumbi::read_member(&member)?;
+    /// let indexes: Vec<u32> = table.cells_under(0, 3).map(|cell| cell.index).collect();
+    /// assert_eq!(indexes, [6, 7]);
+    /// # Ok::<(), Box<dyn std::error::Error>>(())
+    /// ```
+    pub fn cells_under(
+        &self,
+        dimension: usize,
+        leaf_index: u32,
+    ) -> impl Iterator<Item = &Cell<'a>> + '_ {
+        self.cells
+            .iter()
+            .filter(move |cell| self.coordinates(cell).get(dimension) == Some(&leaf_index))
+    }
+}

@@ -1,0 +1,103 @@
+//! A real member, examples/spine_18.bin: coefficients of a regression.
+
+use digarumbi::value_text::value_text;
+use digarumbi::{lent, part, read_member, Axes, NodeKind, Table};
+
+const MEMBER: &[u8] = include_bytes!("../../../examples/spine_18.bin");
+
+fn table() -> Table<'static> {
+    read_member(MEMBER).expect("an accepted member")
+}
+
+#[test]
+fn dimensions_and_axes() {
+    let table = table();
+    let dimensions: Vec<_> =
+        table.dimensions.iter().map(|d| (value_text(d.name), d.n, d.nodes.clone())).collect();
+    let expected = [("Statistics".to_string(), 5, 0..7), ("Variables".to_string(), 2, 7..9)];
+    assert_eq!(dimensions, expected);
+    assert_eq!(table.axes, Axes { layers: vec![], rows: vec![1], columns: vec![0] });
+}
+
+#[test]
+fn categories_in_file_order() {
+    let table = table();
+    let nodes: Vec<_> = table
+        .categories(0)
+        .iter()
+        .map(|node| (table.depth(node), value_text(node.name), node.kind, node.parent))
+        .collect();
+    let leaf = |index| NodeKind::Leaf { index };
+    let group = |children| NodeKind::Group { children };
+    let expected = [
+        (0, "Unstandardized Coefficients", group(2), None),
+        (1, "B", leaf(0), Some(0)),
+        (1, "Std. Error", leaf(1), Some(0)),
+        (0, "Standardized Coefficients", group(1), None),
+        (1, "Beta", leaf(2), Some(3)),
+        (0, "t", leaf(3), None),
+        (0, "Sig.", leaf(4), None),
+    ]
+    .map(|(depth, name, kind, parent)| (depth, name.to_string(), kind, parent));
+    assert_eq!(nodes, expected);
+    assert!(table.nodes.iter().enumerate().all(|(i, node)| node.dimension == usize::from(i >= 7)));
+}
+
+#[test]
+fn cells_and_their_coordinates() {
+    let table = table();
+    let indexes: Vec<u32> = table.cells.iter().map(|cell| cell.index).collect();
+    assert_eq!(indexes, [2, 5, 9, 6, 7, 0, 8, 1, 3, 4]);
+    assert_eq!(table.coordinates(&table.cells[2]), [4, 1]);
+    assert_eq!(value_text(table.cells[9].value), "0");
+    for cell in &table.cells {
+        let k = table
+            .coordinates(cell)
+            .iter()
+            .zip(&table.dimensions)
+            .fold(0, |k, (x, dimension)| dimension.n * k + x);
+        assert_eq!(k, cell.index);
+    }
+}
+
+#[test]
+fn each_cell_is_under_one_leaf_of_each_dimension() {
+    let table = table();
+    for (number, dimension) in table.dimensions.iter().enumerate() {
+        let found: usize =
+            (0..dimension.n).map(|leaf| table.cells_under(number, leaf).count()).sum();
+        assert_eq!(found, table.cells.len());
+    }
+    assert_eq!(table.cells_under(0, 5).count(), 0);
+    assert_eq!(table.cells_under(2, 0).count(), 0);
+}
+
+#[test]
+fn refusals() {
+    assert_eq!(read_member(&[]).unwrap_err().to_string(), "refused 2 at 0");
+    assert_eq!(read_member(&[1, 0, 1, 0, 0, 0]).unwrap_err().to_string(), "refused 4 at 2");
+    let longer = [MEMBER, &[0]].concat();
+    assert_eq!(read_member(&longer).unwrap_err().to_string(), "refused 11 at 2456");
+}
+
+#[test]
+fn lent_areas_that_are_too_small() {
+    let refused = |node_words: usize, cell_words: usize| {
+        let mut answer = [7; lent::MEMBER_ANSWER];
+        let (mut nodes, mut cells) = (vec![7; node_words], vec![7; cell_words]);
+        assert_eq!(lent::read_member(MEMBER, &mut answer, &mut nodes, &mut cells), answer.len());
+        assert!(nodes.iter().chain(&cells).all(|&word| word == 7));
+        answer[..5].to_vec()
+    };
+    assert_eq!(refused(53, 30), [12, 0, 0, 9, 10]);
+    assert_eq!(refused(54, 29), [13, 0, 0, 9, 10]);
+    assert_eq!(lent::read_member(MEMBER, &mut [7; 87], &mut [], &mut []), 0);
+}
+
+#[test]
+fn parts() {
+    assert_eq!(part(MEMBER, 0, 2), [1, 0]);
+    assert_eq!(part(MEMBER, MEMBER.len() - 1, 1), [0]);
+    assert_eq!(part(MEMBER, MEMBER.len(), 1), []);
+    assert_eq!(part(MEMBER, usize::MAX, usize::MAX), []);
+}

@@ -1,0 +1,182 @@
+/* Digarumbi: reads version 3 light detail members and binary table looks (.tlo).
+ *
+ * "01", "002" and "003" below are the papers that the library follows: document 01 (the rules), source document 002 (looks) and source
+ * document 003 (members).
+ *
+ * Any bytes and areas of any length get an answer. The functions allocate nothing, keep nothing between calls and are reentrant:
+ * threads may call them at the same time, each with areas of its own. For the stack that they use see docs/BENCHMARKS.md.
+ *
+ * The caller owes only what every C function with pointers asks: a pointer with a length points to that many elements, aligned for
+ * their type. It is never NULL, also where the length is 0. An area that is written overlaps nothing else that the same call is given.
+ *
+ * Link with target/staticlib/libapi.a, which ./build writes (x86-64 Linux).
+ */
+#ifndef DIGARUMBI_H
+#define DIGARUMBI_H
+
+#include <stddef.h>
+#include <stdint.h>
+
+#ifdef __cplusplus
+extern "C" {
+#endif
+
+/* Refusal numbers (01, "Refusal numbers"). A place is an offset in the input. 0 is no refusal.
+ *
+ *   No.  When                                                                     Place
+ *    1   member too long                                                          0
+ *    2   a field doesn't fit in the input or its region                           first byte of the field
+ *    3   a fixed byte, fixed number, mark or area index differs                   the field
+ *    4   version not 3 (look: not 00 or 02)                                       version
+ *    5   a bool neither 0 nor 1                                                   the byte
+ *    6   a region's content ends early                                            first byte left in it
+ *    7   a limit passed                                                           see below
+ *    8   leaf index not below n, or seen before in this dimension                 that leaf index
+ *    9   axis counts don't add up / an entry is no dimension or is repeated       first count / the entry
+ *   10   cell index not below the product, or seen before                         that index
+ *   11   bytes left at the end                                                    first of them
+ *   12   node area shorter than 6 words a node                                    0
+ *   13   cell area shorter than 3 words a cell                                    0
+ *   14   look: a color's high byte not 0                                          the color
+ *   15   look writer: output too short                                            0
+ *   16   look writer: version 00 with V2 data not all zero, undrawn and with an   where V2 would stand
+ *        empty continuation
+ *
+ * Number 7 stands at the count for dimensions, footnotes and cells; at the first byte of the 4,097th category; at the first byte of a
+ * Value or category that is too deep; for the product of all n at the first axis count; at a look's shading byte above 10; at 0 for
+ * points, pixels and font sizes.
+ *
+ * Order: 1, then the file from front to back, then 11, 12, 13; for looks from front to back, then 11, then 15.
+ * After a refusal every lent area but `answer` holds what it held before.
+ *
+ * Sizes accepted: member at most 1,048,576 bytes; dimensions 16; footnotes 256; category nodes 4,096 in the whole member; cells 4,096;
+ * Values nested 8 deep; categories nested 8 deep; product of all n at most 4,294,967,295.
+ */
+
+/* ---- Members ---- */
+
+/* Words of a member's answer. */
+enum {
+    DIGARUMBI_REFUSAL = 0,         /* 0 if the member is accepted */
+    DIGARUMBI_PLACE = 1,           /* place of the refusal */
+    DIGARUMBI_DIMENSION_COUNT = 2,
+    DIGARUMBI_NODE_COUNT = 3,      /* of an accepted member, and with refusals 12 and 13 */
+    DIGARUMBI_CELL_COUNT = 4,      /* likewise */
+    DIGARUMBI_LAYER_COUNT = 5,     /* dimensions on the layer, row and column axis */
+    DIGARUMBI_ROW_COUNT = 6,
+    DIGARUMBI_COLUMN_COUNT = 7,
+    DIGARUMBI_DIMENSIONS = 8,      /* 16 times 4 words, see below */
+    DIGARUMBI_AXIS_ORDER = 72,     /* 16 words: the dimensions of the layers, then of the rows, then of the columns */
+    DIGARUMBI_MEMBER_ANSWER = 88   /* words in all */
+};
+
+/* The four words of dimension i stand at DIGARUMBI_DIMENSIONS + 4 * i: place and length of its name, a Value; n, its number of leaves
+ * at any depth; its first node, which is the number of nodes before it. Words of dimensions that are not there are 0. */
+
+/* A node record has 6 words, in file order:
+ *   0  0 for a leaf, 1 for a group
+ *   1  dimension
+ *   2  number of the parent node, or DIGARUMBI_NO_PARENT
+ *   3  place of the name, a Value, its leading 00 bytes included
+ *   4  length of the name
+ *   5  leaf index of a leaf, number of direct children of a group
+ * A cell record has 3 words, in file order: index; place and length of its Value.
+ *
+ * A cell's index (003, Cells): k = 0; for each dimension i from the first to the last, k = n_i * k + x_i. The coordinate x_i is the leaf
+ * index of the cell's category in dimension i. */
+#define DIGARUMBI_NODE_RECORD 6
+#define DIGARUMBI_CELL_RECORD 3
+#define DIGARUMBI_NO_PARENT UINT32_C(4294967295)
+
+/* Words that always suffice for the two record areas: 4,096 records each. */
+#define DIGARUMBI_NODE_AREA 24576
+#define DIGARUMBI_CELL_AREA 12288
+
+/* Reads a member.
+ *
+ * Returns 88, the words of the answer. Returns 0 if `answer` has fewer than 88 words: then nothing is read and nothing changes.
+ * An accepted member has its node and cell records in `nodes` and `cells`; words after the last record stay as they were. After a
+ * refusal both areas stay as they were, and every word of the answer is 0 but the number and the place, and with 12 and 13 the counts
+ * of nodes and cells. Words of `answer` beyond 88 stay. */
+size_t digarumbi_read_member(const uint8_t *member, size_t member_length, uint32_t *answer, size_t answer_words, uint32_t *nodes,
+                             size_t node_words, uint32_t *cells, size_t cell_words);
+
+/* The name of node i: returns its length and stores its place in the member, for the member that was read and of the node area only the
+ * words filled (6 words a node). Returns 0 and stores 0 if there is no record i in `nodes`, or if it points outside the member. */
+size_t digarumbi_node_name(const uint8_t *member, size_t member_length, const uint32_t *nodes, size_t node_words, size_t i,
+                           size_t *place);
+
+/* The length of the part of the member at `place`: `length`, or 0 if that part doesn't lie inside the member. */
+size_t digarumbi_part(const uint8_t *member, size_t member_length, size_t place, size_t length);
+
+/* ---- Looks ---- */
+
+/* The answer of digarumbi_read_look has 264 words: refusal, place, and from word 2 on the look, in file order. Numbers below count from
+ * the start of the look. After a refusal the look's words are all 0.
+ *
+ *     0         version, 0 or 2
+ *     1         flags
+ *     2         nested-row-labels, 0 or 1
+ *     3         footnote-marker-subscripts, 0 or 1
+ *     4 to 19   separators of rows: horizontal dimension, vertical dimension, horizontal category, vertical category (002, sep1)
+ *    20 to 35   separators of columns, likewise (002, sep2)
+ *    36 to 57   the title area
+ *    58 to 211  the areas layers, corner, row labels, column labels, data, caption, footer
+ *   212 to 255  separators of the title; inner frame left, right, top, bottom; outer frame left, right, top, bottom; left and top of
+ *               the data area (002, sep3)
+ *   256, 257    place and length of the continuation
+ *   258, 259    min-col-width, max-col-width
+ *   260, 261    min-row-height, max-row-height
+ *
+ * A look of version 00 has no words 212 to 261 in its file; they are 0.
+ *
+ * A separator has 4 words: 0 not drawn or 1 drawn; color; style; width (0 where it isn't drawn).
+ *
+ * An area has 22 words:
+ *    0  color10, color0, shading
+ *    3  valign, halign, decimal-offset
+ *    6  left, right, top and bottom margin
+ *   10  font-size (signed, two's complement), stretch, rotation-angle, weight
+ *   14  italic, underline, strikethrough (0 or 1)
+ *   17  rtf-charset-number, x
+ *   19  place and length of the font-name
+ *   21  text-color */
+enum {
+    DIGARUMBI_LOOK = 2,          /* first word of the look */
+    DIGARUMBI_LOOK_ANSWER = 264, /* words in all */
+    DIGARUMBI_REWRITE_ANSWER = 3 /* words of the answer of digarumbi_rewrite_look */
+};
+
+/* Bytes of the longest look. */
+#define DIGARUMBI_LONGEST_LOOK 3152
+
+/* Reads a look. Returns 264, the words of the answer. Returns 0 if `answer` has fewer: then nothing is read and nothing changes.
+ * Words of `answer` beyond 264 stay. */
+size_t digarumbi_read_look(const uint8_t *file, size_t file_length, uint32_t *answer, size_t answer_words);
+
+/* Reads a look and writes it into `out`. An accepted file is written back byte for byte.
+ *
+ * The answer has 3 words: refusal, place, and the length written, 0 after a refusal. Returns 3; returns 0 if `answer` has fewer: then
+ * nothing is read and nothing changes. Nothing is written after a refusal. Bytes of `out` beyond the length and words of `answer` beyond
+ * 3 stay. */
+size_t digarumbi_rewrite_look(const uint8_t *file, size_t file_length, uint8_t *out, size_t out_length, uint32_t *answer,
+                              size_t answer_words);
+
+/* ---- Points, pixels and font heights ---- */
+
+/* Each returns 0 and stores the result, or returns the refusal number 7 and stores 0. */
+
+/* Points times 133/100, rounded up. Refused above 1,000,000. */
+uint32_t digarumbi_pt_to_px(uint32_t points, uint32_t *pixels);
+
+/* Pixels times 100/133, rounded down. Refused above 1,330,000. */
+uint32_t digarumbi_px_to_pt(uint32_t pixels, uint32_t *points);
+
+/* The height of a font of a look in 96ths of an inch: the negative of its size. Refused for a size of 0 and above. */
+uint32_t digarumbi_font_height(int32_t size, uint32_t *height);
+
+#ifdef __cplusplus
+}
+#endif
+
+#endif
