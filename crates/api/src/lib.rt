@@ -1,9 +1,12 @@
 // The library for programs in C, Rust and other languages: numbers and slices alone. A slice is a pointer and a length there;
 // include/digarumbi.h has these functions and the layout of their words.
-mod words; // answers as words
+mod answers; // answers as words
 
 ghost use mathlib.Core.Path.{_≡_};
+ghost use Prim.Native.Nat.{_+_};
 ghost use lib.ListN.{length};
+ghost use lib.Dec.{leb};
+ghost use Rattle.layout.specs.Layout.{pick};
 ghost use Rattle.layout.specs.Read.{read};
 ghost use Rattle.units.specs.Units.{in-pixels, in-points, height};
 ghost use Rattle.member.specs.Part.{partOf};
@@ -13,8 +16,8 @@ ghost use Rattle.look.specs.Answers.{expected};
 ghost use Rattle.look_words.specs.FieldWords as look_spec;
 ghost use Rattle.words.specs.Stores.{AtFront};
 ghost use Rattle.api.specs.Api.{MemberRead, namePlace, Rewritten};
-use crate::words::member_words;
-use crate::words::step_words;
+use crate::answers::member_words;
+use crate::answers::step_words;
 use desk::name_of;
 use look::Answer;
 use look::read::read_look;
@@ -50,19 +53,21 @@ pub extern "C" fn digarumbi_read_member(
     }
 }
 
+// A place, if that many bytes from there on lie inside the member, else 0.
+fn inside(member: &[u8], place: u32, n: u32) -> usize
+    ensures { λ r. ⌜ r ≡ pick (leb (place + n) (length (now (member .entry)))) place 0 ⌝ }
+{
+    let fits = place as usize + n as usize <= member.len();
+    if fits { place as usize } else { 0 }
+}
+
 // The place of the name of node i; 0 if there is no record i, or if it points outside the member.
 fn name_place(member: &[u8], nodes: &[u32], i: usize) -> usize
     ensures { λ r. ⌜ r ≡ namePlace (now (member .entry)) (now (nodes .entry)) i ⌝ }
 {
     if i < nodes.len() / 6 {
         let at = 6 * i;
-        let place = nodes[at + 3] as usize;
-        let length = nodes[at + 4] as usize;
-        if place + length <= member.len() {
-            place
-        } else {
-            0
-        }
+        inside(member, nodes[at + 3], nodes[at + 4])
     } else {
         0
     }

@@ -1,5 +1,7 @@
 // Answers as words at the front of a lent area.
-ghost use mathlib.Core.List.{[], _∷_};
+ghost use mathlib.Core.Path.{_≡_};
+ghost use mathlib.Core.List.{[], _∷_, _++_};
+ghost use lib.ListN.{length};
 ghost use Rattle.layout.specs.declared.Step.the-variants.{Next};
 ghost use Rattle.words.specs.Stores.{Stores};
 ghost use Rattle.api.specs.Api as spec;
@@ -7,9 +9,19 @@ use layout::Step;
 use member::Answer;
 use words::put;
 
+// The words of the dimensions and of the axis order.
+fn arrays(out: &mut [u32], st: Step, dimensions: [u32; 64], order: [u32; 16]) -> Step
+    ensures { λ r. ⌜ Stores (dimensions ++ order) (now (out .entry)) st (now (out .exit)) r ⌝ }
+    ensures { λ _. ⌜ length (dimensions ++ order) ≡ 80 ⌝ }
+{
+    let st = put(out, st, &dimensions);
+    put(out, st, &order)
+}
+
 // The 88 words of what reading a member answers.
 pub fn member_words(out: &mut [u32], a: Answer) -> Step
     ensures { λ r. ⌜ Stores (spec.answerWords a) (now (out .entry)) (Next 0) (now (out .exit)) r ⌝ }
+    ensures { λ _. ⌜ length (spec.answerWords a) ≡ 88 ⌝ }
 {
     let dimensions = a.dimensions;
     let order = a.order;
@@ -27,8 +39,7 @@ pub fn member_words(out: &mut [u32], a: Answer) -> Step
             a.columns,
         ],
     );
-    let st = put(out, st, &dimensions);
-    put(out, st, &order)
+    arrays(out, st, dimensions, order)
 }
 
 // Three words: the refusal, or 0, its place, and the length.

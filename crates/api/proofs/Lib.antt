@@ -1,0 +1,3 @@
+mod Names
+mod Read
+mod Rewrite

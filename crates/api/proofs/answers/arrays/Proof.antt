@@ -1,0 +1,14 @@
+use borrow.Author.Needs.{needs}
+use native.Mathlib.Omega.{arith}
+use lib.ListN.{length-append}
+use Rattle.words.specs.Stores.{_⊳_, long}
+use Rattle.api.proofs.answers.arrays.Statement.{statement}
+use Rattle.api.proofs.answers.arrays.Tie as tie
+
+pub arrays-spec : {M : Type 1} → statement M
+arrays-spec =
+    tie.close
+    (tie.spec
+    (λ c. search needs) (λ _ _. tt) (λ c. search needs) (λ _ _. tt)
+    (λ c. let o = c .before .before in long (o .before .before .before .before .before .put .ensures ⊳ o .put2 .ensures))
+    (λ c. let o = c .before .before in (o .before .before .before .before .before .put .ensures ⊳ o .put2 .ensures, rw length-append (omega arith))))

@@ -1,0 +1,16 @@
+use borrow.Author.Needs.{needs}
+use Rattle.words.specs.Stores.{long}
+use Rattle.api.proofs.Read.{with-answer, without-answer}
+use Rattle.api.proofs.digarumbi_read_member.Statement.{statement}
+use Rattle.api.proofs.digarumbi_read_member.Tie as tie
+
+pub digarumbi-read-member-spec : {M : Type 1} → statement M
+digarumbi-read-member-spec =
+    tie.close
+    (tie.spec
+    (λ _ _. tt) (λ _ _. tt) (λ c. search needs) (λ c. search needs) (λ c. search needs)
+    (λ c.
+    let w = c .before .before in
+    let m = w .before .before .before .before .before .before in
+    with-answer _ _ _ _ _ (m .before .before .before .if1 .taken) (m .read-member .ensures) (w .member-words .ensures .0) (w .member-words .ensures .1))
+    (λ c. without-answer _ _ _ _ (c .if1 .left)))
