@@ -42,7 +42,7 @@ before ws i (v ∷ vs) m h = before (set ws i v) (suc i) vs m (omega arith) ∙ 
 first-set : (ws : List ℕ) (i v : ℕ) (vs : List ℕ) → i < length ws → getD (sets ws i (v ∷ vs)) i 0 ≡ v
 first-set ws i v vs h = before (set ws i v) (suc i) vs i (omega arith) ∙ getD-set-same ws i v 0 h
 
-firsts-before : (step : ℕ) → 0 < step → (ws : List ℕ) (i : ℕ) (vs : List ℕ) (k : ℕ) → step * k ≤ i → firsts step (sets ws i vs) k ≡ firsts step ws k
+pub firsts-before : (step : ℕ) → 0 < step → (ws : List ℕ) (i : ℕ) (vs : List ℕ) (k : ℕ) → step * k ≤ i → firsts step (sets ws i vs) k ≡ firsts step ws k
 unfolding firsts word
 firsts-before step pos ws i vs zero h = refl
 firsts-before step pos ws i vs (suc k) h =
@@ -163,7 +163,7 @@ entries-agree s b small d k at ws h =
 
 -- ---- 5. cells
 
-store-sets : (j a b c : ℕ) (ws : List ℕ) → storeCell j a b c ws ≡ sets ws (3 * j) (a ∷ b ∷ c ∷ [])
+pub store-sets : (j a b c : ℕ) (ws : List ℕ) → storeCell j a b c ws ≡ sets ws (3 * j) (a ∷ b ∷ c ∷ [])
 store-sets j a b c ws =
     let e₁ : 3 * j + 1 ≡ suc (3 * j) = omega arith in
     let e₂ : 3 * j + 2 ≡ suc (suc (3 * j)) = omega arith in

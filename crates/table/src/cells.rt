@@ -4,10 +4,12 @@ ghost use Prim.Native.Nat.{_<_, _≤_, _+_, _-_};
 ghost use Rattle.checks.specs.Checks.{fresh, firsts};
 ghost use Rattle.table.specs.Walk as walk;
 ghost use Rattle.table.specs.Scan as spec;
+ghost use Rattle.table.specs.Ascending.{Below};
 use crate::Walk;
 use crate::at_most;
 use crate::put;
 use checks::seen_before;
+use checks::word;
 use layout::LITTLE;
 use layout::Step;
 use layout::number::any;
@@ -16,14 +18,29 @@ use layout::number::peek;
 use layout::run::skip;
 use value::value;
 
-// x is an index below `total` that none of the first j cells has.
-fn is_fresh(cells: &[u32], total: u64, j: usize, x: u64) -> bool
-    requires { ⌜ j ≤ 4096 ⌝ }
+// x is an index below `total` that none of the first j cells has. `top` is above all of theirs, so an index from there on, as each has
+// where they stand in ascending order, is compared with none.
+fn is_fresh(cells: &[u32], total: u64, j: usize, top: u64, x: u64) -> bool
+    requires { ⌜ (j ≤ 4096) × Below top (firsts 3 (now cells) j) ⌝ }
     ensures { λ r. ⌜ r ≡ fresh total (firsts 3 (now (cells .entry)) j) x ⌝ }
 {
     let below = x < total;
-    let seen = seen_before(cells, j, 3, x);
-    if below { !seen } else { false }
+    if below {
+        if top <= x {
+            return true;
+        }
+        let seen = seen_before(cells, j, 3, x);
+        !seen
+    } else {
+        false
+    }
+}
+
+// `top`, or more where it is not above x.
+fn above(top: u64, x: u32) -> u64
+    ensures { λ r. ⌜ (top ≤ r) × (x < r) ⌝ }
+{
+    if top <= x as u64 { x as u64 + 1 } else { top }
 }
 
 // The length of what lies from a to e, as a word.
@@ -70,15 +87,15 @@ fn record(s: &[u8], at: usize, j: usize, x: u64, cells: &mut [u32]) -> Step
 }
 
 // Cell j.
-fn cell(s: &[u8], at: usize, total: u64, j: usize, cells: &mut [u32]) -> Step
-    requires { ⌜ j < 4096 ⌝ }
+fn cell(s: &[u8], at: usize, total: u64, j: usize, top: u64, cells: &mut [u32]) -> Step
+    requires { ⌜ (j < 4096) × Below top (firsts 3 (now cells) j) ⌝ }
     ensures { λ r. ⌜ spec.rowsOf r (now (cells .exit)) ≡ spec.cellAt (now (s .entry)) total j at (now (cells .entry)) ⌝ }
 {
     let x = peek(s, Step::Next(at), LITTLE, 8);
     match any(s, Step::Next(at), 8) {
         Step::Refused(r, p) => Step::Refused(r, p),
         Step::Next(p) => {
-            let good = is_fresh(cells, total, j, x);
+            let good = is_fresh(cells, total, j, top, x);
             if good {
                 record(s, p, j, x, cells)
             } else {
@@ -95,8 +112,9 @@ fn cells(s: &[u8], at: usize, total: u64, n: usize, words: &mut [u32]) -> Step
 {
     let mut at = at;
     let mut j = 0;
+    let mut top: u64 = 0;
     while j < n {
-        match cell(s, at, total, j, words) {
+        match cell(s, at, total, j, top, words) {
             Step::Refused(r, p) => {
                 return Step::Refused(r, p);
             }
@@ -104,6 +122,7 @@ fn cells(s: &[u8], at: usize, total: u64, n: usize, words: &mut [u32]) -> Step
                 at = q;
             }
         }
+        top = above(top, word(words, 3 * j));
         j += 1;
     }
     Step::Next(at)
