@@ -1,38 +1,16 @@
--- The marks of the leaf indexes met so far, and what the walk over the nodes has still to find.
+-- What the walk over the nodes has still to find, with the marks of the leaf indexes met so far.
 use mathlib.Core.Path.{_≡_, refl, sym, _∙_}
 use mathlib.Core.Bool.{Bool, true, false, not, and-false}
 use mathlib.Core.List.{List, [], _∷_}
 use Prim.Native.Nat.{ℕ, _+_, _-_, _*_, _≤_, _<_}
 use native.Mathlib.Omega.{arith}
-use borrow.Author.Tests.{eq-eqb, ne-eqb, eqb-true, eqb-false, lt-ltb, le-ltb}
-use lib.Dec.{eqb}
-use lib.ListN.{length, getD, set, replicate, length-set, length-replicate, getD-replicate}
-use lib.Seq.{getD-set-same, getD-set-other}
+use borrow.Author.Tests.{eq-eqb, ne-eqb, lt-ltb, le-ltb}
+use lib.ListN.{getD, set, replicate}
 use Rattle.layout.specs.Layout.{among, pick}
 use Rattle.checks.specs.declared.Verdict.the-variants.{Fine, Bad}
 use Rattle.checks.specs.Checks.{word, fresh, leaf, leaves, firstBad}
+use Rattle.checks.specs.Marks.{Marks, no-marks, marked}
 use Rattle.checks.proofs.Walk.{at-leaf, at-group}
-
--- the mark at x is 0 exactly where x was not seen
-pub record Marks (m : ℕ) (marks seen : List ℕ) : Type 0 where
-  pub long : length marks ≡ m
-  pub says : (x : ℕ) → x < m → eqb (getD marks x 0) 0 ≡ not (among x seen)
-
-pub no-marks : (m : ℕ) → Marks m (replicate m 0) []
-unfolding among
-no-marks m = record { long = length-replicate m 0; says = λ x h. eq-eqb _ 0 (getD-replicate m x 0 0 h) }
-
-one-more : (m : ℕ) (marks seen : List ℕ) (x : ℕ) → Marks m marks seen → x < m → (y : ℕ) → y < m → (b : Bool) → eqb y x ≡ b
-    → eqb (getD (set marks x 1) y 0) 0 ≡ not (among y (x ∷ seen))
-unfolding among
-one-more m marks seen x r h y l true e =
-    let q = eqb-true y x e in
-    let here : x < length marks = omega (arith, r .long) in
-    rw (q, getD-set-same marks x 1 0 here, eq-eqb x x refl)
-one-more m marks seen x r h y l false e = rw (e, getD-set-other marks x y 1 0 (eqb-false y x e)) (r .says y l)
-
-pub marked : (m : ℕ) (marks seen : List ℕ) (x : ℕ) → Marks m marks seen → x < m → Marks m (set marks x 1) (x ∷ seen)
-marked m marks seen x r h = record { long = length-set marks x 1 ∙ r .long; says = λ y l. one-more m marks seen x r h y l (eqb y x) refl }
 
 -- what is left of the walk, after the leaf indexes seen, has the answer of the whole
 pub record Checking (ws : List ℕ) (n first k : ℕ) (marks : List ℕ) (i left : ℕ) : Type 0 where

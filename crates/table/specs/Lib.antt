@@ -8,7 +8,7 @@ pub mod Agree
 pub mod Room
 pub mod Refusals
 pub mod RowsAgree
-pub mod Ascending
+pub mod Seen
 pub mod Leaves
 pub mod DimAgree
 pub mod DimsAgree

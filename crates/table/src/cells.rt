@@ -1,10 +1,12 @@
 // Cells: an index inside the table, once, and a Value.
 ghost use mathlib.Core.Path.{_≡_};
+ghost use mathlib.Core.List.{[]};
+ghost use lib.ListN.{set};
 ghost use Prim.Native.Nat.{_<_, _≤_, _+_, _-_};
 ghost use Rattle.checks.specs.Checks.{fresh, firsts};
 ghost use Rattle.table.specs.Walk as walk;
 ghost use Rattle.table.specs.Scan as spec;
-ghost use Rattle.table.specs.Ascending.{Below};
+ghost use Rattle.table.specs.Seen.{Seen};
 use crate::Walk;
 use crate::at_most;
 use crate::put;
@@ -18,14 +20,17 @@ use layout::number::peek;
 use layout::run::skip;
 use value::value;
 
-// x is an index below `total` that none of the first j cells has. `top` is above all of theirs, so an index from there on, as each has
-// where they stand in ascending order, is compared with none.
-fn is_fresh(cells: &[u32], total: u64, j: usize, top: u64, x: u64) -> bool
-    requires { ⌜ (j ≤ 4096) × Below top (firsts 3 (now cells) j) ⌝ }
+// x is an index below `total` that none of the first j cells has. A mark tells that of a small index; a larger one that is not below
+// `top`, which is above all of theirs, is none of them; others are compared with each.
+fn is_fresh(cells: &[u32], marks: &[u8], total: u64, j: usize, top: u64, x: u64) -> bool
+    requires { ⌜ (j ≤ 4096) × Seen top (now marks) (firsts 3 (now cells) j) ⌝ }
     ensures { λ r. ⌜ r ≡ fresh total (firsts 3 (now (cells .entry)) j) x ⌝ }
 {
     let below = x < total;
     if below {
+        if x < marks.len() as u64 {
+            return marks[x as usize] == 0;
+        }
         if top <= x {
             return true;
         }
@@ -33,6 +38,15 @@ fn is_fresh(cells: &[u32], total: u64, j: usize, top: u64, x: u64) -> bool
         !seen
     } else {
         false
+    }
+}
+
+// The mark of x, where there is one.
+fn mark(marks: &mut [u8], x: u32)
+    ensures { λ _. ⌜ now (marks .exit) ≡ set (now (marks .entry)) x 1 ⌝ }
+{
+    if (x as usize) < marks.len() {
+        marks[x as usize] = 1;
     }
 }
 
@@ -87,15 +101,23 @@ fn record(s: &[u8], at: usize, j: usize, x: u64, cells: &mut [u32]) -> Step
 }
 
 // Cell j.
-fn cell(s: &[u8], at: usize, total: u64, j: usize, top: u64, cells: &mut [u32]) -> Step
-    requires { ⌜ (j < 4096) × Below top (firsts 3 (now cells) j) ⌝ }
+fn cell(
+    s: &[u8],
+    at: usize,
+    total: u64,
+    j: usize,
+    top: u64,
+    marks: &[u8],
+    cells: &mut [u32],
+) -> Step
+    requires { ⌜ (j < 4096) × Seen top (now marks) (firsts 3 (now cells) j) ⌝ }
     ensures { λ r. ⌜ spec.rowsOf r (now (cells .exit)) ≡ spec.cellAt (now (s .entry)) total j at (now (cells .entry)) ⌝ }
 {
     let x = peek(s, Step::Next(at), LITTLE, 8);
     match any(s, Step::Next(at), 8) {
         Step::Refused(r, p) => Step::Refused(r, p),
         Step::Next(p) => {
-            let good = is_fresh(cells, total, j, top, x);
+            let good = is_fresh(cells, marks, total, j, top, x);
             if good {
                 record(s, p, j, x, cells)
             } else {
@@ -106,15 +128,15 @@ fn cell(s: &[u8], at: usize, total: u64, j: usize, top: u64, cells: &mut [u32]) 
 }
 
 // n cells, in a table of `total` places.
-fn cells(s: &[u8], at: usize, total: u64, n: usize, words: &mut [u32]) -> Step
-    requires { ⌜ n ≤ 4096 ⌝ }
+fn cells(s: &[u8], at: usize, total: u64, n: usize, marks: &mut [u8], words: &mut [u32]) -> Step
+    requires { ⌜ (n ≤ 4096) × Seen 0 (now marks) [] ⌝ }
     ensures { λ r. ⌜ spec.rowsOf r (now (words .exit)) ≡ spec.rowsFrom (spec.cellAt (now (s .entry)) total) n 0 at (now (words .entry)) ⌝ }
 {
     let mut at = at;
     let mut j = 0;
     let mut top: u64 = 0;
     while j < n {
-        match cell(s, at, total, j, top, words) {
+        match cell(s, at, total, j, top, marks, words) {
             Step::Refused(r, p) => {
                 return Step::Refused(r, p);
             }
@@ -122,7 +144,9 @@ fn cells(s: &[u8], at: usize, total: u64, n: usize, words: &mut [u32]) -> Step
                 at = q;
             }
         }
-        top = above(top, word(words, 3 * j));
+        let x = word(words, 3 * j);
+        top = above(top, x);
+        mark(marks, x);
         j += 1;
     }
     Step::Next(at)
@@ -146,16 +170,45 @@ fn ending(s: &[u8], at: usize) -> Step
 }
 
 // The n cells from a position on, and the end.
-fn last(s: &[u8], at: usize, total: u64, n: usize, words: &mut [u32]) -> Walk
-    requires { ⌜ n ≤ 4096 ⌝ }
+fn last(s: &[u8], at: usize, total: u64, n: usize, marks: &mut [u8], words: &mut [u32]) -> Walk
+    requires { ⌜ (n ≤ 4096) × Seen 0 (now marks) [] ⌝ }
     ensures { λ r. ⌜ walk.walked r (now (words .exit)) ≡ spec.lastAt (now (s .entry)) total n at (now (words .entry)) ⌝ }
 {
-    match cells(s, at, total, n, words) {
+    match cells(s, at, total, n, marks, words) {
         Step::Refused(r, p) => Walk::Off(r, p),
         Step::Next(q) => match ending(s, q) {
             Step::Refused(r, p) => Walk::Off(r, p),
             Step::Next(e) => Walk::On(e, n),
         },
+    }
+}
+
+// A few cells have few marks, which are soon cleared.
+fn few(s: &[u8], at: usize, total: u64, n: usize, words: &mut [u32]) -> Walk
+    requires { ⌜ n ≤ 4096 ⌝ }
+    ensures { λ r. ⌜ walk.walked r (now (words .exit)) ≡ spec.lastAt (now (s .entry)) total n at (now (words .entry)) ⌝ }
+{
+    let mut marks = [0u8; 1024];
+    last(s, at, total, n, &mut marks, words)
+}
+
+fn many(s: &[u8], at: usize, total: u64, n: usize, words: &mut [u32]) -> Walk
+    requires { ⌜ n ≤ 4096 ⌝ }
+    ensures { λ r. ⌜ walk.walked r (now (words .exit)) ≡ spec.lastAt (now (s .entry)) total n at (now (words .entry)) ⌝ }
+{
+    let mut marks = [0u8; 16384];
+    last(s, at, total, n, &mut marks, words)
+}
+
+// The n cells from a position on, and the end.
+fn by_number(s: &[u8], at: usize, total: u64, n: usize, words: &mut [u32]) -> Walk
+    requires { ⌜ n ≤ 4096 ⌝ }
+    ensures { λ r. ⌜ walk.walked r (now (words .exit)) ≡ spec.lastAt (now (s .entry)) total n at (now (words .entry)) ⌝ }
+{
+    if n <= 512 {
+        few(s, at, total, n, words)
+    } else {
+        many(s, at, total, n, words)
     }
 }
 
@@ -166,6 +219,6 @@ pub fn section(s: &[u8], at: usize, total: u64, words: &mut [u32]) -> Walk
     let n = peek(s, Step::Next(at), LITTLE, 4);
     match count(s, Step::Next(at), 4096) {
         Step::Refused(r, p) => Walk::Off(r, p),
-        Step::Next(p) => last(s, p, total, at_most(n as usize, 4096), words),
+        Step::Next(p) => by_number(s, p, total, at_most(n as usize, 4096), words),
     }
 }

@@ -12,7 +12,7 @@ unfolding cellAt chain pick
 cell-spec =
     tie.close
     (tie.spec
-    (λ _ _. tt) (λ _ _. tt) (λ c. search needs) (λ c. search needs) (λ c κs. (omega arith, c .before .before .before .before .before .before .before .before .pre .1)) (λ c κs. omega arith)
+    (λ _ _. tt) (λ _ _. tt) (λ c. search needs) (λ c. search needs) (λ c κs. (omega arith, c .before .before .before .before .before .before .before .before .before .pre .1)) (λ c κs. omega arith)
     (λ c.
     let a = c .before .before .before in
     rw (sym (a .any .ensures .0 .is) ∙ c .before .r .given .1))

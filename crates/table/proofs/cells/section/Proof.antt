@@ -18,4 +18,4 @@ section-spec =
     let m = t .before .before in
     let p = m .before .before in
     let e = sym (p .before .before .count .ensures .is) ∙ p .p .given .1 in
-    rw (e, ← (p .before .before .before .peek .ensures), ← (m .at-most .ensures)) (t .last .ensures)))
+    rw (e, ← (p .before .before .before .peek .ensures), ← (m .at-most .ensures)) (t .by-number .ensures)))

@@ -1,11 +1,15 @@
--- Numbers below a bound: what is not below it is none of them. A cell leaves the indexes of those before it as they were.
-use mathlib.Core.Path.{_≡_, refl, sym, subst}
+-- What is kept of the cell indexes seen so far: a bound above all of them, and marks of the small ones. A cell leaves the indexes of those
+-- before it as they were.
+use mathlib.Core.Path.{_≡_, refl, sym, ap, subst}
 use mathlib.Core.Bool.{Bool, true, false}
 use mathlib.Core.List.{List, [], _∷_}
 use Prim.Native.Nat.{ℕ, zero, suc, _+_, _*_, _≤_, _<_}
 use native.Mathlib.Omega.{arith}
 use native.Mathlib.Numerals.{add-one}
-use borrow.Author.Tests.{ne-eqb}
+use borrow.Author.Tests.{ne-eqb, ltb-true, ltb-false}
+use lib.ListN.{length, set, replicate, length-set, length-replicate}
+use lib.Dec.{ltb}
+use Rattle.checks.specs.Marks.{Marks, no-marks, marked, unmarked}
 use Rattle.layout.specs.declared.Step.{Step}
 use Rattle.layout.specs.declared.Step.the-variants.{Next, Refused}
 use Rattle.layout.specs.Layout.{little, among, All, all-none, all-more, pick}
@@ -28,6 +32,30 @@ not-among top x (all-more {x = y} l r) h = rw (ne-eqb x y (omega arith)) (not-am
 pub higher : {top top′ : ℕ} {xs : List ℕ} → top ≤ top′ → Below top xs → Below top′ xs
 higher h all-none = all-none
 higher h (all-more {x = x} l r) = all-more {x = x} (omega arith) (higher h r)
+
+-- a store past the end of a list changes nothing
+pub set-past : (xs : List ℕ) (i x : ℕ) → length xs ≤ i → set xs i x ≡ xs
+set-past [] i x h = refl
+set-past (y ∷ ys) zero x h = absurd (omega arith)
+set-past (y ∷ ys) (suc i) x h = ap (λ (zs : List ℕ). y ∷ zs) (set-past ys i x (omega arith))
+
+-- what is kept of the numbers xs
+pub record Seen (top : ℕ) (marks xs : List ℕ) : Type 0 where
+  pub under : Below top xs
+  pub known : Marks (length marks) marks xs
+
+pub none-seen : (n : ℕ) → Seen 0 (replicate n 0) []
+none-seen n = record { under = all-none; known = rw (length-replicate {A = ℕ} n 0) (no-marks n) }
+
+-- a mark past the last says nothing
+pub one-seen : {top top′ : ℕ} {marks xs : List ℕ} (x : ℕ) → Seen top marks xs → top ≤ top′ → x < top′ → Seen top′ (set marks x 1) (x ∷ xs)
+one-seen {top} {top′} {marks} {xs} x k h l = record { under = all-more l (higher h (k .under)); known = go (ltb x (length marks)) refl }
+  where
+    go : (b : Bool) → ltb x (length marks) ≡ b → Marks (length (set marks x 1)) (set marks x 1) (x ∷ xs)
+    go true e = rw (length-set marks x 1) (marked (length marks) marks xs x (k .known) (ltb-true x (length marks) e))
+    go false e =
+        let past : length marks ≤ x = ltb-false x (length marks) e in
+        rw (set-past marks x 1 past) (unmarked (length marks) marks xs x (k .known) past)
 
 -- ---- the indexes of the cells before
 
@@ -56,11 +84,10 @@ cell-leaves s total j at ws =
 kept : {j : ℕ} {ws : List ℕ} {p : ℕ} {ws′ : List ℕ} → Leaves j ws (rows p ws′) → firsts 3 ws′ j ≡ firsts 3 ws j
 kept (l-rows e) = e
 
--- one more cell, and a bound above its index
-pub one-more : (s : List ℕ) (total j at : ℕ) (ws : List ℕ) {p : ℕ} {ws′ : List ℕ} {top top′ : ℕ} → rows p ws′ ≡ cellAt s total j at ws → Below top (firsts 3 ws j)
-    → top ≤ top′ → word ws′ (3 * j) < top′ → Below top′ (firsts 3 ws′ (j + 1))
+-- one more cell
+pub cell-more : (s : List ℕ) (total j at : ℕ) (ws : List ℕ) {p : ℕ} {ws′ : List ℕ} → rows p ws′ ≡ cellAt s total j at ws
+    → firsts 3 ws′ (j + 1) ≡ word ws′ (3 * j) ∷ firsts 3 ws j
 unfolding firsts
-one-more s total j at ws {ws′ = ws′} {top′ = top′} e b h k =
+cell-more s total j at ws {ws′ = ws′} e =
     let f : firsts 3 ws′ j ≡ firsts 3 ws j = kept (subst (Leaves j ws) (sym e) (cell-leaves s total j at ws)) in
-    let r : Below top′ (firsts 3 ws′ j) = rw f (higher h b) in
-    rw (add-one j) (all-more k r)
+    rw (add-one j, f)

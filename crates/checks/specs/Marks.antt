@@ -1,0 +1,37 @@
+-- Marks of the numbers seen so far.
+use mathlib.Core.Path.{_≡_, refl, _∙_}
+use mathlib.Core.Bool.{Bool, true, false, not}
+use mathlib.Core.List.{List, [], _∷_}
+use Prim.Native.Nat.{ℕ, _≤_, _<_}
+use native.Mathlib.Omega.{arith}
+use borrow.Author.Tests.{eq-eqb, eqb-true, eqb-false, ne-eqb}
+use lib.Dec.{eqb}
+use lib.ListN.{length, getD, set, replicate, length-set, length-replicate, getD-replicate}
+use lib.Seq.{getD-set-same, getD-set-other}
+use Rattle.layout.specs.Layout.{among}
+
+-- the mark at x is 0 exactly where x was not seen
+pub record Marks (m : ℕ) (marks seen : List ℕ) : Type 0 where
+  pub long : length marks ≡ m
+  pub says : (x : ℕ) → x < m → eqb (getD marks x 0) 0 ≡ not (among x seen)
+
+pub no-marks : (m : ℕ) → Marks m (replicate m 0) []
+unfolding among
+no-marks m = record { long = length-replicate m 0; says = λ x h. eq-eqb _ 0 (getD-replicate m x 0 0 h) }
+
+one-more : (m : ℕ) (marks seen : List ℕ) (x : ℕ) → Marks m marks seen → x < m → (y : ℕ) → y < m → (b : Bool) → eqb y x ≡ b
+    → eqb (getD (set marks x 1) y 0) 0 ≡ not (among y (x ∷ seen))
+unfolding among
+one-more m marks seen x r h y l true e =
+    let q = eqb-true y x e in
+    let here : x < length marks = omega (arith, r .long) in
+    rw (q, getD-set-same marks x 1 0 here, eq-eqb x x refl)
+one-more m marks seen x r h y l false e = rw (e, getD-set-other marks x y 1 0 (eqb-false y x e)) (r .says y l)
+
+pub marked : (m : ℕ) (marks seen : List ℕ) (x : ℕ) → Marks m marks seen → x < m → Marks m (set marks x 1) (x ∷ seen)
+marked m marks seen x r h = record { long = length-set marks x 1 ∙ r .long; says = λ y l. one-more m marks seen x r h y l (eqb y x) refl }
+
+-- a number for which there is no mark
+pub unmarked : (m : ℕ) (marks seen : List ℕ) (x : ℕ) → Marks m marks seen → m ≤ x → Marks m marks (x ∷ seen)
+unfolding among
+unmarked m marks seen x r h = record { long = r .long; says = λ y l. rw (ne-eqb y x (omega arith)) (r .says y l) }
