@@ -77,7 +77,8 @@ pub fn peek(s: &[u8], st: Step, high: bool, w: usize) -> u64
     number(s, st, high, width(w))
 }
 
-// Past w bytes, which get the refusal c unless it is 0.
+// Past w bytes, which get the refusal c unless it is 0. Each arm returns: where their values meet first, the compiler computes the next
+// position from the tests without a branch, and a field is not read before the tests of those before it are done.
 pub fn field(s: &[u8], st: Step, w: usize, c: u32) -> Step
     ensures { λ r. ⌜ r ≡ spec.field w c (now (s .entry)) st ⌝ }
 {
@@ -85,16 +86,14 @@ pub fn field(s: &[u8], st: Step, w: usize, c: u32) -> Step
         return st;
     };
     let inside = w <= left(s, at);
-    let good = c == 0;
     if inside {
+        let good = c == 0;
         if good {
-            Step::Next(at + w)
-        } else {
-            Step::Refused(c, at)
+            return Step::Next(at + w);
         }
-    } else {
-        Step::Refused(2, at)
+        return Step::Refused(c, at);
     }
+    Step::Refused(2, at)
 }
 
 // ---- verdicts
