@@ -1,3 +1,4 @@
 mod Walk
 mod Marks
 mod Capped
+mod Ordered

@@ -1,4 +1,4 @@
--- Marks of the numbers seen so far.
+-- Numbers seen so far: a bound above all of them, and their marks.
 use mathlib.Core.Path.{_≡_, refl, _∙_}
 use mathlib.Core.Bool.{Bool, true, false, not}
 use mathlib.Core.List.{List, [], _∷_}
@@ -8,7 +8,23 @@ use borrow.Author.Tests.{eq-eqb, eqb-true, eqb-false, ne-eqb}
 use lib.Dec.{eqb}
 use lib.ListN.{length, getD, set, replicate, length-set, length-replicate, getD-replicate}
 use lib.Seq.{getD-set-same, getD-set-other}
-use Rattle.layout.specs.Layout.{among}
+use Rattle.layout.specs.Layout.{among, All, all-none, all-more, pick}
+
+-- ---- a bound
+
+abbrev pub Below : ℕ → List ℕ → Type 0
+Below top xs = All (λ x. x < top) xs
+
+pub not-among : (top x : ℕ) {xs : List ℕ} → Below top xs → top ≤ x → among x xs ≡ false
+unfolding among pick
+not-among top x all-none h = refl
+not-among top x (all-more {x = y} l r) h = rw (ne-eqb x y (omega arith)) (not-among top x r h)
+
+pub higher : {top top′ : ℕ} {xs : List ℕ} → top ≤ top′ → Below top xs → Below top′ xs
+higher h all-none = all-none
+higher h (all-more {x = x} l r) = all-more {x = x} (omega arith) (higher h r)
+
+-- ---- marks
 
 -- the mark at x is 0 exactly where x was not seen
 pub record Marks (m : ℕ) (marks seen : List ℕ) : Type 0 where

@@ -2,11 +2,13 @@
 // Any words get an answer: one past the last counts as 0. A number of nodes, records or words above 4,096 counts as 4,096, and a
 // number of dimensions above 16 as 16 (document 01, "Sizes we accept").
 ghost use mathlib.Core.Path.{_≡_};
+ghost use mathlib.Core.Bool.{true};
 ghost use mathlib.Core.List.{[]};
 ghost use Prim.Native.Nat.{_^_, _*_, _≤_, min};
 ghost use lib.ListN.{length};
 ghost use Rattle.layout.specs.Layout.{among};
 ghost use Rattle.checks.specs.Checks as spec;
+ghost use Rattle.checks.specs.declared.Verdict.the-variants.{Fine};
 
 // Whether all leaf indexes are as they must be, or the place of the first that is not.
 pub enum Verdict {
@@ -56,9 +58,35 @@ fn index_place(nodes: &[u32], i: usize) -> usize
     word(nodes, 6 * i + 3) as usize + word(nodes, 6 * i + 4) as usize + 7
 }
 
-// Whether the leaf indexes among the k nodes from the first on are below n and stand once each. The mark at x is 1 where the index
-// x was met.
-pub fn check_leaves(nodes: &[u32], first: usize, k: usize, n: u64) -> Verdict
+// Whether the leaf indexes among the k nodes from the first on are 0, 1, 2 and so on, all below `end`: then they are as they must be,
+// and no marks are needed to tell.
+fn in_order(nodes: &[u32], first: usize, k: usize, end: usize) -> bool
+    requires { ⌜ (first ≤ 4096) × (k ≤ 4096) ⌝ }
+    ensures { λ r. ⌜ (r ≡ true → spec.firstBad end [] (spec.leaves (now (nodes .entry)) first k) ≡ Fine) ⌝ }
+{
+    let mut i = first;
+    let mut left = k;
+    let mut next = 0;
+    while 0 < left {
+        if word(nodes, 6 * i) == 0 {
+            let x = word(nodes, 6 * i + 5) as usize;
+            if x != next {
+                return false;
+            }
+            if end <= next {
+                return false;
+            }
+            next += 1;
+        }
+        i += 1;
+        left -= 1;
+    }
+    true
+}
+
+// Whether the leaf indexes among the k nodes from the first on are below n and stand once each, in any order. The mark at x is 1 where
+// the index x was met.
+fn check_marked(nodes: &[u32], first: usize, k: usize, n: u64) -> Verdict
     ensures { λ r. ⌜ r ≡ spec.firstBad (min n 4096) [] (spec.leaves (now (nodes .entry)) (min first 4096) (min k 4096)) ⌝ }
 {
     let end = at_most(n as usize, 4096);
@@ -80,6 +108,23 @@ pub fn check_leaves(nodes: &[u32], first: usize, k: usize, n: u64) -> Verdict
         left -= 1;
     }
     Verdict::Fine
+}
+
+// Whether the leaf indexes among the k nodes from the first on are below n and stand once each.
+pub fn check_leaves(nodes: &[u32], first: usize, k: usize, n: u64) -> Verdict
+    ensures { λ r. ⌜ r ≡ spec.firstBad (min n 4096) [] (spec.leaves (now (nodes .entry)) (min first 4096) (min k 4096)) ⌝ }
+{
+    let ordered = in_order(
+        nodes,
+        at_most(first, 4096),
+        at_most(k, 4096),
+        at_most(n as usize, 4096),
+    );
+    if ordered {
+        Verdict::Fine
+    } else {
+        check_marked(nodes, first, k, n)
+    }
 }
 
 // ---- axis entries and cell indexes

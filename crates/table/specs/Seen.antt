@@ -6,13 +6,13 @@ use mathlib.Core.List.{List, [], _∷_}
 use Prim.Native.Nat.{ℕ, zero, suc, _+_, _*_, _≤_, _<_}
 use native.Mathlib.Omega.{arith}
 use native.Mathlib.Numerals.{add-one}
-use borrow.Author.Tests.{ne-eqb, ltb-true, ltb-false}
+use borrow.Author.Tests.{ltb-true, ltb-false}
 use lib.ListN.{length, set, replicate, length-set, length-replicate}
 use lib.Dec.{ltb}
-use Rattle.checks.specs.Marks.{Marks, no-marks, marked, unmarked}
+use Rattle.checks.specs.Marks.{Below, higher, Marks, no-marks, marked, unmarked}
 use Rattle.layout.specs.declared.Step.{Step}
 use Rattle.layout.specs.declared.Step.the-variants.{Next, Refused}
-use Rattle.layout.specs.Layout.{little, among, All, all-none, all-more, pick}
+use Rattle.layout.specs.Layout.{little, all-none, all-more, pick}
 use Rattle.layout.specs.Conventions.{int64}
 use Rattle.layout.specs.Reads.{step, peek}
 use Rattle.value.specs.Value.{Value}
@@ -20,18 +20,6 @@ use Rattle.checks.specs.Checks.{word, fresh, firsts}
 use Rattle.table.specs.Walk.{word32}
 use Rattle.table.specs.Scan.{Rows, rows, no-rows, fromStepRows, storeCell, recordAt, cellAt}
 use Rattle.table.specs.RowsAgree.{firsts-before, store-sets}
-
-abbrev pub Below : ℕ → List ℕ → Type 0
-Below top xs = All (λ x. x < top) xs
-
-pub not-among : (top x : ℕ) {xs : List ℕ} → Below top xs → top ≤ x → among x xs ≡ false
-unfolding among pick
-not-among top x all-none h = refl
-not-among top x (all-more {x = y} l r) h = rw (ne-eqb x y (omega arith)) (not-among top x r h)
-
-pub higher : {top top′ : ℕ} {xs : List ℕ} → top ≤ top′ → Below top xs → Below top′ xs
-higher h all-none = all-none
-higher h (all-more {x = x} l r) = all-more {x = x} (omega arith) (higher h r)
 
 -- a store past the end of a list changes nothing
 pub set-past : (xs : List ℕ) (i x : ℕ) → length xs ≤ i → set xs i x ≡ xs

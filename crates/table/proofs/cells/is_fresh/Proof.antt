@@ -1,7 +1,7 @@
 use Prim.Native.Nat.{min}
 use mathlib.Core.Path.{_≡_, sym}
 use native.Mathlib.Omega.{arith}
-use Rattle.table.specs.Seen.{not-among}
+use Rattle.checks.specs.Marks.{not-among}
 use Rattle.table.proofs.Scans.{fresh-below, fresh-if, fresh-above}
 use Rattle.table.proofs.cells.is_fresh.Statement.{statement}
 use Rattle.table.proofs.cells.is_fresh.Tie as tie
