@@ -24,13 +24,11 @@ pub fn part(s: &[u8], st: Step, high: bool, w: usize) -> Span
             if head {
                 let fits = n <= room - w;
                 if fits {
-                    Span::Of(at + w, at + w + n)
-                } else {
-                    Span::Not(2, at)
+                    return Span::Of(at + w, at + w + n);
                 }
-            } else {
-                Span::Not(2, at)
+                return Span::Not(2, at);
             }
+            Span::Not(2, at)
         }
         Step::Refused(r, p) => Span::Not(r, p),
     }

@@ -13,7 +13,7 @@ part-spec =
     tie.close
     (tie.spec
     (λ _ _. tt) (λ _ _. tt) (λ c. search needs) (λ _ _. tt) (λ c. search needs) (λ c. omega (arith, leb-true))
-    (λ c. omega (arith, leb-true)) (λ c. omega (arith, leb-true)) (λ c. search needs)
+    (λ c. omega (arith, leb-true)) (λ c. omega (arith, leb-true))
     (λ c.
     let a = c .before .before in
     let n = a .before .before .before .before in
@@ -24,6 +24,7 @@ part-spec =
     let n = a .before .before .before .before in
     let p = rw (a .before .before .st .given .1, ← (n .width .ensures)) at (n .before .peek .ensures) in
     simp (a .before .before .st .given .1, part-at, ← (n .width .ensures), ← p, ← (a .left .ensures), c .before .if1 .taken, c .if2 .left))
+    (λ c. search needs)
     (λ c.
     let a = c .before in
     let n = a .before .before .before .before in
