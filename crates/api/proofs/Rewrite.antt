@@ -13,7 +13,7 @@ use Rattle.words.specs.Stores.{Stores, with-room, without-room}
 use Rattle.look.specs.declared.Look.{Look}
 use Rattle.look.specs.declared.Answer.{Answer}
 use Rattle.look.specs.declared.Answer.the-variants as look
-use Rattle.look.specs.Look.{table-look}
+use Rattle.look.specs.Look.{TableLook}
 use Rattle.look.specs.Answers.{outcome, expected}
 use Rattle.look_write.specs.declared.Written.{Written}
 use Rattle.look_write.specs.Writing.{file, writing, output, answer as written}
@@ -23,7 +23,7 @@ three : (st : Step) → length (stepWords st) ≡ 3
 three (Next n) = refl
 three (Refused n p) = refl
 
-module _ (s out answer : List ℕ) (a : Answer) (e : outcome a ≡ expected (read table-look s 0)) where
+module _ (s out answer : List ℕ) (a : Answer) (e : outcome a ≡ expected (read TableLook s 0)) where
   done : {out′ answer′ : List ℕ} {r : Step} → leb 3 (length answer) ≡ true → out′ ≡ output (rewriting a s (length out)) (rewritten a s) out
       → Stores (stepWords (rewriting a s (length out))) answer (Next 0) answer′ r → Rewritten s out answer 3 out′ answer′
   unfolding pick

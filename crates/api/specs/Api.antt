@@ -13,7 +13,7 @@ use Rattle.member.specs.Answer.{outcome, answerOf, nodesAfter, cellsAfter}
 use Rattle.words.specs.Stores.{AtFront}
 use Rattle.look.specs.declared.Answer.{Answer as LookAnswer}
 use Rattle.look.specs.declared.Answer.the-variants as look
-use Rattle.look.specs.Look.{table-look}
+use Rattle.look.specs.Look.{TableLook}
 use Rattle.look.specs.Answers.{outcome as lookOutcome, expected}
 use Rattle.look_write.specs.Writing.{file, writing, output}
 
@@ -62,6 +62,6 @@ stepWords (Refused n p) = n ∷ word p ∷ 0 ∷ []
 pub record Rewritten (s out answer : List ℕ) (n : ℕ) (out′ answer′ : List ℕ) : Type 0 where
   -- what reading the file answers
   pub look : LookAnswer
-  pub is-read : lookOutcome look ≡ expected (read table-look s 0)
+  pub is-read : lookOutcome look ≡ expected (read TableLook s 0)
   pub words : AtFront 3 (stepWords (rewriting look s (length out))) answer n answer′
   pub out-area : out′ ≡ pick (leb 3 (length answer)) (output (rewriting look s (length out)) (rewritten look s) out) out

@@ -11,7 +11,7 @@ ghost use Rattle.layout.specs.Read.{read};
 ghost use Rattle.units.specs.Units.{in-pixels, in-points, height};
 ghost use Rattle.member.specs.Part.{partOf};
 ghost use Rattle.desk.specs.Desk.{nameOf};
-ghost use Rattle.look.specs.Look.{table-look};
+ghost use Rattle.look.specs.Look.{TableLook};
 ghost use Rattle.look.specs.Answers.{expected};
 ghost use Rattle.look_words.specs.FieldWords as look_spec;
 ghost use Rattle.words.specs.Stores.{AtFront};
@@ -100,7 +100,7 @@ pub extern "C" fn digarumbi_part(member: &[u8], place: usize, n: usize) -> usize
 // Reads a look. 264, with the answer in the first 264 words of `answer`; 0, with nothing read and nothing changed, if it is shorter.
 #[no_mangle]
 pub extern "C" fn digarumbi_read_look(file: &[u8], answer: &mut [u32]) -> usize
-    ensures { λ n. ⌜ AtFront 264 (look_spec.answerWords (expected (read table-look (now (file .entry)) 0))) (now (answer .entry)) n (now (answer .exit)) ⌝ }
+    ensures { λ n. ⌜ AtFront 264 (look_spec.answerWords (expected (read TableLook (now (file .entry)) 0))) (now (answer .entry)) n (now (answer .exit)) ⌝ }
 {
     look_answer(file, answer)
 }

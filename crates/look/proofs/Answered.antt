@@ -14,28 +14,28 @@ use Rattle.layout.specs.Read.{Got, got, no, read}
 use Rattle.layout.specs.Reads.{forget, step, chain, Reads}
 use Rattle.fields.specs.Gives.{Gives}
 use Rattle.look.specs.declared.Look.{Look}
-use Rattle.look.specs.Look.{table-look}
+use Rattle.look.specs.Look.{TableLook}
 use Rattle.look.specs.Values as values
 use Rattle.look.specs.Answers.{blank, accepted, refused, expected}
 use Rattle.look.proofs.Versions.{v2-same}
 
-pub when-refused : {s : List ℕ} {r : Step} {n p : ℕ} → Reads table-look s (Next 0) r → r ≡ Refused n p → refused n p ≡ expected (read table-look s 0)
+pub when-refused : {s : List ℕ} {r : Step} {n p : ℕ} → Reads TableLook s (Next 0) r → r ≡ Refused n p → refused n p ≡ expected (read TableLook s 0)
 unfolding step chain expected
-when-refused {s} {r} {n} {p} h e = go (read table-look s 0) (sym (h .is) ∙ e)
+when-refused {s} {r} {n} {p} h e = go (read TableLook s 0) (sym (h .is) ∙ e)
   where
-    go : (x : Got (Tree table-look)) → forget x ≡ Refused n p → refused n p ≡ expected x
+    go : (x : Got (Tree TableLook)) → forget x ≡ Refused n p → refused n p ≡ expected x
     go (got t rest q) i = absurd (let z : _≡_ {A = ℕ} 0 1 = cc in omega arith)
     go (no m q) i = let a : n ≡ m = cc in let b : p ≡ q = cc in rw (a, b)
 
-module _ {s : List ℕ} {r : Step} (x : Look) (g : Gives table-look s (Next 0) r (values.fields x)) (bs : Bytes s) {p : ℕ} (e : r ≡ Next p) where
-  pub when-left : p < length s → refused 11 p ≡ expected (read table-look s 0)
+module _ {s : List ℕ} {r : Step} (x : Look) (g : Gives TableLook s (Next 0) r (values.fields x)) (bs : Bytes s) {p : ℕ} (e : r ≡ Next p) where
+  pub when-left : p < length s → refused 11 p ≡ expected (read TableLook s 0)
   unfolding expected
   when-left h =
       let f = g .found bs 0 p refl e in
       rw (f .reads, drop-cons s p 0 h)
 
   pub when-read : (eqb (x .version) 2 ≡ false → x .v2 ≡ blank) → length s ≤ p
-      → accepted (values.fields x) (values.v2-styles (x .v2)) ≡ expected (read table-look s 0)
+      → accepted (values.fields x) (values.v2-styles (x .v2)) ≡ expected (read TableLook s 0)
   unfolding expected
   when-read v h =
       let f = g .found bs 0 p refl e in

@@ -10,13 +10,13 @@ use Rattle.look.specs.Look as grammar
 use Rattle.look.specs.Values as values
 use Rattle.look.specs.Answers.{blank, v2-data}
 
-pub with-v2 : (b : Bool) {s : List ℕ} {st r : Step} (x : V2Styles) → b ≡ true → Gives grammar.v2-styles s st r (values.v2-styles x)
-    → Gives (grammar.v2-styles-if b) s st r (values.v2-styles-if b x) × (b ≡ false → x ≡ blank)
+pub with-v2 : (b : Bool) {s : List ℕ} {st r : Step} (x : V2Styles) → b ≡ true → Gives grammar.V2Styles s st r (values.v2-styles x)
+    → Gives (grammar.V2StylesIf b) s st r (values.v2-styles-if b x) × (b ≡ false → x ≡ blank)
 with-v2 true x e h = (h, λ z. absurd (false≢true (sym z)))
 with-v2 false x e h = absurd (false≢true e)
 
 pub without-v2 : (b : Bool) {s : List ℕ} {st : Step} (x : V2Styles) → b ≡ false → x ≡ blank
-    → Gives (grammar.v2-styles-if b) s st st (values.v2-styles-if b x) × (b ≡ false → x ≡ blank)
+    → Gives (grammar.V2StylesIf b) s st st (values.v2-styles-if b x) × (b ≡ false → x ≡ blank)
 without-v2 true x e h = absurd (false≢true (sym e))
 without-v2 false x e h = (empty-gives, λ _. h)
 

@@ -25,25 +25,25 @@ name = string little 1
 abbrev pub section : List ℕ → Layout
 section letters = fixed 0xff ▸ fixed 0xff ▸ fixed 0 ▸ fixed 0 ▸ quoted letters
 
-unfoldable pub PTTableLook : List ℕ
-PTTableLook = 0x50 ∷ 0x54 ∷ 0x54 ∷ 0x61 ∷ 0x62 ∷ 0x6c ∷ 0x65 ∷ 0x4c ∷ 0x6f ∷ 0x6f ∷ 0x6b ∷ []
+unfoldable pub PTTableLook-name : List ℕ
+PTTableLook-name = 0x50 ∷ 0x54 ∷ 0x54 ∷ 0x61 ∷ 0x62 ∷ 0x6c ∷ 0x65 ∷ 0x4c ∷ 0x6f ∷ 0x6f ∷ 0x6b ∷ []
 
-unfoldable pub PVSeparatorStyle : List ℕ
-PVSeparatorStyle = 0x50 ∷ 0x56 ∷ 0x53 ∷ 0x65 ∷ 0x70 ∷ 0x61 ∷ 0x72 ∷ 0x61 ∷ 0x74 ∷ 0x6f ∷ 0x72 ∷ 0x53 ∷ 0x74 ∷ 0x79 ∷ 0x6c ∷ 0x65 ∷ []
+unfoldable pub PVSeparatorStyle-name : List ℕ
+PVSeparatorStyle-name = 0x50 ∷ 0x56 ∷ 0x53 ∷ 0x65 ∷ 0x70 ∷ 0x61 ∷ 0x72 ∷ 0x61 ∷ 0x74 ∷ 0x6f ∷ 0x72 ∷ 0x53 ∷ 0x74 ∷ 0x79 ∷ 0x6c ∷ 0x65 ∷ []
 
-unfoldable pub PVCellStyle : List ℕ
-PVCellStyle = 0x50 ∷ 0x56 ∷ 0x43 ∷ 0x65 ∷ 0x6c ∷ 0x6c ∷ 0x53 ∷ 0x74 ∷ 0x79 ∷ 0x6c ∷ 0x65 ∷ []
+unfoldable pub PVCellStyle-name : List ℕ
+PVCellStyle-name = 0x50 ∷ 0x56 ∷ 0x43 ∷ 0x65 ∷ 0x6c ∷ 0x6c ∷ 0x53 ∷ 0x74 ∷ 0x79 ∷ 0x6c ∷ 0x65 ∷ []
 
-unfoldable pub PVTextStyle : List ℕ
-PVTextStyle = 0x50 ∷ 0x56 ∷ 0x54 ∷ 0x65 ∷ 0x78 ∷ 0x74 ∷ 0x53 ∷ 0x74 ∷ 0x79 ∷ 0x6c ∷ 0x65 ∷ []
+unfoldable pub PVTextStyle-name : List ℕ
+PVTextStyle-name = 0x50 ∷ 0x56 ∷ 0x54 ∷ 0x65 ∷ 0x78 ∷ 0x74 ∷ 0x53 ∷ 0x74 ∷ 0x79 ∷ 0x6c ∷ 0x65 ∷ []
 
 -- PTTableLook after its version: flags, nested-row-labels, footnote-marker-subscripts
 abbrev pub settings : Layout
 settings = int16 ▸ fixed 0 ▸ fixed 0 ▸ bool ▸ fixed 0 ▸ bool ▸ fixed 0 ▸ i 54 ▸ i 18
 
 -- PTTableLook, and the rest of the look, which goes by the version
-abbrev pub pt-table-look : (ℕ → Layout) → Layout
-pt-table-look rest = section PTTableLook ▸ number little 1 (a-version (0 ∷ 2 ∷ [])) (λ version. settings ▸ rest version)
+abbrev pub PTTableLook : (ℕ → Layout) → Layout
+PTTableLook rest = section PTTableLook-name ▸ number little 1 (a-version (0 ∷ 2 ∷ [])) (λ version. settings ▸ rest version)
 
 -- Separator: 00 00 | 01 00 int32[color] int16[style] int16[width], by the type; there is no third type
 abbrev pub undrawn : Layout
@@ -52,22 +52,22 @@ undrawn = fixed 0
 abbrev pub drawn : Layout
 drawn = fixed 0 ▸ color ▸ int16 ▸ int16
 
-abbrev pub separator-if : Bool → Layout
-separator-if true = drawn
-separator-if false = undrawn
+abbrev pub SeparatorIf : Bool → Layout
+SeparatorIf true = drawn
+SeparatorIf false = undrawn
 
-abbrev pub separator : Layout
-separator = number little 1 (one-of (0 ∷ 1 ∷ [])) (λ type. separator-if (eqb type 1))
+abbrev pub Separator : Layout
+Separator = number little 1 (one-of (0 ∷ 1 ∷ [])) (λ type. SeparatorIf (eqb type 1))
 
-abbrev pub pv-separator-style : Layout
-pv-separator-style = section PVSeparatorStyle ▸ fixed 0 ▸ times 4 separator ▸ fixed 3 ▸ fixed 0x80 ▸ fixed 0 ▸ times 4 separator
+abbrev pub PVSeparatorStyle : Layout
+PVSeparatorStyle = section PVSeparatorStyle-name ▸ fixed 0 ▸ times 4 Separator ▸ fixed 3 ▸ fixed 0x80 ▸ fixed 0 ▸ times 4 Separator
 
 -- "Shading above 10 is number 7 at the shading byte" (document 01)
-abbrev pub area-color : Layout
-area-color = fixed 0 ▸ fixed 1 ▸ fixed 0 ▸ color ▸ color ▸ field little 1 (at-most 10) ▸ fixed 0
+abbrev pub AreaColor : Layout
+AreaColor = fixed 0 ▸ fixed 1 ▸ fixed 0 ▸ color ▸ color ▸ field little 1 (at-most 10) ▸ fixed 0
 
-abbrev pub pv-cell-style : Layout
-pv-cell-style = section PVCellStyle ▸ area-color
+abbrev pub PVCellStyle : Layout
+PVCellStyle = section PVCellStyle-name ▸ AreaColor
 
 -- AreaStyle, line by line: valign, halign, decimal-offset, and the margins left, right, top and bottom
 abbrev pub alignment : Layout
@@ -81,27 +81,27 @@ font = int32 ▸ int16 ▸ times 2 (fixed 0) ▸ int32 ▸ times 4 (fixed 0) ▸
 abbrev pub typeface : Layout
 typeface = bool ▸ bool ▸ bool ▸ int32 ▸ byte ▸ name ▸ color ▸ times 2 (fixed 0)
 
-abbrev pub area-style : Layout
-area-style = alignment ▸ font ▸ typeface
+abbrev pub AreaStyle : Layout
+AreaStyle = alignment ▸ font ▸ typeface
 
-abbrev pub most-areas : Layout
-most-areas = fixed 6 ▸ fixed 0x80 ▸ area-color ▸ fixed 8 ▸ fixed 0x80 ▸ fixed 0 ▸ area-style
+abbrev pub MostAreas : Layout
+MostAreas = fixed 6 ▸ fixed 0x80 ▸ AreaColor ▸ fixed 8 ▸ fixed 0x80 ▸ fixed 0 ▸ AreaStyle
 
-abbrev pub pv-text-style : Layout
-pv-text-style = section PVTextStyle ▸ fixed 0 ▸ area-style ▸ times 7 most-areas
+abbrev pub PVTextStyle : Layout
+PVTextStyle = section PVTextStyle-name ▸ fixed 0 ▸ AreaStyle ▸ times 7 MostAreas
 
 -- sep3, continuation, min-col-width, max-col-width, min-row-height, max-row-height
-abbrev pub v2-styles : Layout
-v2-styles = times 11 separator ▸ name ▸ int32 ▸ int32 ▸ int32 ▸ int32
+abbrev pub V2Styles : Layout
+V2Styles = times 11 Separator ▸ name ▸ int32 ▸ int32 ▸ int32 ▸ int32
 
 -- version 00 lacks V2Styles, version 02 includes it (002, PTTableLook; document 01, "The looks")
-abbrev pub v2-styles-if : Bool → Layout
-v2-styles-if true = v2-styles
-v2-styles-if false = empty
+abbrev pub V2StylesIf : Bool → Layout
+V2StylesIf true = V2Styles
+V2StylesIf false = empty
 
 -- TableLook, after PTTableLook
 abbrev pub sections : ℕ → Layout
-sections version = pv-separator-style ▸ pv-cell-style ▸ pv-text-style ▸ v2-styles-if (eqb version 2)
+sections version = PVSeparatorStyle ▸ PVCellStyle ▸ PVTextStyle ▸ V2StylesIf (eqb version 2)
 
-abbrev pub table-look : Layout
-table-look = pt-table-look sections
+abbrev pub TableLook : Layout
+TableLook = PTTableLook sections

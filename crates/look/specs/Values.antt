@@ -43,23 +43,23 @@ settings x =
     num (x .flags) & num 0 & num 0 & num (bit (x .«nested_row_labels»)) & num 0 & num (bit (x .«footnote_marker_subscripts»)) & num 0
     & num 54 & num 18
 
-abbrev pub separator : Separator → Fields grammar.separator
+abbrev pub separator : Separator → Fields grammar.Separator
 separator NotDrawn = (0, num 0)
 separator (Drawn color style width) = (1, num 0 & num color & num style & num width)
 
-abbrev pub lines : Lines → List (Fields grammar.separator)
+abbrev pub lines : Lines → List (Fields grammar.Separator)
 lines x =
     separator (x .«horizontal_dimension») ∷ separator (x .«vertical_dimension») ∷ separator (x .«horizontal_category»)
     ∷ separator (x .«vertical_category») ∷ []
 
-abbrev pub separator-style : Lines → Lines → Fields grammar.pv-separator-style
-separator-style rows columns = section grammar.PVSeparatorStyle & num 0 & lines rows & num 3 & num 0x80 & num 0 & lines columns
+abbrev pub separator-style : Lines → Lines → Fields grammar.PVSeparatorStyle
+separator-style rows columns = section grammar.PVSeparatorStyle-name & num 0 & lines rows & num 3 & num 0x80 & num 0 & lines columns
 
-abbrev pub area-color : AreaColor → Fields grammar.area-color
+abbrev pub area-color : AreaColor → Fields grammar.AreaColor
 area-color x = num 0 & num 1 & num 0 & num (x .color10) & num (x .color0) & num (x .shading) & num 0
 
-abbrev pub cell-style : AreaColor → Fields grammar.pv-cell-style
-cell-style title = section grammar.PVCellStyle & area-color title
+abbrev pub cell-style : AreaColor → Fields grammar.PVCellStyle
+cell-style title = section grammar.PVCellStyle-name & area-color title
 
 abbrev pub alignment : Alignment → Fields grammar.alignment
 alignment x =
@@ -76,34 +76,34 @@ typeface x =
     num (bit (x .italic)) & num (bit (x .underline)) & num (bit (x .strikethrough)) & num (x .«rtf_charset_number») & num (x .x)
     & x .«font_name» & num (x .«text_color») & (num 0 ∷ num 0 ∷ [])
 
-abbrev pub area-style : AreaStyle → Fields grammar.area-style
+abbrev pub area-style : AreaStyle → Fields grammar.AreaStyle
 area-style x = alignment (x .alignment) & font (x .font) & typeface (x .typeface)
 
-abbrev pub area : Area → Fields grammar.most-areas
+abbrev pub area : Area → Fields grammar.MostAreas
 area x = num 6 & num 0x80 & area-color (x .color) & num 8 & num 0x80 & num 0 & area-style (x .style)
 
 -- "layers, corner, row labels, column labels, data, caption, and footer"
-abbrev pub most-areas : MostAreas → List (Fields grammar.most-areas)
+abbrev pub most-areas : MostAreas → List (Fields grammar.MostAreas)
 most-areas x =
     area (x .layers) ∷ area (x .corner) ∷ area (x .«row_labels») ∷ area (x .«column_labels») ∷ area (x .data) ∷ area (x .caption)
     ∷ area (x .footer) ∷ []
 
-abbrev pub text-style : AreaStyle → MostAreas → Fields grammar.pv-text-style
-text-style title most = section grammar.PVTextStyle & num 0 & area-style title & most-areas most
+abbrev pub text-style : AreaStyle → MostAreas → Fields grammar.PVTextStyle
+text-style title most = section grammar.PVTextStyle-name & num 0 & area-style title & most-areas most
 
 -- "Title", "Left, right, top, and bottom inner frame", the same of the outer frame, "Left and top of data area"
-abbrev pub frames : Frames → List (Fields grammar.separator)
+abbrev pub frames : Frames → List (Fields grammar.Separator)
 frames x =
     separator (x .title) ∷ separator (x .inner .left) ∷ separator (x .inner .right) ∷ separator (x .inner .top)
     ∷ separator (x .inner .bottom) ∷ separator (x .outer .left) ∷ separator (x .outer .right) ∷ separator (x .outer .top)
     ∷ separator (x .outer .bottom) ∷ separator (x .«data_left») ∷ separator (x .«data_top») ∷ []
 
-abbrev pub v2-styles : V2Styles → Fields grammar.v2-styles
+abbrev pub v2-styles : V2Styles → Fields grammar.V2Styles
 v2-styles x =
     frames (x .frames) & x .continuation & num (x .«min_col_width») & num (x .«max_col_width») & num (x .«min_row_height»)
     & num (x .«max_row_height»)
 
-abbrev pub v2-styles-if : (b : Bool) → V2Styles → Fields (grammar.v2-styles-if b)
+abbrev pub v2-styles-if : (b : Bool) → V2Styles → Fields (grammar.V2StylesIf b)
 v2-styles-if true x = v2-styles x
 v2-styles-if false x = tt
 
@@ -113,5 +113,5 @@ sections version x =
     & v2-styles-if (eqb version 2) (x .v2)
 
 -- the fields that a look has in a file
-abbrev pub fields : Look → Fields grammar.table-look
-fields x = section grammar.PTTableLook & (x .version, settings (x .settings) & sections (x .version) x)
+abbrev pub fields : Look → Fields grammar.TableLook
+fields x = section grammar.PTTableLook-name & (x .version, settings (x .settings) & sections (x .version) x)

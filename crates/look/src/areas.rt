@@ -30,7 +30,7 @@ pub struct GotColor {
 }
 
 pub fn area_color(s: &[u8], st: Step) -> GotColor
-    ensures { λ r. ⌜ Gives grammar.area-color (now (s .entry)) st (r .next) (values.area-color (r .value)) ⌝ }
+    ensures { λ r. ⌜ Gives grammar.AreaColor (now (s .entry)) st (r .next) (values.area-color (r .value)) ⌝ }
 {
     let st = mark(s, st, 0);
     let st = mark(s, st, 1);
@@ -53,7 +53,7 @@ pub fn area_color(s: &[u8], st: Step) -> GotColor
 }
 
 pub fn cell_style(s: &[u8], st: Step) -> GotColor
-    ensures { λ r. ⌜ Gives grammar.pv-cell-style (now (s .entry)) st (r .next) (values.cell-style (r .value)) ⌝ }
+    ensures { λ r. ⌜ Gives grammar.PVCellStyle (now (s .entry)) st (r .next) (values.cell-style (r .value)) ⌝ }
 {
     area_color(s, section(s, st, b"PVCellStyle"))
 }
@@ -172,7 +172,7 @@ pub struct GotStyle {
 }
 
 pub fn area_style(s: &[u8], st: Step) -> GotStyle
-    ensures { λ r. ⌜ Gives grammar.area-style (now (s .entry)) st (r .next) (values.area-style (r .value)) ⌝ }
+    ensures { λ r. ⌜ Gives grammar.AreaStyle (now (s .entry)) st (r .next) (values.area-style (r .value)) ⌝ }
 {
     let got = alignment(s, st);
     let alignment = got.value;
@@ -199,7 +199,7 @@ pub struct GotArea {
 }
 
 pub fn area(s: &[u8], st: Step) -> GotArea
-    ensures { λ r. ⌜ Gives grammar.most-areas (now (s .entry)) st (r .next) (values.area (r .value)) ⌝ }
+    ensures { λ r. ⌜ Gives grammar.MostAreas (now (s .entry)) st (r .next) (values.area (r .value)) ⌝ }
 {
     let st = mark(s, st, 6);
     let st = mark(s, st, 0x80);
@@ -224,7 +224,7 @@ pub struct GotMost {
 }
 
 pub fn most_areas(s: &[u8], st: Step) -> GotMost
-    ensures { λ r. ⌜ Gives (times 7 grammar.most-areas) (now (s .entry)) st (r .next) (values.most-areas (r .value)) ⌝ }
+    ensures { λ r. ⌜ Gives (times 7 grammar.MostAreas) (now (s .entry)) st (r .next) (values.most-areas (r .value)) ⌝ }
 {
     let got = area(s, st);
     let layers = got.value;
@@ -268,7 +268,7 @@ pub struct GotText {
 }
 
 pub fn text_style(s: &[u8], st: Step) -> GotText
-    ensures { λ r. ⌜ Gives grammar.pv-text-style (now (s .entry)) st (r .next) (values.text-style (r .title) (r .most)) ⌝ }
+    ensures { λ r. ⌜ Gives grammar.PVTextStyle (now (s .entry)) st (r .next) (values.text-style (r .title) (r .most)) ⌝ }
 {
     let st = section(s, st, b"PVTextStyle");
     let st = mark(s, st, 0);

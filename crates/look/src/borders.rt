@@ -22,7 +22,7 @@ pub struct GotSeparator {
 }
 
 pub fn separator(s: &[u8], st: Step) -> GotSeparator
-    ensures { λ r. ⌜ Gives grammar.separator (now (s .entry)) st (r .next) (values.separator (r .value)) ⌝ }
+    ensures { λ r. ⌜ Gives grammar.Separator (now (s .entry)) st (r .next) (values.separator (r .value)) ⌝ }
 {
     let drawn = peek(s, st, LITTLE, 1) == 1;
     let st = one_of_two(s, st, 0, 1);
@@ -56,7 +56,7 @@ pub struct GotLines {
 }
 
 pub fn lines(s: &[u8], st: Step) -> GotLines
-    ensures { λ r. ⌜ Gives (times 4 grammar.separator) (now (s .entry)) st (r .next) (values.lines (r .value)) ⌝ }
+    ensures { λ r. ⌜ Gives (times 4 grammar.Separator) (now (s .entry)) st (r .next) (values.lines (r .value)) ⌝ }
 {
     let got = separator(s, st);
     let horizontal_dimension = got.value;
@@ -88,7 +88,7 @@ pub struct GotSeparators {
 }
 
 pub fn separator_style(s: &[u8], st: Step) -> GotSeparators
-    ensures { λ r. ⌜ Gives grammar.pv-separator-style (now (s .entry)) st (r .next) (values.separator-style (r .rows) (r .columns)) ⌝ }
+    ensures { λ r. ⌜ Gives grammar.PVSeparatorStyle (now (s .entry)) st (r .next) (values.separator-style (r .rows) (r .columns)) ⌝ }
 {
     let st = section(s, st, b"PVSeparatorStyle");
     let st = mark(s, st, 0);
@@ -114,7 +114,7 @@ pub struct GotFrames {
 }
 
 pub fn frames(s: &[u8], st: Step) -> GotFrames
-    ensures { λ r. ⌜ Gives (times 11 grammar.separator) (now (s .entry)) st (r .next) (values.frames (r .value)) ⌝ }
+    ensures { λ r. ⌜ Gives (times 11 grammar.Separator) (now (s .entry)) st (r .next) (values.frames (r .value)) ⌝ }
 {
     let got = separator(s, st);
     let title = got.value;

@@ -70,7 +70,7 @@ struct GotV2 {
 }
 
 fn v2_styles(s: &[u8], st: Step) -> GotV2
-    ensures { λ r. ⌜ Gives grammar.v2-styles (now (s .entry)) st (r .next) (values.v2-styles (r .value)) ⌝ }
+    ensures { λ r. ⌜ Gives grammar.V2Styles (now (s .entry)) st (r .next) (values.v2-styles (r .value)) ⌝ }
 {
     let got = frames(s, st);
     let frames = got.value;
@@ -130,7 +130,7 @@ fn no_v2_styles() -> V2Styles
 
 // V2Styles, which version 02 has.
 fn v2_styles_if(s: &[u8], st: Step, new: bool) -> GotV2
-    ensures { λ r. ⌜ Gives (grammar.v2-styles-if new) (now (s .entry)) st (r .next) (values.v2-styles-if new (r .value)) × (new ≡ false → r .value ≡ blank) ⌝ }
+    ensures { λ r. ⌜ Gives (grammar.V2StylesIf new) (now (s .entry)) st (r .next) (values.v2-styles-if new (r .value)) × (new ≡ false → r .value ≡ blank) ⌝ }
 {
     if new {
         v2_styles(s, st)
@@ -148,7 +148,7 @@ struct GotLook {
 }
 
 fn table_look(s: &[u8], st: Step) -> GotLook
-    ensures { λ r. ⌜ Gives grammar.table-look (now (s .entry)) st (r .next) (values.fields (r .value))
+    ensures { λ r. ⌜ Gives grammar.TableLook (now (s .entry)) st (r .next) (values.fields (r .value))
         × (eqb (r .value .version) 2 ≡ false → r .value .v2 ≡ blank) ⌝ }
 {
     let st = section(s, st, b"PTTableLook");
@@ -188,7 +188,7 @@ fn table_look(s: &[u8], st: Step) -> GotLook
 
 // Reads a look. The places of its names count from the start of the file.
 pub fn read_look(file: &[u8]) -> Answer
-    ensures { λ r. ⌜ outcome r ≡ expected (read grammar.table-look (now (file .entry)) 0) ⌝ }
+    ensures { λ r. ⌜ outcome r ≡ expected (read grammar.TableLook (now (file .entry)) 0) ⌝ }
 {
     let got = table_look(file, Step::Next(0));
     let look = got.value;

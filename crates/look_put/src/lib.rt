@@ -60,7 +60,7 @@ fn settings(buf: &mut [u8], st: Step, x: Settings) -> Step
 }
 
 fn separator(buf: &mut [u8], st: Step, x: Separator) -> Step
-    ensures { λ r. ⌜ PutsPlain grammar.separator (values.separator x) (now (buf .entry)) st (now (buf .exit)) r ⌝ }
+    ensures { λ r. ⌜ PutsPlain grammar.Separator (values.separator x) (now (buf .entry)) st (now (buf .exit)) r ⌝ }
 {
     match x {
         Separator::NotDrawn => {
@@ -82,7 +82,7 @@ fn separator(buf: &mut [u8], st: Step, x: Separator) -> Step
 }
 
 fn lines(buf: &mut [u8], st: Step, x: Lines) -> Step
-    ensures { λ r. ⌜ PutsPlain (times 4 grammar.separator) (values.lines x) (now (buf .entry)) st (now (buf .exit)) r ⌝ }
+    ensures { λ r. ⌜ PutsPlain (times 4 grammar.Separator) (values.lines x) (now (buf .entry)) st (now (buf .exit)) r ⌝ }
 {
     let horizontal_dimension = x.horizontal_dimension;
     let vertical_dimension = x.vertical_dimension;
@@ -95,7 +95,7 @@ fn lines(buf: &mut [u8], st: Step, x: Lines) -> Step
 }
 
 fn separator_style(buf: &mut [u8], st: Step, rows: Lines, columns: Lines) -> Step
-    ensures { λ r. ⌜ PutsPlain grammar.pv-separator-style (values.separator-style rows columns) (now (buf .entry)) st (now (buf .exit)) r ⌝ }
+    ensures { λ r. ⌜ PutsPlain grammar.PVSeparatorStyle (values.separator-style rows columns) (now (buf .entry)) st (now (buf .exit)) r ⌝ }
 {
     let st = section(buf, st, b"PVSeparatorStyle");
     let st = mark(buf, st, 0);
@@ -107,7 +107,7 @@ fn separator_style(buf: &mut [u8], st: Step, rows: Lines, columns: Lines) -> Ste
 }
 
 fn area_color(buf: &mut [u8], st: Step, x: AreaColor) -> Step
-    ensures { λ r. ⌜ PutsPlain grammar.area-color (values.area-color x) (now (buf .entry)) st (now (buf .exit)) r ⌝ }
+    ensures { λ r. ⌜ PutsPlain grammar.AreaColor (values.area-color x) (now (buf .entry)) st (now (buf .exit)) r ⌝ }
 {
     let st = mark(buf, st, 0);
     let st = mark(buf, st, 1);
@@ -119,7 +119,7 @@ fn area_color(buf: &mut [u8], st: Step, x: AreaColor) -> Step
 }
 
 fn cell_style(buf: &mut [u8], st: Step, title: AreaColor) -> Step
-    ensures { λ r. ⌜ PutsPlain grammar.pv-cell-style (values.cell-style title) (now (buf .entry)) st (now (buf .exit)) r ⌝ }
+    ensures { λ r. ⌜ PutsPlain grammar.PVCellStyle (values.cell-style title) (now (buf .entry)) st (now (buf .exit)) r ⌝ }
 {
     let st = section(buf, st, b"PVCellStyle");
     area_color(buf, st, title)
@@ -168,7 +168,7 @@ fn typeface(buf: &mut [u8], st: Step, names: &[u8], x: Typeface) -> Step
 }
 
 fn area_style(buf: &mut [u8], st: Step, names: &[u8], x: AreaStyle) -> Step
-    ensures { λ r. ⌜ Puts grammar.area-style (now (names .entry)) (values.area-style x) (now (buf .entry)) st (now (buf .exit)) r ⌝ }
+    ensures { λ r. ⌜ Puts grammar.AreaStyle (now (names .entry)) (values.area-style x) (now (buf .entry)) st (now (buf .exit)) r ⌝ }
 {
     let alignment_of = x.alignment;
     let font_of = x.font;
@@ -179,7 +179,7 @@ fn area_style(buf: &mut [u8], st: Step, names: &[u8], x: AreaStyle) -> Step
 }
 
 fn area(buf: &mut [u8], st: Step, names: &[u8], x: Area) -> Step
-    ensures { λ r. ⌜ Puts grammar.most-areas (now (names .entry)) (values.area x) (now (buf .entry)) st (now (buf .exit)) r ⌝ }
+    ensures { λ r. ⌜ Puts grammar.MostAreas (now (names .entry)) (values.area x) (now (buf .entry)) st (now (buf .exit)) r ⌝ }
 {
     let color_of = x.color;
     let style_of = x.style;
@@ -193,7 +193,7 @@ fn area(buf: &mut [u8], st: Step, names: &[u8], x: Area) -> Step
 }
 
 fn most_areas(buf: &mut [u8], st: Step, names: &[u8], x: MostAreas) -> Step
-    ensures { λ r. ⌜ Puts (times 7 grammar.most-areas) (now (names .entry)) (values.most-areas x) (now (buf .entry)) st (now (buf .exit)) r ⌝ }
+    ensures { λ r. ⌜ Puts (times 7 grammar.MostAreas) (now (names .entry)) (values.most-areas x) (now (buf .entry)) st (now (buf .exit)) r ⌝ }
 {
     let layers = x.layers;
     let corner = x.corner;
@@ -212,7 +212,7 @@ fn most_areas(buf: &mut [u8], st: Step, names: &[u8], x: MostAreas) -> Step
 }
 
 fn text_style(buf: &mut [u8], st: Step, names: &[u8], title: AreaStyle, most: MostAreas) -> Step
-    ensures { λ r. ⌜ Puts grammar.pv-text-style (now (names .entry)) (values.text-style title most) (now (buf .entry)) st (now (buf .exit)) r ⌝ }
+    ensures { λ r. ⌜ Puts grammar.PVTextStyle (now (names .entry)) (values.text-style title most) (now (buf .entry)) st (now (buf .exit)) r ⌝ }
 {
     let st = section(buf, st, b"PVTextStyle");
     let st = mark(buf, st, 0);
@@ -221,7 +221,7 @@ fn text_style(buf: &mut [u8], st: Step, names: &[u8], title: AreaStyle, most: Mo
 }
 
 fn frames(buf: &mut [u8], st: Step, x: Frames) -> Step
-    ensures { λ r. ⌜ PutsPlain (times 11 grammar.separator) (values.frames x) (now (buf .entry)) st (now (buf .exit)) r ⌝ }
+    ensures { λ r. ⌜ PutsPlain (times 11 grammar.Separator) (values.frames x) (now (buf .entry)) st (now (buf .exit)) r ⌝ }
 {
     let title = x.title;
     let inner = x.inner;
@@ -250,7 +250,7 @@ fn frames(buf: &mut [u8], st: Step, x: Frames) -> Step
 }
 
 fn v2_styles(buf: &mut [u8], st: Step, names: &[u8], x: V2Styles) -> Step
-    ensures { λ r. ⌜ Puts grammar.v2-styles (now (names .entry)) (values.v2-styles x) (now (buf .entry)) st (now (buf .exit)) r ⌝ }
+    ensures { λ r. ⌜ Puts grammar.V2Styles (now (names .entry)) (values.v2-styles x) (now (buf .entry)) st (now (buf .exit)) r ⌝ }
 {
     let frames_of = x.frames;
     let continuation = x.continuation;
@@ -264,7 +264,7 @@ fn v2_styles(buf: &mut [u8], st: Step, names: &[u8], x: V2Styles) -> Step
 
 // V2Styles, which version 02 has.
 fn v2_styles_if(buf: &mut [u8], st: Step, names: &[u8], new: bool, x: V2Styles) -> Step
-    ensures { λ r. ⌜ Puts (grammar.v2-styles-if new) (now (names .entry)) (values.v2-styles-if new x) (now (buf .entry)) st (now (buf .exit)) r ⌝ }
+    ensures { λ r. ⌜ Puts (grammar.V2StylesIf new) (now (names .entry)) (values.v2-styles-if new x) (now (buf .entry)) st (now (buf .exit)) r ⌝ }
 {
     if new {
         v2_styles(buf, st, names, x)
@@ -274,7 +274,7 @@ fn v2_styles_if(buf: &mut [u8], st: Step, names: &[u8], new: bool, x: V2Styles) 
 }
 
 pub fn table_look(buf: &mut [u8], st: Step, names: &[u8], x: Look) -> Step
-    ensures { λ r. ⌜ Puts grammar.table-look (now (names .entry)) (values.fields x) (now (buf .entry)) st (now (buf .exit)) r ⌝ }
+    ensures { λ r. ⌜ Puts grammar.TableLook (now (names .entry)) (values.fields x) (now (buf .entry)) st (now (buf .exit)) r ⌝ }
 {
     let settings_of = x.settings;
     let rows = x.rows;

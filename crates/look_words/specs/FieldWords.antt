@@ -5,7 +5,7 @@ use lib.ListN.{take, replicate}
 use Rattle.layout.specs.Layout.{Test, any-number, the-number, a-version, a-bool, at-most, one-of, a-color, Layout, empty, number, string, _▸_, times, leading, region, nothing}
 use Rattle.fields.specs.Fields.{Fields}
 use Rattle.look.specs.Look as grammar
-use Rattle.look.specs.Look.{table-look}
+use Rattle.look.specs.Look.{TableLook}
 use Rattle.look.specs.Answers.{Outcome, accepted, refused}
 use Rattle.look_words.specs.LookWords.{word}
 
@@ -36,11 +36,11 @@ words (region o m a) f = []
 words nothing f = []
 
 -- the words of a look: its version, its settings, its three other sections, and its V2 data
-unfoldable pub fieldWords : Fields table-look → Fields grammar.v2-styles → List ℕ
+unfoldable pub fieldWords : Fields TableLook → Fields grammar.V2Styles → List ℕ
 fieldWords f v =
     f .1 .0 ∷ words grammar.settings (f .1 .1 .0)
-    ++ words (grammar.pv-separator-style ▸ grammar.pv-cell-style ▸ grammar.pv-text-style) (f .1 .1 .1 .0)
-    ++ words grammar.v2-styles v
+    ++ words (grammar.PVSeparatorStyle ▸ grammar.PVCellStyle ▸ grammar.PVTextStyle) (f .1 .1 .1 .0)
+    ++ words grammar.V2Styles v
 
 -- 264 words: the refusal, 0 if the look is accepted, and its place; then the look, all 0 on a refusal
 unfoldable pub answerWords : Outcome → List ℕ

@@ -14,7 +14,7 @@ use Rattle.fields.specs.Fields.{Fields, placedAll, placed}
 use Rattle.fields.specs.Puts.{Fit}
 use Rattle.fields.specs.Trees.{Stands, check-placed}
 use Rattle.look.specs.Look as grammar
-use Rattle.look.specs.Look.{table-look}
+use Rattle.look.specs.Look.{TableLook}
 use Rattle.look.specs.Values as values
 use Rattle.look.specs.Values.{_&_}
 use Rattle.look.specs.Answers.{blank, accepted, expected, v2-data, v2-of}
@@ -86,39 +86,39 @@ fit-placed (leading b n a) t v at = v
 fit-placed (region o m a) t v at = v
 
 -- "the longest 2,770 and 3,152" (document 01)
-short : (t : Tree table-look) → Valid table-look t → length (spell table-look t) ≤ 3152
+short : (t : Tree TableLook) → Valid TableLook t → length (spell TableLook t) ≤ 3152
 short t v =
-    let s = spell table-look t in
+    let s = spell TableLook t in
     let stands : Stands s s 0 [] = record { inside = omega arith; here = sym (append-nil s) } in
-    let far = longest-look .is s (placed table-look t 0) 0 (fit-placed table-look t v 0) in
-    omega (arith, rw (check-placed table-look t v s 0 [] stands) at far)
+    let far = longest-look .is s (placed TableLook t 0) 0 (fit-placed TableLook t v 0) in
+    omega (arith, rw (check-placed TableLook t v s 0 [] stands) at far)
 
 -- ---- V2 data
 
-no-names : (b : Bool) (f : Fields (grammar.separator-if b)) → Kept (grammar.separator-if b) f
+no-names : (b : Bool) (f : Fields (grammar.SeparatorIf b)) → Kept (grammar.SeparatorIf b) f
 no-names true f = tt & tt & tt & tt
 no-names false f = tt
 
-kept-separators : (fs : List (Fields grammar.separator)) → All (Kept grammar.separator) fs
+kept-separators : (fs : List (Fields grammar.Separator)) → All (Kept grammar.Separator) fs
 kept-separators [] = all-none
 kept-separators (f ∷ fs) = all-more (no-names (eqb (f .0) 1) (f .1)) (kept-separators fs)
 
-v2-kept : (b : Bool) (f : Fields (grammar.v2-styles-if b)) → Kept (grammar.v2-styles-if b) f → Kept grammar.v2-styles (v2-data b f)
+v2-kept : (b : Bool) (f : Fields (grammar.V2StylesIf b)) → Kept (grammar.V2StylesIf b) f → Kept grammar.V2Styles (v2-data b f)
 v2-kept true f h = h
 v2-kept false f h = kept-separators (values.frames (blank .frames)) & (refl, refl) & tt & tt & tt & tt
 
 -- whatever fields and V2 data `read_look` gives for bytes that it accepts
-pub kept : (s : List ℕ) → Bytes s → (f : Fields table-look) (v : Fields grammar.v2-styles) → accepted f v ≡ expected (read table-look s 0)
-    → Kept table-look f × Kept grammar.v2-styles v
+pub kept : (s : List ℕ) → Bytes s → (f : Fields TableLook) (v : Fields grammar.V2Styles) → accepted f v ≡ expected (read TableLook s 0)
+    → Kept TableLook f × Kept grammar.V2Styles v
 unfolding expected
-kept s bs f v e = go (read table-look s 0) refl e
+kept s bs f v e = go (read TableLook s 0) refl e
   where
-    go : (x : Got (Tree table-look)) → read table-look s 0 ≡ x → accepted f v ≡ expected x → Kept table-look f × Kept grammar.v2-styles v
+    go : (x : Got (Tree TableLook)) → read TableLook s 0 ≡ x → accepted f v ≡ expected x → Kept TableLook f × Kept grammar.V2Styles v
     go (got t [] p) i j =
-        let valid = laws.sound table-look s bs 0 t [] p i .0 in
-        let k : Kept table-look (placed table-look t 0) = kept-placed table-look t 0 (omega (arith, short t valid)) in
-        let f≡ : f ≡ placed table-look t 0 = cc in
-        let v≡ : v ≡ v2-of (placed table-look t 0) = cc in
-        rw (f≡, v≡) (k, v2-kept (eqb (placed table-look t 0 .1 .0) 2) (placed table-look t 0 .1 .1 .1 .1) (k .1 .1 .1))
+        let valid = laws.sound TableLook s bs 0 t [] p i .0 in
+        let k : Kept TableLook (placed TableLook t 0) = kept-placed TableLook t 0 (omega (arith, short t valid)) in
+        let f≡ : f ≡ placed TableLook t 0 = cc in
+        let v≡ : v ≡ v2-of (placed TableLook t 0) = cc in
+        rw (f≡, v≡) (k, v2-kept (eqb (placed TableLook t 0 .1 .0) 2) (placed TableLook t 0 .1 .1 .1 .1) (k .1 .1 .1))
     go (got t (b ∷ r) p) i j = absurd (let z : _≡_ {A = ℕ} 0 1 = cc in omega arith)
     go (no n p) i j = absurd (let z : _≡_ {A = ℕ} 0 1 = cc in omega arith)

@@ -24,13 +24,13 @@ use Rattle.look_words.specs.LookWords as named
 use Rattle.look_words.specs.LookWords.{word, lookWords}
 use Rattle.look_words.specs.FieldWords.{wordsAll, words, fieldWords, answerWords}
 
-separator-same : (x : Separator) → words grammar.separator (values.separator x) ≡ named.separator x
+separator-same : (x : Separator) → words grammar.Separator (values.separator x) ≡ named.separator x
 unfolding words named.separator
 separator-same NotDrawn = refl
 separator-same (Drawn color style width) = refl
 
-separators : List (Fields grammar.separator) → List ℕ
-separators = wordsAll (words grammar.separator)
+separators : List (Fields grammar.Separator) → List ℕ
+separators = wordsAll (words grammar.Separator)
 
 lines-same : (x : Lines) → separators (values.lines x) ≡ named.lines x
 unfolding separators wordsAll named.four
@@ -44,17 +44,17 @@ settings-same : (x : Settings) → words grammar.settings (values.settings x) �
 unfolding words
 settings-same x = refl
 
-borders-same : (rows columns : Lines) → words grammar.pv-separator-style (values.separator-style rows columns) ≡ named.lines rows ++ named.lines columns
+borders-same : (rows columns : Lines) → words grammar.PVSeparatorStyle (values.separator-style rows columns) ≡ named.lines rows ++ named.lines columns
 unfolding words separators
 borders-same rows columns = rw (← (lines-same rows), ← (lines-same columns)) (simp append-nil)
 
 areas-same : (title : Area) (most : MostAreas)
-    → words grammar.pv-cell-style (values.cell-style (title .color)) ++ words grammar.pv-text-style (values.text-style (title .style) most)
+    → words grammar.PVCellStyle (values.cell-style (title .color)) ++ words grammar.PVTextStyle (values.text-style (title .style) most)
     ≡ named.area title ++ named.most-areas most
 unfolding words wordsAll named.area named.most-areas
 areas-same title most = refl
 
-v2-same : (x : V2Styles) → words grammar.v2-styles (values.v2-styles x) ≡ named.frames (x .frames) ++ named.v2-numbers x
+v2-same : (x : V2Styles) → words grammar.V2Styles (values.v2-styles x) ≡ named.frames (x .frames) ++ named.v2-numbers x
 unfolding words separators
 v2-same x = rw (← (frames-same (x .frames))) (simp append-assoc)
 
@@ -71,7 +71,7 @@ unfolding fieldWords lookWords
 in-order x =
     rw (
       settings-same (x .settings),
-      three grammar.pv-separator-style grammar.pv-cell-style grammar.pv-text-style,
+      three grammar.PVSeparatorStyle grammar.PVCellStyle grammar.PVTextStyle,
       borders-same (x .rows) (x .columns),
       areas-same (x .title) (x .«most_areas»),
       v2-same (x .v2),

@@ -4,7 +4,7 @@ mod areas; // colors and styles
 mod borders; // separators
 
 ghost use Rattle.layout.specs.Read.{read};
-ghost use Rattle.look.specs.Look.{table-look};
+ghost use Rattle.look.specs.Look.{TableLook};
 ghost use Rattle.look.specs.Answers.{expected};
 ghost use Rattle.look_words.specs.LookWords as spec;
 ghost use Rattle.look_words.specs.LookWords.{lookWords};
@@ -85,7 +85,7 @@ pub fn look_words(look: Look, area: &mut [u32]) -> usize
 // Reads a look and puts 264 words at the front of an area: the refusal, 0 if the look is accepted, and its place; then the 262 words of
 // the look, all 0 on a refusal. Gives 264; 0, with nothing changed, if the area is shorter.
 pub fn look_answer(file: &[u8], area: &mut [u32]) -> usize
-    ensures { λ r. ⌜ AtFront 264 (answerWords (expected (read table-look (now (file .entry)) 0))) (now (area .entry)) r (now (area .exit)) ⌝ }
+    ensures { λ r. ⌜ AtFront 264 (answerWords (expected (read TableLook (now (file .entry)) 0))) (now (area .entry)) r (now (area .exit)) ⌝ }
 {
     let room = 264 <= area.len();
     if room {

@@ -14,14 +14,14 @@ use Rattle.layout.specs.Reads.{chain}
 use Rattle.fields.specs.Check.{check}
 use Rattle.fields.specs.Puts.{Puts, stored}
 use Rattle.look.specs.declared.Look.{Look}
-use Rattle.look.specs.Look.{table-look}
+use Rattle.look.specs.Look.{TableLook}
 use Rattle.look.specs.Values as values
 use Rattle.look_write.specs.Writing.{file, stray, ending, writing, output, Fits}
 use Rattle.look_write.specs.Bounds.{longest-look}
 
 -- the answer, once the check is known
 module _ (x : Look) (s : List ℕ) (room : ℕ) where
-  module _ {n : ℕ} (c : check table-look s (values.fields x) 0 ≡ Next n) where
+  module _ {n : ℕ} (c : check TableLook s (values.fields x) 0 ≡ Next n) where
     pub answers-stray : stray x ≡ true → writing x s room ≡ Refused 16 n
     unfolding writing ending chain pick
     answers-stray e = rw (c, e)
@@ -34,17 +34,17 @@ module _ (x : Look) (s : List ℕ) (room : ℕ) where
     unfolding writing ending chain pick
     answers-short e h = rw (c, e, h)
 
-  pub answers-refused : {n p : ℕ} → check table-look s (values.fields x) 0 ≡ Refused n p → writing x s room ≡ Refused n p
+  pub answers-refused : {n p : ℕ} → check TableLook s (values.fields x) 0 ≡ Refused n p → writing x s room ≡ Refused n p
   unfolding writing chain
   answers-refused c = rw c
 
 -- the buffer
-module _ (x : Look) {s b b′ : List ℕ} {r : Step} (long : length b ≡ 3152) (put : Puts table-look s (values.fields x) b (Next 0) b′ r) where
-  pub checked : r ≡ check table-look s (values.fields x) 0
+module _ (x : Look) {s b b′ : List ℕ} {r : Step} (long : length b ≡ 3152) (put : Puts TableLook s (values.fields x) b (Next 0) b′ r) where
+  pub checked : r ≡ check TableLook s (values.fields x) 0
   checked = put .is .checks 0 refl (rw long (longest-look .is s (values.fields x) 0 (put .fit)))
 
   module _ {n : ℕ} (e : r ≡ Next n) where
-    pub checked-length : check table-look s (values.fields x) 0 ≡ Next n
+    pub checked-length : check TableLook s (values.fields x) 0 ≡ Next n
     checked-length = sym checked ∙ e
 
     pub within : n ≤ 3152
@@ -68,7 +68,7 @@ abbrev Returns : Look → List ℕ → List ℕ → Step → List ℕ → Type 0
 Returns x s out v out′ =
     (v ≡ writing x s (length out)) × (out′ ≡ output (writing x s (length out)) (file x s) out) × Fits x
 
-module _ (x : Look) {s b b′ : List ℕ} {r : Step} (long : length b ≡ 3152) (put : Puts table-look s (values.fields x) b (Next 0) b′ r) (out : List ℕ) where
+module _ (x : Look) {s b b′ : List ℕ} {r : Step} (long : length b ≡ 3152) (put : Puts TableLook s (values.fields x) b (Next 0) b′ r) (out : List ℕ) where
   pub returns-refused : {n p : ℕ} → r ≡ Refused n p → Returns x s out (Refused n p) out
   unfolding output
   returns-refused e = rw (answers-refused x s (length out) (sym (checked x long put) ∙ e)) (refl, refl, record { is = put .fit })

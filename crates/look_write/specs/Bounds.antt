@@ -7,7 +7,7 @@ use lib.Dec.{eqb}
 use Rattle.layout.specs.Layout.{Layout, _▸_}
 use Rattle.fields.specs.Bounds.{AtMost, most, Bounded, at-most}
 use Rattle.look.specs.Look as grammar
-use Rattle.look.specs.Look.{table-look}
+use Rattle.look.specs.Look.{TableLook}
 use Rattle.look.specs.Values.{_&_}
 
 -- a number alone
@@ -17,44 +17,44 @@ f n = (omega arith, tt)
 section : (letters : List ℕ) → Bounded (grammar.section letters)
 section letters = f & f & f & f & f
 
-separator : Bounded grammar.separator
+separator : Bounded grammar.Separator
 separator n = go (eqb n 1)
   where
-    go : (b : Bool) → (most (grammar.separator-if b) ≤ max (most grammar.undrawn) (max (most grammar.drawn) (most grammar.undrawn))) × Bounded (grammar.separator-if b)
+    go : (b : Bool) → (most (grammar.SeparatorIf b) ≤ max (most grammar.undrawn) (max (most grammar.drawn) (most grammar.undrawn))) × Bounded (grammar.SeparatorIf b)
     go true = (omega arith, f & f & f & f)
     go false = (omega arith, f)
 
-color : Bounded grammar.area-color
+color : Bounded grammar.AreaColor
 color = f & f & f & f & f & f & f
 
-style : Bounded grammar.area-style
+style : Bounded grammar.AreaStyle
 style = (f & f & f & f & f & f & f & f & f & f & f) & (f & f & f & f & f & f & f) & (f & f & f & f & f & tt & f & f)
 
-areas : Bounded grammar.most-areas
+areas : Bounded grammar.MostAreas
 areas = f & f & color & f & f & f & style
 
-v2-if : (b : Bool) → Bounded (grammar.v2-styles-if b)
+v2-if : (b : Bool) → Bounded (grammar.V2StylesIf b)
 v2-if true = separator & tt & f & f & f & f
 v2-if false = tt
 
 sections : (version : ℕ) → Bounded (grammar.sections version)
 sections version =
-    (section grammar.PVSeparatorStyle & f & separator & f & f & f & separator) & (section grammar.PVCellStyle & color)
-    & (section grammar.PVTextStyle & f & style & areas) & v2-if (eqb version 2)
+    (section grammar.PVSeparatorStyle-name & f & separator & f & f & f & separator) & (section grammar.PVCellStyle-name & color)
+    & (section grammar.PVTextStyle-name & f & style & areas) & v2-if (eqb version 2)
 
 -- what comes after the version
 abbrev rest : Bool → Layout
-rest b = grammar.settings ▸ (grammar.pv-separator-style ▸ grammar.pv-cell-style ▸ grammar.pv-text-style ▸ grammar.v2-styles-if b)
+rest b = grammar.settings ▸ (grammar.PVSeparatorStyle ▸ grammar.PVCellStyle ▸ grammar.PVTextStyle ▸ grammar.V2StylesIf b)
 
 longest : (b : Bool) → most (rest b) ≤ max (most (rest false)) (max (most (rest false)) (most (rest true)))
-unfolding grammar.PVSeparatorStyle grammar.PVCellStyle grammar.PVTextStyle
+unfolding grammar.PVSeparatorStyle-name grammar.PVCellStyle-name grammar.PVTextStyle-name
 longest true = omega arith
 longest false = omega arith
 
-look : Bounded table-look
-look = section grammar.PTTableLook & (λ version. (longest (eqb version 2), (f & f & f & f & f & f & f & f & f) & sections version))
+look : Bounded TableLook
+look = section grammar.PTTableLook-name & (λ version. (longest (eqb version 2), (f & f & f & f & f & f & f & f & f) & sections version))
 
 -- "the longest 2,770 and 3,152" (document 01)
-pub longest-look : AtMost table-look 3152
-unfolding grammar.PTTableLook grammar.PVSeparatorStyle grammar.PVCellStyle grammar.PVTextStyle
-longest-look = at-most table-look look
+pub longest-look : AtMost TableLook 3152
+unfolding grammar.PTTableLook-name grammar.PVSeparatorStyle-name grammar.PVCellStyle-name grammar.PVTextStyle-name
+longest-look = at-most TableLook look

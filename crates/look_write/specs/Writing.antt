@@ -17,7 +17,7 @@ use Rattle.look.specs.declared.Frame.{Frame}
 use Rattle.look.specs.declared.Frames.{Frames}
 use Rattle.look.specs.declared.V2Styles.{V2Styles}
 use Rattle.look.specs.declared.Look.{Look}
-use Rattle.look.specs.Look.{table-look}
+use Rattle.look.specs.Look.{TableLook}
 use Rattle.look.specs.Values as values
 use Rattle.look_write.specs.declared.Written.{Written}
 use Rattle.look_write.specs.declared.Written.the-variants as written
@@ -45,7 +45,7 @@ no-v2 x =
 
 -- the bytes of a look whose names lie in s
 unfoldable pub file : Look → List ℕ → List ℕ
-file x s = spell table-look (resolve table-look s (values.fields x))
+file x s = spell TableLook (resolve TableLook s (values.fields x))
 
 -- "version 00 with V2 data not all zero, undrawn and with an empty continuation"
 unfoldable pub stray : Look → Bool
@@ -57,7 +57,7 @@ ending x room n = pick (stray x) (Refused 16 n) (pick (leb n room) (Next n) (Ref
 
 -- the length, or the refusal, for a look whose names lie in s and an output of that many bytes
 unfoldable pub writing : Look → List ℕ → ℕ → Step
-writing x s room = chain (check table-look s (values.fields x) 0) (ending x room)
+writing x s room = chain (check TableLook s (values.fields x) 0) (ending x room)
 
 -- what the output holds: the look's bytes, and what it held beyond; a refusal leaves it as it was
 unfoldable pub output : Step → List ℕ → List ℕ → List ℕ
@@ -71,4 +71,4 @@ answer (written.Refused n p) = Refused n p
 
 -- each number of a look fits its bytes, as its type says
 pub record Fits (x : Look) : Type 0 where
-  pub is : Fit table-look (values.fields x)
+  pub is : Fit TableLook (values.fields x)

@@ -1,11 +1,11 @@
 use borrow.Author.Needs.{needs}
 use Rattle.fields.specs.Puts.{_⊳_}
-use Rattle.look.specs.Look.{PVCellStyle}
+use Rattle.look.specs.Look.{PVCellStyle-name}
 use Rattle.look_put.proofs.cell_style.Statement.{statement}
 use Rattle.look_put.proofs.cell_style.Tie as tie
 
 pub cell-style-spec : {M : Type 1} → statement M
-unfolding PVCellStyle
+unfolding PVCellStyle-name
 cell-style-spec =
     tie.close
     (tie.spec

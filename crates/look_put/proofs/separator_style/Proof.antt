@@ -1,11 +1,11 @@
 use borrow.Author.Needs.{needs}
 use Rattle.fields.specs.Puts.{_⊳_, long-plain}
-use Rattle.look.specs.Look.{PVSeparatorStyle}
+use Rattle.look.specs.Look.{PVSeparatorStyle-name}
 use Rattle.look_put.proofs.separator_style.Statement.{statement}
 use Rattle.look_put.proofs.separator_style.Tie as tie
 
 returns : tie.Need-returns
-unfolding PVSeparatorStyle
+unfolding PVSeparatorStyle-name
 returns c =
     let c₁ = c .before .before .before .before in
     let c₂ = c₁ .before .before .before .before in

@@ -2,12 +2,12 @@ use borrow.Author.Needs.{needs}
 use Rattle.layout.specs.Layout.{_▸_}
 use Rattle.fields.specs.Puts.{plain, _⟫_, switch-puts, long}
 use Rattle.look.specs.Look as grammar
-use Rattle.look.specs.Look.{PTTableLook}
+use Rattle.look.specs.Look.{PTTableLook-name}
 use Rattle.look_put.proofs.table_look.Statement.{statement}
 use Rattle.look_put.proofs.table_look.Tie as tie
 
 returns : tie.Need-returns
-unfolding PTTableLook
+unfolding PTTableLook-name
 returns c =
     let c₁ = c .before .before .before .before in
     let c₂ = c₁ .before .before .before .before in

@@ -1,11 +1,11 @@
 use borrow.Author.Needs.{needs}
 use Rattle.fields.specs.Puts.{plain, _⟫_, long}
-use Rattle.look.specs.Look.{PVTextStyle}
+use Rattle.look.specs.Look.{PVTextStyle-name}
 use Rattle.look_put.proofs.text_style.Statement.{statement}
 use Rattle.look_put.proofs.text_style.Tie as tie
 
 returns : tie.Need-returns
-unfolding PVTextStyle
+unfolding PVTextStyle-name
 returns c =
     let c₁ = c .before .before .before .before in
     let c₂ = c₁ .before .before .before .before in

@@ -1,6 +1,6 @@
 use borrow.Author.Needs.{needs}
 use Rattle.layout.specs.Read.{read}
-use Rattle.look.specs.Look.{table-look}
+use Rattle.look.specs.Look.{TableLook}
 use Rattle.look.specs.Answers.{expected}
 use Rattle.look_words.specs.FieldWords.{answerWords}
 use Rattle.words.specs.Stores.{_⊳_, long, without-room}
@@ -38,4 +38,4 @@ look-answer-spec =
     (λ c. let z = c .before .before in long (z .before .before .before .before .before .put2 .ensures ⊳ z .put3 .ensures)) returns-2
     (λ c.
     let a = c .before .before .before .args in
-    without-room 264 (answerWords (expected (read table-look (a .file .now) 0))) (a .area .now) (c .if1 .left)))
+    without-room 264 (answerWords (expected (read TableLook (a .file .now) 0))) (a .area .now) (c .if1 .left)))

@@ -1,11 +1,11 @@
 use borrow.Author.Needs.{needs}
 use Rattle.fields.specs.Gives.{gives}
-use Rattle.look.specs.Look.{PVTextStyle}
+use Rattle.look.specs.Look.{PVTextStyle-name}
 use Rattle.look.proofs.areas.text_style.Statement.{statement}
 use Rattle.look.proofs.areas.text_style.Tie as tie
 
 pub text-style-spec : {M : Type 1} → statement M
-unfolding PVTextStyle
+unfolding PVTextStyle-name
 text-style-spec =
     tie.close
     (tie.spec

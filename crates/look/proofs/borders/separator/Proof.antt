@@ -14,12 +14,12 @@ separator-spec =
     (λ _ _. tt) (λ _ _. tt) (λ _ _. tt) (λ _ _. tt) (λ _ _. tt) (λ _ _. tt)
     (λ c.
     let m = c .before .before .before .before in
-    switch-known (λ type. grammar.separator-if (eqb type 1))
+    switch-known (λ type. grammar.SeparatorIf (eqb type 1))
     (λ at n i x. peeked (m .before .before .before .before .args .s .now) at x i (m .before .before .peek .ensures) ∙ eqb-true _ 1 (c .before .before .before .if1 .taken))
     (m .before .one-of-two .ensures)
     (m .mark .ensures ⟩ c .before .before .color .ensures ⟩ c .before .int16 .ensures ⟩ c .int162 .ensures))
     (λ c.
     let m = c .before in
-    switch-known (λ type. grammar.separator-if (eqb type 1))
+    switch-known (λ type. grammar.SeparatorIf (eqb type 1))
     (λ at n i x. first-of-two x (ap (λ (v : ℕ). eqb v 1) (peeked (m .before .before .before .before .args .s .now) at x i (m .before .before .peek .ensures)) ∙ c .if1 .left))
     (m .before .one-of-two .ensures) (m .mark .ensures)))

@@ -1,11 +1,11 @@
 use borrow.Author.Needs.{needs}
 use Rattle.fields.specs.Gives.{gives}
-use Rattle.look.specs.Look.{PVSeparatorStyle}
+use Rattle.look.specs.Look.{PVSeparatorStyle-name}
 use Rattle.look.proofs.borders.separator_style.Statement.{statement}
 use Rattle.look.proofs.borders.separator_style.Tie as tie
 
 pub separator-style-spec : {M : Type 1} → statement M
-unfolding PVSeparatorStyle
+unfolding PVSeparatorStyle-name
 separator-style-spec =
     tie.close
     (tie.spec

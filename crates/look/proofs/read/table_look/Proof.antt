@@ -4,12 +4,12 @@ use Rattle.layout.specs.Steps.Numbers.{tested-of}
 use Rattle.fields.specs.Gives.{switch-gives, _⟩_}
 use Rattle.fields.specs.Slices.{bytes-of, peek-lt}
 use Rattle.look.specs.Look as grammar
-use Rattle.look.specs.Look.{PTTableLook}
+use Rattle.look.specs.Look.{PTTableLook-name}
 use Rattle.look.proofs.read.table_look.Statement.{statement}
 use Rattle.look.proofs.read.table_look.Tie as tie
 
 pub table-look-spec : {M : Type 1} → statement M
-unfolding PTTableLook
+unfolding PTTableLook-name
 table-look-spec =
     tie.close
     (tie.spec
