@@ -7,3 +7,6 @@ pub mod Check
 pub mod Puts
 pub mod Trees
 pub mod Bounds
+pub mod Unwritable
+pub mod Laws
+pub mod Failing

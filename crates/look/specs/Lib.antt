@@ -1,3 +1,6 @@
 pub mod Look
 pub mod Values
 pub mod Answers
+pub mod Bounds
+pub mod Refused
+pub mod RefusedExactly

@@ -2,6 +2,7 @@
 ghost use mathlib.Core.Path.{_≡_};
 ghost use mathlib.Core.Bool.{false};
 ghost use lib.Dec.{eqb};
+ghost use Rattle.layout.specs.Layout.{Bytes};
 ghost use Rattle.layout.specs.Read.{read};
 ghost use Rattle.fields.specs.Gives.{Gives};
 ghost use Rattle.look.specs.Look as grammar;
@@ -188,7 +189,7 @@ fn table_look(s: &[u8], st: Step) -> GotLook
 
 // Reads a look. The places of its names count from the start of the file.
 pub fn read_look(file: &[u8]) -> Answer
-    ensures { λ r. ⌜ outcome r ≡ expected (read grammar.TableLook (now (file .entry)) 0) ⌝ }
+    ensures { λ r. ⌜ (outcome r ≡ expected (read grammar.TableLook (now (file .entry)) 0)) × Bytes (now (file .entry)) ⌝ }
 {
     let got = table_look(file, Step::Next(0));
     let look = got.value;

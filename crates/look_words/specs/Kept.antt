@@ -18,7 +18,7 @@ use Rattle.look.specs.Look.{TableLook}
 use Rattle.look.specs.Values as values
 use Rattle.look.specs.Values.{_&_}
 use Rattle.look.specs.Answers.{blank, accepted, expected, v2-data, v2-of}
-use Rattle.look_write.specs.Bounds.{longest-look}
+use Rattle.look.specs.Bounds.{longest-look}
 use Rattle.look_words.specs.LookWords.{word}
 
 -- each name of the fields

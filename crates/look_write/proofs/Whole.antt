@@ -2,22 +2,22 @@
 use mathlib.Core.Path.{_≡_, refl, sym, _∙_}
 use mathlib.Core.Bool.{Bool, true, false}
 use mathlib.Core.List.{List, _++_}
-use Prim.Native.Nat.{ℕ, _+_, _≤_}
+use Prim.Native.Nat.{ℕ, _+_, _≤_, min}
 use native.Mathlib.Omega.{arith}
 use lib.ListN.{length, take, drop}
-use lib.Seq.{take-at, take-length}
+use lib.Seq.{take-at, take-length, length-take-le}
 use lib.Dec.{leb}
 use Rattle.layout.specs.declared.Step.{Step}
 use Rattle.layout.specs.declared.Step.the-variants.{Next, Refused}
-use Rattle.layout.specs.Layout.{pick}
+use Rattle.layout.specs.Layout.{Bytes, pick}
 use Rattle.layout.specs.Reads.{chain}
 use Rattle.fields.specs.Check.{check}
 use Rattle.fields.specs.Puts.{Puts, stored}
 use Rattle.look.specs.declared.Look.{Look}
 use Rattle.look.specs.Look.{TableLook}
 use Rattle.look.specs.Values as values
+use Rattle.look.specs.Bounds.{longest-look}
 use Rattle.look_write.specs.Writing.{file, stray, ending, writing, output, Fits}
-use Rattle.look_write.specs.Bounds.{longest-look}
 
 -- the answer, once the check is known
 module _ (x : Look) (s : List ℕ) (room : ℕ) where
@@ -37,6 +37,13 @@ module _ (x : Look) (s : List ℕ) (room : ℕ) where
   pub answers-refused : {n p : ℕ} → check TableLook s (values.fields x) 0 ≡ Refused n p → writing x s room ≡ Refused n p
   unfolding writing chain
   answers-refused c = rw c
+
+-- a part of a buffer from its start
+pub part-length : (n : ℕ) (b : List ℕ) → n ≤ length b → n ≡ length (take n b)
+part-length n b h = sym (length-take-le n b h)
+
+pub min-fits : (n m room : ℕ) → n ≤ room → min n m ≤ room
+min-fits n m room h = omega arith
 
 -- the buffer
 module _ (x : Look) {s b b′ : List ℕ} {r : Step} (long : length b ≡ 3152) (put : Puts TableLook s (values.fields x) b (Next 0) b′ r) where
@@ -66,21 +73,21 @@ module _ (x : Look) {s b b′ : List ℕ} {r : Step} (long : length b ≡ 3152) 
 -- the answer is v, and the output holds out′
 abbrev Returns : Look → List ℕ → List ℕ → Step → List ℕ → Type 0
 Returns x s out v out′ =
-    (v ≡ writing x s (length out)) × (out′ ≡ output (writing x s (length out)) (file x s) out) × Fits x
+    (v ≡ writing x s (length out)) × (out′ ≡ output (writing x s (length out)) (file x s) out) × Fits x × Bytes s
 
-module _ (x : Look) {s b b′ : List ℕ} {r : Step} (long : length b ≡ 3152) (put : Puts TableLook s (values.fields x) b (Next 0) b′ r) (out : List ℕ) where
+module _ (x : Look) {s b b′ : List ℕ} {r : Step} (long : length b ≡ 3152) (put : Puts TableLook s (values.fields x) b (Next 0) b′ r) (bs : Bytes s) (out : List ℕ) where
   pub returns-refused : {n p : ℕ} → r ≡ Refused n p → Returns x s out (Refused n p) out
   unfolding output
-  returns-refused e = rw (answers-refused x s (length out) (sym (checked x long put) ∙ e)) (refl, refl, record { is = put .fit })
+  returns-refused e = rw (answers-refused x s (length out) (sym (checked x long put) ∙ e)) (refl, refl, record { is = put .fit }, bs)
 
   module _ {n : ℕ} (e : r ≡ Next n) where
     pub returns-stray : {lost : Bool} → lost ≡ stray x → lost ≡ true → Returns x s out (Refused 16 n) out
     unfolding output
-    returns-stray h i = rw (answers-stray x s (length out) (checked-length x long put e) (sym h ∙ i)) (refl, refl, record { is = put .fit })
+    returns-stray h i = rw (answers-stray x s (length out) (checked-length x long put e) (sym h ∙ i)) (refl, refl, record { is = put .fit }, bs)
 
     pub returns-short : {lost : Bool} → lost ≡ stray x → lost ≡ false → leb n (length out) ≡ false → Returns x s out (Refused 15 0) out
     unfolding output
-    returns-short h i j = rw (answers-short x s (length out) (checked-length x long put e) (sym h ∙ i) j) (refl, refl, record { is = put .fit })
+    returns-short h i j = rw (answers-short x s (length out) (checked-length x long put e) (sym h ∙ i) j) (refl, refl, record { is = put .fit }, bs)
 
     pub returns-length : {lost : Bool} {out′ : List ℕ} → lost ≡ stray x → lost ≡ false → leb n (length out) ≡ true
         → out′ ≡ take (length (take n b′)) (take n b′) ++ drop (length (take n b′)) out → Returns x s out (Next n) out′
@@ -88,4 +95,4 @@ module _ (x : Look) {s b b′ : List ℕ} {r : Step} (long : length b ≡ 3152) 
     returns-length h i j k =
         let l : length (take n b′) ≡ n = sym (front-length x long put e) in
         rw (answers-length x s (length out) (checked-length x long put e) (sym h ∙ i) j)
-        (refl, k ∙ rw (take-length, l, front x long put e), record { is = put .fit })
+        (refl, k ∙ rw (take-length, l, front x long put e), record { is = put .fit }, bs)

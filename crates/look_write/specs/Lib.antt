@@ -1,3 +1,5 @@
 pub mod Writing
-pub mod Bounds
+pub mod Refused
+pub mod RefusedExactly
 pub mod Theorems
+pub mod Calls

@@ -1,12 +1,13 @@
 -- What writing a look answers, and what the output then holds: document 01, "The looks" and "Refusal numbers".
+use mathlib.Core.Path.{_≡_}
 use mathlib.Core.Bool.{Bool, true, false, _&&_, not}
 use mathlib.Core.List.{List, _++_}
 use Prim.Native.Nat.{ℕ}
-use lib.ListN.{drop}
+use lib.ListN.{length, drop}
 use lib.Dec.{eqb, leb}
 use Rattle.layout.specs.declared.Step.{Step}
 use Rattle.layout.specs.declared.Step.the-variants.{Next, Refused}
-use Rattle.layout.specs.Layout.{spell, pick}
+use Rattle.layout.specs.Layout.{spell, Bytes, pick}
 use Rattle.layout.specs.Reads.{chain}
 use Rattle.fields.specs.Fields.{resolve}
 use Rattle.fields.specs.Check.{check}
@@ -72,3 +73,8 @@ answer (written.Refused n p) = Refused n p
 -- each number of a look fits its bytes, as its type says
 pub record Fits (x : Look) : Type 0 where
   pub is : Fit TableLook (values.fields x)
+
+-- a call of `write_look` that answered r and left out′ in the output: for a look x whose names lie in the bytes s
+abbrev pub Wrote : Look → List ℕ → List ℕ → Written → List ℕ → Type 0
+Wrote x s out r out′ =
+    (answer r ≡ writing x s (length out)) × (out′ ≡ output (writing x s (length out)) (file x s) out) × Fits x × Bytes s

@@ -1,7 +1,6 @@
 // The writer of binary table looks.
 ghost use mathlib.Core.Path.{_≡_};
 ghost use mathlib.Core.Bool.{_&&_};
-ghost use lib.ListN.{length};
 ghost use Rattle.look_write.specs.Writing as spec;
 use layout::Step;
 use look::Frame;
@@ -93,9 +92,7 @@ fn stray(x: Look) -> bool
 
 // Writes a look whose names lie in `names`. A refusal leaves the output as it was, and the output beyond the look stays.
 pub fn write_look(look: Look, names: &[u8], out: &mut [u8]) -> Written
-    ensures { λ r. ⌜ (spec.answer r ≡ spec.writing look (now (names .entry)) (length (now (out .entry))))
-        × (now (out .exit) ≡ spec.output (spec.writing look (now (names .entry)) (length (now (out .entry)))) (spec.file look (now (names .entry))) (now (out .entry)))
-        × spec.Fits look ⌝ }
+    ensures { λ r. ⌜ spec.Wrote look (now (names .entry)) (now (out .entry)) r (now (out .exit)) ⌝ }
 {
     let mut buf = [0u8; 3152];
     let st = look_put::table_look(&mut buf, Step::Next(0), names, look);

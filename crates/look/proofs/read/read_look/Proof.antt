@@ -11,10 +11,13 @@ read-look-spec =
     (λ _ _. tt) (λ c. search needs) (λ c. search needs)
     (λ c.
     let k = c .before .before .before .before .before in
-    when-left (k .table-look .result .value) (k .table-look .ensures .0) (bytes-of (k .before .before .args .file .now) (k .before .shared-slice-known .given)) (c .before .before .next .given .1) (c .if1 .taken))
+    let b = bytes-of (k .before .before .args .file .now) (k .before .shared-slice-known .given) in
+    (when-left (k .table-look .result .value) (k .table-look .ensures .0) b (c .before .before .next .given .1) (c .if1 .taken), b))
     (λ c.
     let k = c .before .before .before .before .before in
-    when-read (k .table-look .result .value) (k .table-look .ensures .0) (bytes-of (k .before .before .args .file .now) (k .before .shared-slice-known .given)) (c .before .before .next .given .1) (k .table-look .ensures .1) (c .if1 .left))
+    let b = bytes-of (k .before .before .args .file .now) (k .before .shared-slice-known .given) in
+    (when-read (k .table-look .result .value) (k .table-look .ensures .0) b (c .before .before .next .given .1) (k .table-look .ensures .1) (c .if1 .left), b))
     (λ c.
     let k = c .before .before .before .before in
-    when-refused (k .table-look .ensures .0 .reads) (c .before .next2 .given .1)))
+    let b = bytes-of (k .before .before .args .file .now) (k .before .shared-slice-known .given) in
+    (when-refused (k .table-look .ensures .0 .reads) (c .before .next2 .given .1), b)))

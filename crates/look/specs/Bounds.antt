@@ -1,4 +1,5 @@
 -- How many bytes a look has at most.
+use mathlib.Core.Path.{_≡_, refl}
 use mathlib.Core.Bool.{Bool, true, false}
 use mathlib.Core.List.{List}
 use Prim.Native.Nat.{ℕ, _≤_, max}
@@ -51,10 +52,13 @@ unfolding grammar.PVSeparatorStyle-name grammar.PVCellStyle-name grammar.PVTextS
 longest true = omega arith
 longest false = omega arith
 
-look : Bounded TableLook
-look = section grammar.PTTableLook-name & (λ version. (longest (eqb version 2), (f & f & f & f & f & f & f & f & f) & sections version))
+pub bounded : Bounded TableLook
+bounded = section grammar.PTTableLook-name & (λ version. (longest (eqb version 2), (f & f & f & f & f & f & f & f & f) & sections version))
 
 -- "the longest 2,770 and 3,152" (document 01)
-pub longest-look : AtMost TableLook 3152
+pub most-bytes : most TableLook ≡ 3152
 unfolding grammar.PTTableLook-name grammar.PVSeparatorStyle-name grammar.PVCellStyle-name grammar.PVTextStyle-name
-longest-look = at-most TableLook look
+most-bytes = refl
+
+pub longest-look : AtMost TableLook 3152
+longest-look = rw most-bytes at (at-most TableLook bounded)
