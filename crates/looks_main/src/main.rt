@@ -1,5 +1,6 @@
 // The looks that the arguments name: a line for what each gets, and for an accepted one what its writer answers for too short an
-// output, for no names, and for the same look as version 00 and as version 01.
+// output, for no names, for the same look as version 00 and as version 01, with a title font name of 256 bytes, and with a title color
+// whose high byte is 1.
 use layout::Span;
 use layout::region::bytes;
 use libc::STDOUT_FILENO;
@@ -37,6 +38,34 @@ fn as_version(look: Look, version: u8, file: &[u8]) {
     answer(look_write::write_look(other, file, &mut out));
 }
 
+// What it answers for the look with another length of the title's font name.
+fn with_name(look: Look, length: usize, file: &[u8]) {
+    let mut name = look.title.style.typeface.font_name;
+    name.length = length;
+    let mut typeface = look.title.style.typeface;
+    typeface.font_name = name;
+    let mut style = look.title.style;
+    style.typeface = typeface;
+    let mut title = look.title;
+    title.style = style;
+    let mut other = look;
+    other.title = title;
+    let mut out = [0u8; 3152];
+    answer(look_write::write_look(other, file, &mut out));
+}
+
+// What it answers for the look with another first color of the title.
+fn with_color(look: Look, color: u32, file: &[u8]) {
+    let mut area = look.title.color;
+    area.color10 = color;
+    let mut title = look.title;
+    title.color = area;
+    let mut other = look;
+    other.title = title;
+    let mut out = [0u8; 3152];
+    answer(look_write::write_look(other, file, &mut out));
+}
+
 // What it answers for an output of 665 bytes, one less than the shortest look has.
 fn short(look: Look, file: &[u8]) {
     let mut out = [0u8; 665];
@@ -68,6 +97,10 @@ fn accepted(look: Look, file: &[u8]) {
     as_version(look, 0, file);
     text(b"; version 01: ");
     as_version(look, 1, file);
+    text(b"; a name of 256 bytes: ");
+    with_name(look, 256, file);
+    text(b"; a color of 01000000: ");
+    with_color(look, 0x01000000, file);
 }
 
 fn report(file: &[u8]) {
