@@ -2,12 +2,13 @@
 use mathlib.Core.Path.{_≡_, refl}
 use mathlib.Core.Bool.{true, false}
 use mathlib.Core.List.{List, [], _∷_}
-use Prim.Native.Nat.{ℕ}
+use Prim.Native.Nat.{ℕ, _≤_}
+use native.Mathlib.Omega.{arith}
 use lib.ListN.{length}
 use lib.Dec.{leb}
 use Rattle.layout.specs.declared.Step.{Step}
 use Rattle.layout.specs.declared.Step.the-variants.{Next, Refused}
-use Rattle.layout.specs.Layout.{pick}
+use Rattle.layout.specs.Layout.{Bytes, pick}
 use Rattle.layout.specs.Read.{read}
 use Rattle.words.specs.Stores.{Stores, with-room, without-room}
 use Rattle.look.specs.declared.Look.{Look}
@@ -16,14 +17,27 @@ use Rattle.look.specs.declared.Answer.the-variants as look
 use Rattle.look.specs.Look.{TableLook}
 use Rattle.look.specs.Answers.{outcome, expected}
 use Rattle.look_write.specs.declared.Written.{Written}
-use Rattle.look_write.specs.Writing.{file, writing, output, answer as written}
+use Rattle.look_write.specs.declared.Written.the-variants as wrote-variants
+use Rattle.look_write.specs.Writing.{output, answer as written, Wrote}
+use Rattle.look_write.specs.Calls.{reach, reach-within}
+use Rattle.look_words.specs.Kept.{word-same}
+use Rattle.look_words.specs.Theorems.{place-same}
 use Rattle.api.specs.Api.{word, rewriting, rewritten, stepWords, Rewritten}
 
 three : (st : Step) → length (stepWords st) ≡ 3
 three (Next n) = refl
 three (Refused n p) = refl
 
-module _ (s out answer : List ℕ) (a : Answer) (e : outcome a ≡ expected (read TableLook s 0)) where
+-- the words that the code stores of what was written
+abbrev stored : Written → List ℕ
+stored (wrote-variants.Length n) = 0 ∷ 0 ∷ word n ∷ []
+stored (wrote-variants.Refused n p) = n ∷ word p ∷ 0 ∷ []
+
+stored-same : (v : Written) → reach v ≤ 3152 → stored v ≡ stepWords (written v)
+stored-same (wrote-variants.Length n) h = rw (word-same n (omega arith))
+stored-same (wrote-variants.Refused n p) h = rw (word-same p (omega arith))
+
+module _ (s : List ℕ) (bs : Bytes s) (out answer : List ℕ) (a : Answer) (e : outcome a ≡ expected (read TableLook s 0)) where
   done : {out′ answer′ : List ℕ} {r : Step} → leb 3 (length answer) ≡ true → out′ ≡ output (rewriting a s (length out)) (rewritten a s) out
       → Stores (stepWords (rewriting a s (length out))) answer (Next 0) answer′ r → Rewritten s out answer 3 out′ answer′
   unfolding pick
@@ -34,12 +48,17 @@ module _ (s out answer : List ℕ) (a : Answer) (e : outcome a ≡ expected (rea
   pub not-read : {n p : ℕ} {answer′ : List ℕ} {r : Step} → a ≡ look.Refused n p → leb 3 (length answer) ≡ true
       → Stores (n ∷ word p ∷ 0 ∷ []) answer (Next 0) answer′ r → Rewritten s out answer 3 out answer′
   unfolding output
-  not-read {r = r} i t x = done {r = r} t (rw i) (rw i x)
+  not-read {n} {p} {answer′} {r} i t x =
+      let same : word p ≡ p = place-same s bs {n = n} {p = p} (rw i at e) in
+      let y : Stores (n ∷ p ∷ 0 ∷ []) answer (Next 0) answer′ r = rw same at x in
+      done {r = r} t (rw i) (rw i y)
 
-  pub wrote : {x : Look} {w v : Written} {out′ answer′ : List ℕ} {r : Step} → a ≡ look.Accepted x → w ≡ v → written w ≡ writing x s (length out)
-      → out′ ≡ output (writing x s (length out)) (file x s) out → leb 3 (length answer) ≡ true → Stores (stepWords (written v)) answer (Next 0) answer′ r
-      → Rewritten s out answer 3 out′ answer′
-  wrote {r = r} i k j o t y = done {r = r} t (rw i o) (rw (i, ← j, k) y)
+  pub wrote : {x : Look} {w v : Written} {out′ answer′ : List ℕ} {r : Step} → a ≡ look.Accepted x → w ≡ v → Wrote x s out w out′
+      → leb 3 (length answer) ≡ true → Stores (stored v) answer (Next 0) answer′ r → Rewritten s out answer 3 out′ answer′
+  wrote {x} {w} {v} {out′} {answer′} {r} i k call t y =
+      let far : reach v ≤ 3152 = rw k at (reach-within x s out w out′ call) in
+      let y′ : Stores (stepWords (written v)) answer (Next 0) answer′ r = rw (stored-same v far) at y in
+      done {r = r} t (rw i (call .1)) (rw (i, ← (call .0), k) y′)
 
   pub not-asked : leb 3 (length answer) ≡ false → Rewritten s out answer 0 out answer
   unfolding pick

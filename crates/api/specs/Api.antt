@@ -53,10 +53,10 @@ abbrev pub rewritten : LookAnswer → List ℕ → List ℕ
 rewritten (look.Accepted x) s = file x s
 rewritten (look.Refused n p) s = []
 
--- three words: the refusal, 0 if there is none, its place, and the length
+-- three words: the refusal, 0 if there is none, its place, and the length; place and length are at most 3,152
 abbrev pub stepWords : Step → List ℕ
-stepWords (Next n) = 0 ∷ 0 ∷ word n ∷ []
-stepWords (Refused n p) = n ∷ word p ∷ 0 ∷ []
+stepWords (Next n) = 0 ∷ 0 ∷ n ∷ []
+stepWords (Refused n p) = n ∷ p ∷ 0 ∷ []
 
 -- a call of `digarumbi_rewrite_look`, which gave n
 pub record Rewritten (s out answer : List ℕ) (n : ℕ) (out′ answer′ : List ℕ) : Type 0 where

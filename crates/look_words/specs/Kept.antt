@@ -1,8 +1,8 @@
 -- In the words of an accepted look no place and no length of a name has lost a bit.
-use mathlib.Core.Path.{_≡_, refl, sym, ap, _∙_}
+use mathlib.Core.Path.{_≡_, refl}
 use mathlib.Core.Bool.{Bool, true, false}
-use mathlib.Core.List.{List, [], _∷_, append-nil}
-use Prim.Native.Nat.{ℕ, suc, _+_, _^_, _≤_, _<_}
+use mathlib.Core.List.{List, [], _∷_}
+use Prim.Native.Nat.{ℕ, _+_, _^_, _≤_, _<_}
 use native.Mathlib.Nat.{mod-eq-of-lt}
 use native.Mathlib.Omega.{arith}
 use lib.ListN.{length, length-append}
@@ -11,14 +11,13 @@ use Rattle.layout.specs.Layout.{Layout, empty, number, string, _▸_, times, le
 use Rattle.layout.specs.Read.{Got, got, no, read}
 use Rattle.layout.specs.Laws as laws
 use Rattle.fields.specs.Fields.{Fields, placedAll, placed}
-use Rattle.fields.specs.Puts.{Fit}
-use Rattle.fields.specs.Trees.{Stands, check-placed}
+use Rattle.fields.specs.Failing.{spell-most}
 use Rattle.look.specs.Look as grammar
 use Rattle.look.specs.Look.{TableLook}
 use Rattle.look.specs.Values as values
 use Rattle.look.specs.Values.{_&_}
 use Rattle.look.specs.Answers.{blank, accepted, expected, v2-data, v2-of}
-use Rattle.look.specs.Bounds.{longest-look}
+use Rattle.look.specs.Bounds.{bounded, most-bytes}
 use Rattle.look_words.specs.LookWords.{word}
 
 -- each name of the fields
@@ -32,7 +31,7 @@ Kept (leading b n a) f = Unit {0}
 Kept (region o m a) f = Unit {0}
 Kept nothing f = Unit {0}
 
-word-same : (n : ℕ) → n < 2 ^ 32 → word n ≡ n
+pub word-same : (n : ℕ) → n < 2 ^ 32 → word n ≡ n
 word-same n h = mod-eq-of-lt h
 
 -- ---- names that lie in fewer than 2^32 bytes
@@ -62,36 +61,9 @@ kept-placed (region o m a) t at h = tt
 
 -- ---- an accepted look has so few bytes
 
-module _ {A B : Type 0} (f : A → ℕ → B) (sp : A → List ℕ) (P : A → Type 0) (Q : B → Type 0) (one : (x : A) → P x → (at : ℕ) → Q (f x at)) where
-  fit-all : {xs : List A} → All P xs → (at : ℕ) → All Q (placedAll f sp xs at)
-  unfolding placedAll
-  fit-all all-none at = all-none
-  fit-all (all-more {x} h hs) at = all-more (one x h at) (fit-all hs (at + length (sp x)))
-
-placed-length : {A B : Type 0} (f : A → ℕ → B) (sp : A → List ℕ) (xs : List A) (at : ℕ) → length (placedAll f sp xs at) ≡ length xs
-unfolding placedAll
-placed-length f sp [] at = refl
-placed-length f sp (x ∷ xs) at = ap suc (placed-length f sp xs (at + length (sp x)))
-
--- the fields of a valid tree fit
-fit-placed : (g : Layout) (t : Tree g) → Valid g t → (at : ℕ) → Fit g (placed g t at)
-unfolding placed
-fit-placed empty t v at = tt
-fit-placed (number o w test k) t v at = (v .0, fit-placed (k (t .0)) (t .1) (v .2) (at + w))
-fit-placed (string o w) t v at = tt
-fit-placed (a ▸ b) t v at = (fit-placed a (t .0) (v .0) at, fit-placed b (t .1) (v .1) (at + length (spell a (t .0))))
-fit-placed (times n a) t v at =
-    (placed-length (placed a) (spell a) t at ∙ v .0, fit-all (placed a) (spell a) (Valid a) (Fit a) (λ x h at. fit-placed a x h at) (v .1) at)
-fit-placed (leading b n a) t v at = v
-fit-placed (region o m a) t v at = v
-
 -- "the longest 2,770 and 3,152" (document 01)
 short : (t : Tree TableLook) → Valid TableLook t → length (spell TableLook t) ≤ 3152
-short t v =
-    let s = spell TableLook t in
-    let stands : Stands s s 0 [] = record { inside = omega arith; here = sym (append-nil s) } in
-    let far = longest-look .is s (placed TableLook t 0) 0 (fit-placed TableLook t v 0) in
-    omega (arith, rw (check-placed TableLook t v s 0 [] stands) at far)
+short t v = rw most-bytes at (spell-most TableLook bounded t v)
 
 -- ---- V2 data
 

@@ -2,8 +2,10 @@
 use mathlib.Core.Path.{_≡_, refl}
 use mathlib.Core.List.{List, _∷_, _++_, append-nil, append-assoc}
 use Prim.Native.Nat.{ℕ}
+use native.Mathlib.Omega.{arith}
 use lib.ListN.{length, replicate, length-append}
-use Rattle.layout.specs.Layout.{Layout, _▸_}
+use Rattle.layout.specs.Layout.{Layout, _▸_, Bytes}
+use Rattle.layout.specs.Read.{read}
 use Rattle.fields.specs.Fields.{Fields}
 use Rattle.look.specs.declared.Separator.{Separator}
 use Rattle.look.specs.declared.Separator.the-variants.{NotDrawn, Drawn}
@@ -17,11 +19,14 @@ use Rattle.look.specs.declared.Look.{Look}
 use Rattle.look.specs.declared.Answer.{Answer}
 use Rattle.look.specs.declared.Answer.the-variants.{Accepted, Refused}
 use Rattle.look.specs.Look as grammar
+use Rattle.look.specs.Look.{TableLook}
 use Rattle.look.specs.Values as values
 use Rattle.look.specs.Values.{_&_}
-use Rattle.look.specs.Answers.{outcome}
+use Rattle.look.specs.Answers.{refused, outcome, expected}
+use Rattle.look.specs.RefusedExactly.{refused-exactly, place-within}
 use Rattle.look_words.specs.LookWords as named
 use Rattle.look_words.specs.LookWords.{word, lookWords}
+use Rattle.look_words.specs.Kept.{word-same}
 use Rattle.look_words.specs.FieldWords.{wordsAll, words, fieldWords, answerWords}
 
 separator-same : (x : Separator) → words grammar.Separator (values.separator x) ≡ named.separator x
@@ -95,10 +100,16 @@ abbrev pub codeWords : Answer → List ℕ
 codeWords (Accepted x) = 0 ∷ 0 ∷ lookWords x
 codeWords (Refused n p) = n ∷ word p ∷ replicate 262 0
 
-pub answer-same : (a : Answer) → answerWords (outcome a) ≡ codeWords a
+-- the place of a refusal loses no bit
+pub place-same : (s : List ℕ) → Bytes s → {n p : ℕ} → refused n p ≡ expected (read TableLook s 0) → word p ≡ p
+place-same s h {n} {p} e =
+    let r = refused-exactly s h (Refused n p) e n p .0 refl in
+    word-same p (omega (arith, place-within r))
+
+pub answer-same : (s : List ℕ) → Bytes s → (a : Answer) → outcome a ≡ expected (read TableLook s 0) → answerWords (outcome a) ≡ codeWords a
 unfolding answerWords
-answer-same (Accepted x) = rw (in-order x)
-answer-same (Refused n p) = refl
+answer-same s h (Accepted x) e = rw (in-order x)
+answer-same s h (Refused n p) e = rw (place-same s h e)
 
 pub answer-long : (a : Answer) → length (codeWords a) ≡ 264
 answer-long (Accepted x) = rw (look-long x)

@@ -2,13 +2,14 @@
 use mathlib.Core.Path.{_≡_, refl, sym, ap, _∙_}
 use mathlib.Core.Logic.{_↔_}
 use mathlib.Core.List.{List}
-use Prim.Native.Nat.{ℕ}
+use Prim.Native.Nat.{ℕ, _≤_}
 use native.Mathlib.Omega.{arith}
 use lib.ListN.{length, take, drop}
 use lib.Seq.{take-at, drop-at}
 use Rattle.layout.specs.declared.Step.{Step}
 use Rattle.layout.specs.declared.Step.the-variants.{Next, Refused}
 use Rattle.layout.specs.Read.{read}
+use Rattle.fields.specs.Puts.{placeOf}
 use Rattle.look.specs.declared.Look.{Look}
 use Rattle.look.specs.declared.Answer.{Answer}
 use Rattle.look.specs.declared.Answer.the-variants as read-answer
@@ -19,7 +20,7 @@ use Rattle.look_write.specs.declared.Written.the-variants as written
 use Rattle.look_write.specs.Writing.{file, writing, output, answer, Wrote}
 use Rattle.look_write.specs.Refused as refusals
 use Rattle.look_write.specs.Refused.{Allowed}
-use Rattle.look_write.specs.RefusedExactly.{refused-exactly, written-exactly}
+use Rattle.look_write.specs.RefusedExactly.{refused-exactly, written-exactly, place-within}
 use Rattle.look_write.specs.Theorems.{Same, written-reads-same}
 
 is-refused : (r : Written) (n p : ℕ) → answer r ≡ Refused n p → r ≡ written.Refused n p
@@ -29,6 +30,11 @@ is-refused (written.Refused m q) n p e = let a : m ≡ n = cc in let b : q ≡ p
 is-length : (r : Written) (n : ℕ) → answer r ≡ Next n → r ≡ written.Length n
 is-length (written.Length m) n e = let a : m ≡ n = cc in rw a
 is-length (written.Refused m q) n e = absurd (let z : _≡_ {A = ℕ} 0 1 = cc in omega arith)
+
+-- the length, or the place of a refusal
+abbrev pub reach : Written → ℕ
+reach (written.Length n) = n
+reach (written.Refused n p) = p
 
 module _ (x : Look) (s out : List ℕ) (r : Written) (out′ : List ℕ) (call : Wrote x s out r out′) where
   -- it refuses exactly what is refused, by that number and at that place, and leaves the output as it was
@@ -43,6 +49,14 @@ module _ (x : Look) (s out : List ℕ) (r : Written) (out′ : List ℕ) (call :
   refusal-keeps n p e =
       let w : writing x s (length out) ≡ Refused n p = sym (call .0) ∙ ap answer e in
       call .1 ∙ ap (λ (c : Step). output c (file x s) out) w
+
+  -- neither is farther than the longest look reaches
+  pub reach-within : reach r ≤ 3152
+  reach-within = go r (rw (← (call .0)) at (place-within x s (length out) (call .2)))
+    where
+      go : (r : Written) → placeOf (answer r) ≤ 3152 → reach r ≤ 3152
+      go (written.Length n) h = h
+      go (written.Refused n p) h = h
 
   -- it writes exactly what is not refused, and answers the length of the file
   pub writes-exactly : (n : ℕ) → (r ≡ written.Length n) ↔ (Allowed x s (length out) × (n ≡ length (file x s)))

@@ -15,12 +15,14 @@ use Rattle.layout.specs.declared.Step.the-variants.{Next}
 use Rattle.layout.specs.Layout.{a-version, among, passes, pick}
 use Rattle.layout.specs.Reads.{chain}
 use Rattle.fields.specs.Check.{check}
+use Rattle.fields.specs.Puts.{placeOf}
 use Rattle.fields.specs.Unwritable.{bytesIn, Writable, Unwritable}
 use Rattle.fields.specs.Laws.{writable-exactly, unwritable-exactly}
 use Rattle.look.specs.declared.Look.{Look}
 use Rattle.look.specs.Look.{TableLook}
 use Rattle.look.specs.Values as values
-use Rattle.look_write.specs.Writing.{no-v2, file, stray, ending, writing}
+use Rattle.look.specs.Bounds.{longest-look}
+use Rattle.look_write.specs.Writing.{no-v2, file, stray, ending, writing, Fits}
 use Rattle.look_write.specs.Refused.{Refused, field, v2-lost, too-short, Allowed}
 
 -- ---- V2 data that a version does not hold: the version is 00 or 02 once the fields can be written
@@ -120,6 +122,20 @@ module _ (x : Look) (s : List ℕ) (room : ℕ) where
       let e = sym (allowed a) ∙ refused f in
       let z : _≡_ {A = ℕ} 0 1 = cc in
       omega arith
+
+  -- Places: the place of a refusal, and the length, are no farther than the longest look reaches
+  pub place-within : Fits x → placeOf (writing x s room) ≤ 3152
+  unfolding writing ending chain pick
+  place-within fits = go (check TableLook s (values.fields x) 0) (longest-look .is s (values.fields x) 0 (fits .is))
+    where
+      end : (m : ℕ) (a b : Bool) → m ≤ 3152 → placeOf (pick a (step.Refused 16 m) (pick b (Next m) (step.Refused 15 0))) ≤ 3152
+      end m true b h = h
+      end m false true h = h
+      end m false false h = omega arith
+
+      go : (c : Step) → placeOf c ≤ 3152 → placeOf (chain c (ending x room)) ≤ 3152
+      go (Next m) h = end m (stray x) (leb m room) h
+      go (step.Refused n p) h = h
 
   -- Once: by one number, at one place
   pub one-refusal : (n p n′ p′ : ℕ) → Refused x s room n p → Refused x s room n′ p′ → (n ≡ n′) × (p ≡ p′)

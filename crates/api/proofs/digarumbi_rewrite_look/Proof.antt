@@ -8,7 +8,7 @@ returns c =
     let w = c .before .before in
     let g = w .before .before .before in
     let q = g .before .before .before in
-    not-read _ _ _ _ (q .read-look .ensures .0) (g .got .given .1) (g .before .before .if1 .taken) (w .step-words .ensures)
+    not-read _ (q .read-look .ensures .1) _ _ _ (q .read-look .ensures .0) (g .got .given .1) (g .before .before .if1 .taken) (w .step-words .ensures)
 
 returns-2 : tie.Need-returns-2
 returns-2 c =
@@ -17,7 +17,7 @@ returns-2 c =
     let l = n .before .before .before .before in
     let g = l .before .before .before in
     let q = g .before .before .before in
-    wrote _ _ _ _ (q .read-look .ensures .0) (g .got2 .given .1) (n .n .given .1) (l .write-look .ensures .0) (l .write-look .ensures .1)
+    wrote _ (q .read-look .ensures .1) _ _ _ (q .read-look .ensures .0) (g .got2 .given .1) (n .n .given .1) (l .write-look .ensures)
     (g .before .before .if1 .taken) (w .step-words2 .ensures)
 
 returns-3 : tie.Need-returns-3
@@ -27,7 +27,7 @@ returns-3 c =
     let l = n .before .before .before .before in
     let g = l .before .before .before in
     let q = g .before .before .before in
-    wrote _ _ _ _ (q .read-look .ensures .0) (g .got2 .given .1) (n .n2 .given .1) (l .write-look .ensures .0) (l .write-look .ensures .1)
+    wrote _ (q .read-look .ensures .1) _ _ _ (q .read-look .ensures .0) (g .got2 .given .1) (n .n2 .given .1) (l .write-look .ensures)
     (g .before .before .if1 .taken) (w .step-words3 .ensures)
 
 pub digarumbi-rewrite-look-spec : {M : Type 1} → statement M
@@ -36,4 +36,4 @@ digarumbi-rewrite-look-spec =
     (tie.spec
     (λ _ _. tt) (λ c. search needs) (λ _ _. tt) (λ c. search needs) (λ _ _. tt) (λ c. search needs) (λ _ _. tt) (λ c. search needs) (λ _ _. tt)
     (λ c. search needs) returns (λ c. search needs) (λ c. search needs) returns-2 (λ c. search needs) (λ c. search needs) returns-3
-    (λ c. not-asked _ _ _ (c .before .read-look .result) (c .before .read-look .ensures .0) (c .if1 .left)))
+    (λ c. not-asked _ (c .before .read-look .ensures .1) _ _ (c .before .read-look .result) (c .before .read-look .ensures .0) (c .if1 .left)))

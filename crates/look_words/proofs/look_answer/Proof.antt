@@ -15,7 +15,7 @@ returns c =
     let l = p .before .before .before .before in
     let q = l .before .before in
     let a = q .before .before .before .before .args in
-    answered (a .file .now) (a .area .now) (q .read-look .result) (q .read-look .ensures .0) (q .before .if1 .taken) (l .look .given .1)
+    answered (a .file .now) (q .read-look .ensures .1) (a .area .now) (q .read-look .result) (q .read-look .ensures .0) (q .before .if1 .taken) (l .look .given .1)
     (p .put .ensures ⊳ w .whole .ensures)
 
 returns-2 : tie.Need-returns-2
@@ -25,7 +25,7 @@ returns-2 c =
     let n = p .before .before .before .before in
     let q = n .before .before in
     let a = q .before .before .before .before .args in
-    answered (a .file .now) (a .area .now) (q .read-look .result) (q .read-look .ensures .0) (q .before .if1 .taken) (n .n .given .1)
+    answered (a .file .now) (q .read-look .ensures .1) (a .area .now) (q .read-look .result) (q .read-look .ensures .0) (q .before .if1 .taken) (n .n .given .1)
     (p .put2 .ensures ⊳ z .put3 .ensures)
 
 pub look-answer-spec : {M : Type 1} → statement M
