@@ -2,11 +2,11 @@
 use mathlib.Core.Path.{_≡_, refl, sym}
 use mathlib.Core.Bool.{true, false, false≢true}
 use mathlib.Core.List.{List, [], _∷_}
-use Prim.Native.Nat.{ℕ, suc, _+_, _*_, _≤_, _<_}
+use Prim.Native.Nat.{ℕ, _+_, _*_, _≤_}
 use native.Mathlib.Nat.{suc-mul, mul-le-mul-right}
 use native.Mathlib.Omega.{arith}
 use lib.ListN.{length, length-append}
-use Rattle.layout.specs.Layout.{Test, any-number, the-number, a-version, a-bool, at-most, one-of, a-color, among, passes, Layout, empty, number, string, _▸_, times, leading, region, nothing, Tree, spellAll, spell, All, all-none, all-more, Valid}
+use Rattle.layout.specs.Layout.{Test, any-number, the-number, a-version, a-bool, at-most, one-of, a-color, among, passes, Layout, empty, number, string, _▸_, times, Tree, spellAll, spell, All, all-none, all-more, Valid}
 use Rattle.layout.specs.Numbers.{refusal}
 use Rattle.layout.specs.Fails.{Fails, number-short, number-wrong, number-then, string-short, first, second, item, after-run, run-alone, region-short, content, bytes-left, too-deep}
 use Rattle.layout.specs.Laws as laws

@@ -2,17 +2,16 @@
 use mathlib.Core.Path.{_≡_, refl, sym, ap, _∙_, subst}
 use mathlib.Core.Logic.{_↔_}
 use mathlib.Core.Bool.{Bool, true, false, false≢true}
-use mathlib.Core.List.{List, [], _∷_, _++_}
-use Prim.Native.Nat.{ℕ, _+_, _^_, _≤_, _<_}
-use native.Mathlib.Nat.{add-zero}
+use mathlib.Core.List.{List, [], _∷_}
+use Prim.Native.Nat.{ℕ, _+_, _^_, _≤_}
 use native.Mathlib.Omega.{arith}
 use lib.ListN.{length, take, drop, length-append, length-drop}
 use lib.Seq.{length-take-le}
 use lib.Dec.{leb, ltb}
-use borrow.Author.Tests.{leb-true, leb-false, ltb-true, ltb-false, le-leb, lt-leb, lt-ltb, le-ltb}
+use borrow.Author.Tests.{leb-true, leb-false, ltb-true, ltb-false, lt-leb, lt-ltb, le-ltb}
 use Rattle.layout.specs.declared.Step.{Step}
 use Rattle.layout.specs.declared.Step.the-variants.{Next, Refused}
-use Rattle.layout.specs.Layout.{Order, Test, passes, Layout, empty, number, string, _▸_, times, leading, region, nothing, spellAll, spell, All, all-none, all-more, pick}
+use Rattle.layout.specs.Layout.{Order, Test, passes, Layout, empty, number, string, _▸_, times, leading, region, nothing, spellAll, spell, all-none, all-more, pick}
 use Rattle.layout.specs.Numbers.{refusal, too-short, limit-passed}
 use Rattle.layout.specs.Laws as laws
 use Rattle.layout.specs.Reads.{chain}
@@ -94,7 +93,8 @@ unfolding checkAll chain bytesIn spell spellAll resolve resolveAll
 all-answer n a s h [] at = can at all-none (omega arith)
 all-answer n a s h (f ∷ fs) at = more (h f at) (all-answer n a s h fs)
   where
-    next : {p : ℕ} → Writable a s f → p ≡ at + length (bytesIn a s f) → {c : Step} → Answers (times n a) s fs p c → Answers (times n a) s (f ∷ fs) at c
+    next : {p : ℕ} → Writable a s f → p ≡ at + length (bytesIn a s f) → {c : Step} → Answers (times n a) s fs p c
+        → Answers (times n a) s (f ∷ fs) at c
     next v i (can q v′ j) = can q (all-more v v′) (omega (arith, more-bytes n a s f fs))
     next v i (can-not {n = m} {p = q} u) = can-not (later v (subst (λ (k : ℕ). Unwritable s (times n a) fs k m q) i u))
 
@@ -143,7 +143,8 @@ refused (here u) = rw (refused u)
 refused {s} (later {a = a} {f = f} {at = at} v u) = rw (written (answers a s f at) v, refused u)
 
 -- Exactly: a writer goes on exactly past what can be written, by as many bytes as that has
-pub writable-exactly : (g : Layout) (s : List ℕ) (f : Fields g) (at p : ℕ) → (check g s f at ≡ Next p) ↔ (Writable g s f × (p ≡ at + length (bytesIn g s f)))
+pub writable-exactly : (g : Layout) (s : List ℕ) (f : Fields g) (at p : ℕ)
+    → (check g s f at ≡ Next p) ↔ (Writable g s f × (p ≡ at + length (bytesIn g s f)))
 writable-exactly g s f at p = (λ e. go (answers g s f at) e, λ h. written (answers g s f at) (h .0) ∙ ap Next (sym (h .1)))
   where
     go : {c : Step} → Answers g s f at c → c ≡ Next p → Writable g s f × (p ≡ at + length (bytesIn g s f))

@@ -3,7 +3,7 @@ use mathlib.Core.Path.{_≡_, refl, sym, ap, _∙_}
 use mathlib.Core.Logic.{_↔_, _⊎_, inl, inr}
 use mathlib.Core.Bool.{Bool, true, false, _||_}
 use mathlib.Core.List.{List, [], _∷_, append-nil}
-use Prim.Native.Nat.{ℕ, _+_, _≤_}
+use Prim.Native.Nat.{ℕ, _≤_}
 use native.Mathlib.Nat.{zero-add}
 use native.Mathlib.Omega.{arith}
 use lib.ListN.{length, length-append}
@@ -16,7 +16,7 @@ use Rattle.fields.specs.Failing.{spell-most, fails-within, field-numbers, fails
 use Rattle.look.specs.declared.Answer.{Answer}
 use Rattle.look.specs.declared.Answer.the-variants as answer
 use Rattle.look.specs.Look.{TableLook}
-use Rattle.look.specs.Answers.{Outcome, accepted, refused, outcome, expected}
+use Rattle.look.specs.Answers.{refused, outcome, expected}
 use Rattle.look.specs.Bounds.{bounded, most-bytes}
 use Rattle.look.specs.Refused.{Refused, inside, left}
 

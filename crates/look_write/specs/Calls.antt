@@ -1,5 +1,5 @@
 -- Theorems of a call of `write_look`, for any look, lent bytes and output: from what its contract ensures of the answer r and the output out′.
-use mathlib.Core.Path.{_≡_, refl, sym, ap, _∙_}
+use mathlib.Core.Path.{_≡_, sym, ap, _∙_}
 use mathlib.Core.Logic.{_↔_}
 use mathlib.Core.List.{List}
 use Prim.Native.Nat.{ℕ, _≤_}

@@ -1,9 +1,9 @@
 -- Writing a look is refused exactly where Refused.antt says so, by that number and at that place.
-use mathlib.Core.Path.{_≡_, refl, sym, ap, _∙_, subst}
+use mathlib.Core.Path.{_≡_, refl, sym, ap, _∙_}
 use mathlib.Core.Logic.{_↔_, _⊎_, inl, inr}
 use mathlib.Core.Bool.{Bool, true, false, false≢true, _&&_, _||_, not}
 use mathlib.Core.List.{List, [], _∷_}
-use Prim.Native.Nat.{ℕ, _+_, _≤_, _<_}
+use Prim.Native.Nat.{ℕ, _≤_}
 use native.Mathlib.Nat.{zero-add}
 use native.Mathlib.Omega.{arith}
 use lib.ListN.{length}
@@ -16,7 +16,7 @@ use Rattle.layout.specs.Layout.{a-version, among, passes, pick}
 use Rattle.layout.specs.Reads.{chain}
 use Rattle.fields.specs.Check.{check}
 use Rattle.fields.specs.Puts.{placeOf}
-use Rattle.fields.specs.Unwritable.{bytesIn, Writable, Unwritable}
+use Rattle.fields.specs.Unwritable.{bytesIn, Writable}
 use Rattle.fields.specs.Laws.{writable-exactly, unwritable-exactly}
 use Rattle.look.specs.declared.Look.{Look}
 use Rattle.look.specs.Look.{TableLook}
