@@ -6,8 +6,8 @@ use member::part;
 
 // The lent member, and of the node area only the words filled.
 pub struct Desk<'a, 'b> {
-    pub member: &'a [u8],
-    pub nodes: &'b [u32],
+    member: &'a [u8],
+    nodes: &'b [u32],
 }
 
 fn wide(x: u32) -> usize
@@ -21,7 +21,8 @@ fn wide(x: u32) -> usize
 pub fn filled(area: &[u32], count: usize) -> &[u32]
     ensures { λ r. ⌜ now r ≡ filledOf (now (area .entry)) count ⌝ }
 {
-    if count <= area.len() / 6 {
+    let records = area.len() / 6;
+    if count <= records {
         let end = 6 * count;
         &area[..end]
     } else {
@@ -41,10 +42,11 @@ pub fn name_of<'a, 'b>(member: &'a [u8], nodes: &'b [u32], i: usize) -> &'a [u8]
     }
 }
 
-// Keeps the two together. Hand it what `filled` gives, and no name comes from beyond the records.
-pub fn open<'a, 'b>(member: &'a [u8], nodes: &'b [u32]) -> Desk<'a, 'b>
-    ensures { λ r. ⌜ (r .member ≡ member .entry) × (r .nodes ≡ nodes .entry) ⌝ }
+// Keeps the two together. Of the area only the words of `count` records go in, so no name comes from beyond them.
+pub fn open<'a, 'b>(member: &'a [u8], area: &'b [u32], count: usize) -> Desk<'a, 'b>
+    ensures { λ r. ⌜ (r .member ≡ member .entry) × (now (r .nodes) ≡ filledOf (now (area .entry)) count) ⌝ }
 {
+    let nodes = filled(area, count);
     Desk { member, nodes }
 }
 
@@ -59,5 +61,5 @@ pub fn name<'a, 'b>(desk: Desk<'a, 'b>, i: usize) -> &'a [u8]
 pub fn node_name<'a, 'b>(member: &'a [u8], area: &'b [u32], count: usize, i: usize) -> &'a [u8]
     ensures { λ r. ⌜ now r ≡ nameOf (now (member .entry)) (filledOf (now (area .entry)) count) i ⌝ }
 {
-    name(open(member, filled(area, count)), i)
+    name(open(member, area, count), i)
 }
