@@ -101,10 +101,11 @@ enum {
 size_t digarumbi_read_member(const uint8_t *member, size_t member_length, uint32_t *answer, size_t answer_words, uint32_t *nodes,
                              size_t node_words, uint32_t *cells, size_t cell_words);
 
-/* The name of node i: returns its length and stores its place in the member, for the member that was read and of the node area only the
- * words filled (6 words a node). Returns 0 and stores 0 if there is no record i in `nodes`, or if it points outside the member. */
-size_t digarumbi_node_name(const uint8_t *member, size_t member_length, const uint32_t *nodes, size_t node_words, size_t i,
-                           size_t *place);
+/* The name of node i: returns its length and stores its place in the member, for the member that was read, the node area and the count
+ * of nodes in the answer. Of the area only the words of `count` records are looked at, 6 words a node; an area with fewer has none
+ * filled. Returns 0 and stores 0 if there is no record i among them, or if it points outside the member. */
+size_t digarumbi_node_name(const uint8_t *member, size_t member_length, const uint32_t *nodes, size_t node_words, size_t count,
+                           size_t i, size_t *place);
 
 /* The length of the part of the member at `place`: `length`, or 0 if that part doesn't lie inside the member. */
 size_t digarumbi_part(const uint8_t *member, size_t member_length, size_t place, size_t length);

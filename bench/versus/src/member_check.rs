@@ -160,14 +160,23 @@ impl MemberCheck {
     fn check_names(&mut self, member: &[u8], counts: Counts) -> Result<(), Difference> {
         let nodes = self.expected.nodes.lent();
         for i in 0..=counts.nodes.min(NAMES_ASKED) {
-            check_name(member, nodes, i)?;
+            // The right count, one too large for the area, and ones smaller than the records.
+            for count in [counts.nodes, counts.nodes + 1, i, i + 1] {
+                check_name(member, nodes, count, i)?;
+            }
         }
         let last = counts.nodes.saturating_sub(1);
-        check_name(member, &nodes[..nodes.len().saturating_sub(1)], last)?;
-        check_name(member, nodes, usize::MAX)?;
+        check_name(member, &nodes[..nodes.len().saturating_sub(1)], counts.nodes, last)?;
+        check_name(member, nodes, counts.nodes, usize::MAX)?;
+        check_name(member, nodes, usize::MAX, last)?;
+        // Six times this is the right number of words, if it is not seen to be too large.
+        check_name(member, nodes, usize::MAX / 2 + 1 + counts.nodes, last)?;
         let words: Vec<u32> =
-            (0..self.random.size(20)).map(|_| self.number(member.len()) as u32).collect();
-        (0..5).try_for_each(|i| check_name(member, &words, i))
+            (0..self.random.size(40)).map(|_| self.number(member.len()) as u32).collect();
+        let counts = [words.len() / NODE_RECORD, self.random.size(8), self.number(words.len())];
+        (0..8).try_for_each(|i| {
+            counts.iter().try_for_each(|&count| check_name(member, &words, count, i))
+        })
     }
 
     fn check_parts(&mut self, member: &[u8]) -> Result<(), Difference> {
@@ -201,9 +210,16 @@ fn counts(member: &[u8]) -> Option<Counts> {
         .then_some(Counts { nodes: answer.node_count as usize, cells: answer.cell_count as usize })
 }
 
+/// The words of `count` records, none where the area has fewer.
+fn filled(area: &[u32], count: usize) -> &[u32] {
+    let words = count.checked_mul(NODE_RECORD);
+    words.and_then(|words| area.get(..words)).unwrap_or_default()
+}
+
 /// Place and length of a name, both 0 if there is no record `i` or it points outside the member.
-fn expected_name(member: &[u8], nodes: &[u32], i: usize) -> (usize, usize) {
-    let Some(record) = nodes.chunks_exact(NODE_RECORD).nth(i) else { return (0, 0) };
+fn expected_name(member: &[u8], area: &[u32], count: usize, i: usize) -> (usize, usize) {
+    let mut records = filled(area, count).chunks_exact(NODE_RECORD);
+    let Some(record) = records.nth(i) else { return (0, 0) };
     let (place, length) = (record[3] as usize, record[4] as usize);
     if place + length <= member.len() {
         (place, length)
@@ -212,8 +228,8 @@ fn expected_name(member: &[u8], nodes: &[u32], i: usize) -> (usize, usize) {
     }
 }
 
-fn check_name(member: &[u8], nodes: &[u32], i: usize) -> Result<(), Difference> {
-    let expected = expected_name(member, nodes, i);
-    let found = lent::node_name(member, nodes, i);
-    Difference::compare(format_args!("name of node {i} in {nodes:?}"), &expected, &found)
+fn check_name(member: &[u8], nodes: &[u32], count: usize, i: usize) -> Result<(), Difference> {
+    let expected = expected_name(member, nodes, count, i);
+    let found = lent::node_name(member, nodes, count, i);
+    Difference::compare(format_args!("name of node {i} of {count} in {nodes:?}"), &expected, &found)
 }

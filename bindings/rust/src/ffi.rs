@@ -20,6 +20,7 @@ extern "C" {
         member_length: usize,
         nodes: *const u32,
         node_words: usize,
+        count: usize,
         i: usize,
         place: *mut usize,
     ) -> usize;

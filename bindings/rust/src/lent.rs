@@ -50,8 +50,16 @@ pub fn read_member(
 }
 
 /// The place and length of the name of node `i`, both 0 if there is none.
-/// `nodes` has the words filled and no more.
-pub fn node_name(member: &[u8], nodes: &[u32], i: usize) -> (usize, usize) {
+/// Of `nodes` only the words of `count` records are looked at; an area with fewer has none filled.
+///
+/// ```
+/// use digarumbi::lent::node_name;
+/// let nodes = [0, 0, u32::MAX, 2, 3, 0];
+/// assert_eq!(node_name(b"member", &nodes, 1, 0), (2, 3));
+/// assert_eq!(node_name(b"member", &nodes, 0, 0), (0, 0));
+/// assert_eq!(node_name(b"member", &nodes, 2, 0), (0, 0));
+/// ```
+pub fn node_name(member: &[u8], nodes: &[u32], count: usize, i: usize) -> (usize, usize) {
     let mut place = 0;
     let length = unsafe {
         ffi::digarumbi_node_name(
@@ -59,6 +67,7 @@ pub fn node_name(member: &[u8], nodes: &[u32], i: usize) -> (usize, usize) {
             member.len(),
             nodes.as_ptr(),
             nodes.len(),
+            count,
             i,
             &mut place,
         )

@@ -90,12 +90,11 @@ pub fn read_member(member: &[u8]) -> Result<Table<'_>, Refusal> {
     if number != 0 {
         return Err(Refusal { number, place, nodes: node_count, cells: cell_count });
     }
-    nodes.truncate(NODE_RECORD * node_count as usize);
     cells.truncate(CELL_RECORD * cell_count as usize);
     Ok(Table {
         dimensions: dimensions(member, &answer, dimension_count as usize, node_count as usize),
         axes: axes(&answer),
-        nodes: node_records(member, &nodes),
+        nodes: node_records(member, &nodes, node_count as usize),
         cells: cells.chunks(CELL_RECORD).map(|record| cell(member, record)).collect(),
     })
 }
@@ -138,12 +137,13 @@ fn axes(answer: &[u32; MEMBER_ANSWER]) -> Axes {
     Axes { layers: axis(answer[5]), rows: axis(answer[6]), columns: axis(answer[7]) }
 }
 
-fn node_records<'a>(member: &'a [u8], nodes: &[u32]) -> Vec<Node<'a>> {
+fn node_records<'a>(member: &'a [u8], nodes: &[u32], count: usize) -> Vec<Node<'a>> {
     nodes
         .chunks(NODE_RECORD)
+        .take(count)
         .enumerate()
         .map(|(i, record)| {
-            let (place, length) = lent::node_name(member, nodes, i);
+            let (place, length) = lent::node_name(member, nodes, count, i);
             node(&member[place..place + length], record)
         })
         .collect()

@@ -17,7 +17,7 @@ use Rattle.look_write.specs.Writing.{output}
 use Rattle.look_write.specs.Theorems as looks
 use Rattle.api.specs.Api.{namePlace, stepWords, Rewritten}
 
--- `digarumbi_node_name` gives the length and the place of that name: they are where it lies in the member
+-- `digarumbi_node_name` gives the length and the place of that name, at the words filled: they are where it lies in the member
 pub named : (member nodes : List ℕ) (i : ℕ) → nameOf member nodes i ≡ take (length (nameOf member nodes i)) (drop (namePlace member nodes i) member)
 unfolding nameOf namePlace partOf pick
 named member nodes i = record-there (leb (6 * (i + 1)) (length nodes))

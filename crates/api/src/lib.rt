@@ -10,7 +10,7 @@ ghost use Rattle.layout.specs.Layout.{pick};
 ghost use Rattle.layout.specs.Read.{read};
 ghost use Rattle.units.specs.Units.{in-pixels, in-points, height};
 ghost use Rattle.member.specs.Part.{partOf};
-ghost use Rattle.desk.specs.Desk.{nameOf};
+ghost use Rattle.desk.specs.Desk.{filledOf, nameOf};
 ghost use Rattle.look.specs.Look.{TableLook};
 ghost use Rattle.look.specs.Answers.{expected};
 ghost use Rattle.look_words.specs.FieldWords as look_spec;
@@ -18,6 +18,7 @@ ghost use Rattle.words.specs.Stores.{AtFront};
 ghost use Rattle.api.specs.Api.{MemberRead, namePlace, Rewritten};
 use crate::answers::member_words;
 use crate::answers::step_words;
+use desk::filled;
 use desk::name_of;
 use look::Answer;
 use look::read::read_look;
@@ -74,19 +75,21 @@ fn name_place(member: &[u8], nodes: &[u32], i: usize) -> usize
 }
 
 // The length of the name of node i, and its place in the member; both 0 if there is no record i, or if it points outside the member.
-// `nodes` has the words filled and no more.
+// Of `nodes` only the words of `count` records are looked at; an area with fewer has none filled.
 #[no_mangle]
 pub extern "C" fn digarumbi_node_name(
     member: &[u8],
     nodes: &[u32],
+    count: usize,
     i: usize,
     place: &mut usize,
 ) -> usize
-    ensures { λ n. ⌜ n ≡ length (nameOf (now (member .entry)) (now (nodes .entry)) i) ⌝ }
-    ensures { λ _. ⌜ now (place .exit) ≡ namePlace (now (member .entry)) (now (nodes .entry)) i ⌝ }
+    ensures { λ n. ⌜ n ≡ length (nameOf (now (member .entry)) (filledOf (now (nodes .entry)) count) i) ⌝ }
+    ensures { λ _. ⌜ now (place .exit) ≡ namePlace (now (member .entry)) (filledOf (now (nodes .entry)) count) i ⌝ }
 {
-    *place = name_place(member, nodes, i);
-    name_of(member, nodes, i).len()
+    let words = filled(nodes, count);
+    *place = name_place(member, words, i);
+    name_of(member, words, i).len()
 }
 
 // The length of that part of the member; 0 if it does not lie inside.
