@@ -19,7 +19,7 @@ ghost use Rattle.api.specs.Api.{MemberRead, namePlace, Rewritten};
 use crate::answers::member_words;
 use crate::answers::step_words;
 use desk::filled;
-use desk::name_of;
+use desk::node_name;
 use look::Answer;
 use look::read::read_look;
 use look_words::look_answer;
@@ -89,7 +89,7 @@ pub extern "C" fn digarumbi_node_name(
 {
     let words = filled(nodes, count);
     *place = name_place(member, words, i);
-    name_of(member, words, i).len()
+    node_name(member, nodes, count, i).len()
 }
 
 // The length of that part of the member; 0 if it does not lie inside.

@@ -31,7 +31,7 @@ pub fn filled(area: &[u32], count: usize) -> &[u32]
 }
 
 // The name of node i: the part of the member that its record points to; the empty part if there is no whole record i.
-pub fn name_of<'a, 'b>(member: &'a [u8], nodes: &'b [u32], i: usize) -> &'a [u8]
+fn name_of<'a, 'b>(member: &'a [u8], nodes: &'b [u32], i: usize) -> &'a [u8]
     ensures { λ r. ⌜ now r ≡ nameOf (now (member .entry)) (now (nodes .entry)) i ⌝ }
 {
     if i < nodes.len() / 6 {

@@ -1,3 +1,5 @@
+use mathlib.Core.Path.{ap}
+use lib.ListN.{length}
 use Rattle.api.proofs.digarumbi_node_name.Statement.{statement}
 use Rattle.api.proofs.digarumbi_node_name.Tie as tie
 
@@ -6,6 +8,4 @@ digarumbi-node-name-spec =
     tie.close
     (tie.spec
     (λ _ _. tt) (λ _ _. tt) (λ _ _. tt)
-    (λ c.
-    let words = c .before .before .filled .ensures in
-    (rw (c .name-of .ensures, words), rw (c .before .name-place .ensures, words))))
+    (λ c. (ap length (c .node-name .ensures), rw (c .before .name-place .ensures, c .before .before .filled .ensures))))
