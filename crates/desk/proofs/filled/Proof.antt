@@ -1,6 +1,6 @@
+use mathlib.Core.Path.{sym}
 use borrow.Author.Needs.{needs}
-use Prim.Native.Nat.{_*_}
-use lib.ListN.{length-take}
+use lib.Seq.{length-take-le}
 use native.Mathlib.Omega.{arith}
 use Rattle.desk.proofs.Tests.{enough, too-few}
 use Rattle.desk.proofs.filled.Statement.{statement}
@@ -10,11 +10,7 @@ pub filled-spec : {M : Type 1} → statement M
 filled-spec =
     tie.close
     (tie.spec
-    (λ c. search needs)
-    (λ c.
-    let a = c .before .before .args in
-    omega (arith, length-take (6 * a .count) (a .area .now)))
-    (λ c. search needs)
+    (λ c. search needs) (λ c. sym (length-take-le _ _ (omega arith))) (λ c. search needs)
     (λ c.
     let a = c .before .before .args in
     enough (a .area .now) (a .count) (omega arith))
