@@ -1,0 +1,84 @@
+-- How many bytes records take at least: 16 for each category node, 9 for each cell.
+use mathlib.Core.Path.{_≡_, refl}
+use mathlib.Core.List.{List, [], _∷_}
+use Prim.Native.Nat.{ℕ, zero, suc, _+_, _*_, _≤_}
+use native.Mathlib.Nat.{mul-zero, mul-add}
+use native.Mathlib.Omega.{arith}
+use lib.ListN.{length, length-append}
+use Rattle.layout.specs.Layout.{Layout, empty, number, string, _▸_, times, leading, region, nothing, Tree, spellAll, spell, All, all-none, all-more, Valid}
+use Rattle.layout.specs.Laws.{digits-length}
+use Rattle.layout.specs.Steps.Least.{least}
+use Rattle.value.specs.Value.{Value, ValueIn}
+use Rattle.table.specs.Table.{Leaf, CategoryIn, Dimension, Cell}
+use Rattle.table.specs.Records.{total, nodes, size, dimNodes}
+
+-- a derivation covers as many bytes as its layout takes at least
+pub least-size : (g : Layout) (t : Tree g) → Valid g t → least g ≤ size g t
+unfolding least size spell
+least-size empty t v = omega arith
+least-size (number o w test k) t v = rw (length-append, digits-length) (omega arith)
+least-size (string o w) t v = omega arith
+least-size (a ▸ b) t v = rw length-append (omega (arith, least-size a (t .0) (v .0), least-size b (t .1) (v .1)))
+least-size (times n a) t v = omega arith
+least-size (leading b n a) t v = rw length-append (omega (arith, v .0 .some-byte))
+least-size (region o f a) t v = omega arith
+least-size nothing t v = absurd v
+
+-- ---- trees that follow each other
+
+-- c bytes or more for each that f counts, in each tree and so in all
+total-least : {A : Type 0} {P : A → Type 0} (c : ℕ) (f h : A → ℕ) → ((t : A) → P t → c * f t ≤ h t) → {ts : List A} → All P ts → c * total f ts ≤ total h ts
+unfolding total
+total-least c f h each all-none = omega (arith, mul-zero c)
+total-least c f h each (all-more {x} {xs} p ps) = rw (mul-add c (f x) (total f xs)) (omega (arith, each x p, total-least c f h each ps))
+
+-- the bytes of all are those of each
+pub size-all : (g : Layout) (ts : List (Tree g)) → length (spellAll (spell g) ts) ≡ total (size g) ts
+unfolding total size spellAll
+size-all g [] = refl
+size-all g (t ∷ ts) = rw (length-append, size-all g ts)
+
+-- ---- categories
+
+-- a Value takes a byte or more
+value-bytes : (t : Tree Value) → Valid Value t → 1 ≤ size Value t
+unfolding Value ValueIn least
+value-bytes t v = least-size Value t v
+
+pub category-bytes : (d : ℕ) (t : Tree (CategoryIn d)) → Valid (CategoryIn d) t → 16 * nodes d t ≤ size (CategoryIn d) t
+unfolding nodes total least size spell
+category-bytes zero t v = absurd v
+category-bytes (suc d) (m, (zero, t)) v =
+    let name = value-bytes m (v .0) in
+    let rest : 12 ≤ size Leaf t = least-size Leaf t (v .1 .2) in
+    simp (length-append, digits-length) (omega arith)
+category-bytes (suc d) (m, (suc k, (t, (n, ts)))) v =
+    let name = value-bytes m (v .0) in
+    let rest = total-least 16 (nodes d) (size (CategoryIn d)) (category-bytes d) (v .1 .2 .1 .2 .1) in
+    let count : nodes (suc d) (m, (suc k, (t, (n, ts)))) ≡ 1 + total (nodes d) ts = refl in
+    rw count (simp (length-append, digits-length) (omega (arith, size-all (CategoryIn d) ts)))
+
+pub categories-bytes : (d : ℕ) {ts : List (Tree (CategoryIn d))} → All (Valid (CategoryIn d)) ts → 16 * total (nodes d) ts ≤ total (size (CategoryIn d)) ts
+categories-bytes d vs = total-least 16 (nodes d) (size (CategoryIn d)) (category-bytes d) vs
+
+-- ---- dimensions
+
+pub dimension-bytes : (t : Tree Dimension) → Valid Dimension t → 16 * dimNodes t ≤ size Dimension t
+unfolding dimNodes size spell
+dimension-bytes t v =
+    let rest = categories-bytes 8 (v .1 .2 .1) in
+    simp (length-append, digits-length) (omega (arith, size-all (CategoryIn 8) (t .1 .1)))
+
+pub dimensions-bytes : {ts : List (Tree Dimension)} → All (Valid Dimension) ts → 16 * total dimNodes ts ≤ total (size Dimension) ts
+dimensions-bytes vs = total-least 16 dimNodes (size Dimension) dimension-bytes vs
+
+-- ---- cells
+
+pub cell-bytes : (t : Tree Cell) → Valid Cell t → 9 ≤ size Cell t
+unfolding least Value ValueIn
+cell-bytes t v = least-size Cell t v
+
+pub cells-bytes : {ts : List (Tree Cell)} → All (Valid Cell) ts → 9 * length ts ≤ total (size Cell) ts
+unfolding total
+cells-bytes all-none = omega arith
+cells-bytes (all-more {x} {xs} v vs) = omega (arith, cell-bytes x v, cells-bytes vs)
