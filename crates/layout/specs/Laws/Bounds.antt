@@ -1,0 +1,175 @@
+-- Which numbers a refusal of a layout or of a rule can have, and where its place can be.
+use mathlib.Core.Path.{_≡_, refl}
+use mathlib.Core.Bool.{Bool, true, false, _||_, _&&_}
+use mathlib.Core.Option.{some}
+use mathlib.Core.List.{List, [], _∷_}
+use Prim.Native.Nat.{ℕ, _+_, _≤_}
+use native.Mathlib.Omega.{arith}
+use lib.ListN.{length, length-append}
+use lib.Dec.{eqb}
+use borrow.Author.Tests.{eqb-true}
+use Rattle.layout.specs.Layout.{Order, Test, any-number, the-number, a-version, a-bool, at-most, one-of, a-color, Fill, Layout, empty, number, string, _▸_, times, leading, region, nothing, Tree, spell, among, passes, Valid, pick}
+use Rattle.layout.specs.Numbers.{refusal, too-short, differs, ends-early, limit-passed}
+use Rattle.layout.specs.Fails.{Fails, number-short, number-wrong, number-then, string-short, first, second, item, after-run, run-alone, region-short, content, bytes-left, too-deep}
+use Rattle.layout.specs.Rule.{Rule, plain, _▸▸_, numbered, items, asked, tested, onto, Breaks}
+use Rattle.layout.specs.Rule as rule
+use Rattle.layout.specs.Laws.Digits.{length-digits}
+use Rattle.layout.specs.Laws.FailsExactly.{place-inside}
+
+-- ---- numbers
+
+-- all of the ns are among the ks
+unfoldable pub allAmong : List ℕ → List ℕ → Bool
+allAmong [] ks = true
+allAmong (n ∷ ns) ks = among n ks && allAmong ns ks
+
+-- the numbers that a layout gives (document 01, "Refusal numbers")
+abbrev pub layoutNumbers : List ℕ
+layoutNumbers = 2 ∷ 3 ∷ 4 ∷ 5 ∷ 6 ∷ 7 ∷ 14 ∷ []
+
+-- those among them that no test gives
+abbrev pub untested : List ℕ
+untested = too-short ∷ differs ∷ ends-early ∷ limit-passed ∷ []
+
+-- a broken test gives one of the ks (nothing breaks the first)
+unfoldable pub testGives : List ℕ → Test → Bool
+testGives ks any-number = true
+testGives ks (the-number k) = among (refusal (the-number k)) ks
+testGives ks (a-version vs) = among (refusal (a-version vs)) ks
+testGives ks a-bool = among (refusal a-bool) ks
+testGives ks (at-most k) = among (refusal (at-most k)) ks
+testGives ks (one-of vs) = among (refusal (one-of vs)) ks
+testGives ks a-color = among (refusal a-color) ks
+
+-- every broken test of the layout gives one of the ks
+pub data TestsGive (ks : List ℕ) : Layout → Type 0 where
+  of-empty : TestsGive ks empty
+  of-number : {o : Order} {w : ℕ} {test : Test} {k : ℕ → Layout} → testGives ks test ≡ true → ((n : ℕ) → TestsGive ks (k n)) → TestsGive ks (number o w test k)
+  of-string : {o : Order} {w : ℕ} → TestsGive ks (string o w)
+  of-two : {a b : Layout} → TestsGive ks a → TestsGive ks b → TestsGive ks (a ▸ b)
+  of-times : {n : ℕ} {a : Layout} → TestsGive ks a → TestsGive ks (times n a)
+  of-leading : {b n : ℕ} {a : Layout} → TestsGive ks a → TestsGive ks (leading b n a)
+  of-region : {o : Order} {f : Fill} {a : Layout} → TestsGive ks a → TestsGive ks (region o f a)
+  of-nothing : TestsGive ks nothing
+
+pub of-pick : {ks : List ℕ} (b : Bool) {x y : Layout} → TestsGive ks x → TestsGive ks y → TestsGive ks (pick b x y)
+unfolding pick
+of-pick true h k = h
+of-pick false h k = k
+
+pub ruleset tests-give = (of-empty, of-number, of-string, of-two, of-times, of-leading, of-region, of-nothing, of-pick)
+
+-- every number that the rule gives itself is one of the ks
+abbrev pub Numbered : {g : Layout} → List ℕ → Rule g → Type 0
+Numbered ks (plain g) = Unit {0}
+Numbered ks (_▸▸_ {a} u k) = Numbered ks u × ((t : Tree a) → Numbered ks (k t))
+Numbered ks (numbered k) = (n : ℕ) → Numbered ks (k n)
+Numbered ks (items {a = a} k) = (done : List (Tree a)) → Numbered ks (k done)
+Numbered ks (asked b n back u) = (among n ks ≡ true) × Numbered ks u
+Numbered ks (tested u n v) = (among n ks ≡ true) × Numbered ks u
+
+pub is-among : (n : ℕ) (ns ks : List ℕ) → among n ns ≡ true → allAmong ns ks ≡ true → among n ks ≡ true
+unfolding among allAmong
+is-among n [] ks e h = cc
+is-among n (m ∷ ns) ks e h = go (eqb n m) refl (among m ks) refl e h (is-among n ns ks)
+  where
+    go : (b : Bool) → eqb n m ≡ b → (c : Bool) → among m ks ≡ c → (b || among n ns) ≡ true → (c && allAmong ns ks) ≡ true
+        → (among n ns ≡ true → allAmong ns ks ≡ true → among n ks ≡ true) → among n ks ≡ true
+    go b q false r e′ h′ rest = cc
+    go true q true r e′ h′ rest = rw (eqb-true n m q) r
+    go false q true r e′ h′ rest = rest e′ h′
+
+broken-gives : (ks : List ℕ) (test : Test) (n : ℕ) → testGives ks test ≡ true → passes test n ≡ false → among (refusal test) ks ≡ true
+unfolding testGives passes
+broken-gives ks any-number n h e = cc
+broken-gives ks (the-number k) n h e = h
+broken-gives ks (a-version vs) n h e = h
+broken-gives ks a-bool n h e = h
+broken-gives ks (at-most k) n h e = h
+broken-gives ks (one-of vs) n h e = h
+broken-gives ks a-color n h e = h
+
+module _ (ks : List ℕ) (h : allAmong untested ks ≡ true) where
+  pub fails-among : {g : Layout} → TestsGive ks g → {s : List ℕ} {at n p : ℕ} → Fails g s at n p → among n ks ≡ true
+  unfolding among
+  fails-among t (number-short l) = is-among 2 untested ks refl h
+  fails-among (of-number e t) (number-wrong {test = test} {n = n} v w) = broken-gives ks test n e w
+  fails-among (of-number e t) (number-then {n = n} v w f) = fails-among (t n) f
+  fails-among t (string-short u) = is-among 2 untested ks refl h
+  fails-among (of-two t u) (first f) = fails-among t f
+  fails-among (of-two t u) (second v f) = fails-among u f
+  fails-among (of-times t) (item v l f) = fails-among t f
+  fails-among (of-leading t) (after-run v f) = fails-among t f
+  fails-among t (run-alone v u e) = is-among 3 untested ks refl h
+  fails-among t (region-short u) = is-among 2 untested ks refl h
+  fails-among (of-region t) (content v l f) = fails-among t f
+  fails-among t (bytes-left v l c u) = is-among 6 untested ks refl h
+  fails-among t too-deep = is-among 7 untested ks refl h
+
+  pub breaks-among : {g : Layout} → TestsGive ks g → {u : Rule g} → Numbered ks u → {s : List ℕ} {at n p : ℕ} → Breaks g u s at n p → among n ks ≡ true
+  breaks-among t r (rule.fails f) = fails-among t f
+  breaks-among (of-two t t′) r (rule.first f) = breaks-among t (r .0) f
+  breaks-among (of-two t t′) r (rule.second {t = x} v c f) = breaks-among t′ (r .1 x) f
+  breaks-among (of-number e t) r (rule.in-number f) = fails-among (of-number e (λ _. of-empty)) f
+  breaks-among (of-number e t) r (rule.after-number {m = m} v w f) = breaks-among (t m) (r m) f
+  breaks-among (of-times t) r (rule.item {ts = ts} v c l f) = breaks-among t (r (onto [] ts)) f
+  breaks-among t r (rule.not-so e) = r .0
+  breaks-among t r (rule.is-so e f) = breaks-among t (r .1) f
+  breaks-among t r (rule.before-test f) = breaks-among t (r .1) f
+  breaks-among t r (rule.wrong v c e) = r .0
+
+-- every layout gives only these
+module _ (ks : List ℕ) (h : allAmong layoutNumbers ks ≡ true) where
+  test-gives : (test : Test) → testGives ks test ≡ true
+  unfolding testGives among refusal
+  test-gives any-number = refl
+  test-gives (the-number k) = is-among 3 layoutNumbers ks refl h
+  test-gives (a-version vs) = is-among 4 layoutNumbers ks refl h
+  test-gives a-bool = is-among 5 layoutNumbers ks refl h
+  test-gives (at-most k) = is-among 7 layoutNumbers ks refl h
+  test-gives (one-of vs) = is-among 3 layoutNumbers ks refl h
+  test-gives a-color = is-among 14 layoutNumbers ks refl h
+
+  pub every-layout : (g : Layout) → TestsGive ks g
+  every-layout empty = of-empty
+  every-layout (number o w test k) = of-number (test-gives test) (λ n. every-layout (k n))
+  every-layout (string o w) = of-string
+  every-layout (a ▸ b) = of-two (every-layout a) (every-layout b)
+  every-layout (times n a) = of-times (every-layout a)
+  every-layout (leading b n a) = of-leading (every-layout a)
+  every-layout (region o f a) = of-region (every-layout a)
+  every-layout nothing = of-nothing
+
+  untested-too : allAmong untested ks ≡ true
+  unfolding allAmong among
+  untested-too = rw (is-among 2 layoutNumbers ks refl h, is-among 3 layoutNumbers ks refl h, is-among 6 layoutNumbers ks refl h, is-among 7 layoutNumbers ks refl h)
+
+  pub breaks-numbers : {g : Layout} {u : Rule g} → Numbered ks u → {s : List ℕ} {at n p : ℕ} → Breaks g u s at n p → among n ks ≡ true
+  breaks-numbers {g} r f = breaks-among ks untested-too (every-layout g) r f
+
+pub fails-numbers : {g : Layout} {s : List ℕ} {at n p : ℕ} → Fails g s at n p → among n layoutNumbers ≡ true
+unfolding allAmong among
+fails-numbers {g} f = fails-among layoutNumbers refl (every-layout layoutNumbers refl g) f
+
+-- ---- places
+
+-- what a test of the rule finds wrong in a tree when it ends lies in the tree, or right after it
+abbrev pub PlacesInside : {g : Layout} → Rule g → Type 0
+PlacesInside (plain g) = Unit {0}
+PlacesInside (_▸▸_ {a} u k) = PlacesInside u × ((t : Tree a) → PlacesInside (k t))
+PlacesInside (numbered k) = (n : ℕ) → PlacesInside (k n)
+PlacesInside (items {a = a} k) = (done : List (Tree a)) → PlacesInside (k done)
+PlacesInside (asked b n back u) = PlacesInside u
+PlacesInside (tested {a} u n v) = PlacesInside u × ((t : Tree a) → Valid a t → (q : ℕ) → v t ≡ some q → q ≤ length (spell a t))
+
+pub break-inside : {g : Layout} {u : Rule g} → PlacesInside u → {s : List ℕ} {at n p : ℕ} → Breaks g u s at n p → p ≤ at + length s
+break-inside r (rule.fails f) = place-inside f .1
+break-inside r (rule.first f) = break-inside (r .0) f
+break-inside r (rule.second {t = t} v c f) = let i = break-inside (r .1 t) f in rw (v .split, length-append) (omega arith)
+break-inside r (rule.in-number f) = place-inside f .1
+break-inside r (rule.after-number {o} {w} {m = m} v e f) = let i = break-inside (r m) f in rw (v .split, length-append, length-digits) (omega arith)
+break-inside r (rule.item {ts = ts} v c l f) = let i = break-inside (r (onto [] ts)) f in rw (v .split, length-append) (omega arith)
+break-inside r (rule.not-so e) = omega arith
+break-inside r (rule.is-so e f) = break-inside r f
+break-inside r (rule.before-test f) = break-inside (r .0) f
+break-inside r (rule.wrong {t = t} {q = q} v c e) = let i = r .1 t (v .valid) q e in rw (v .split, length-append) (omega arith)

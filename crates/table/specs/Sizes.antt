@@ -1,0 +1,34 @@
+-- How many bytes categories and dimensions cover: their own part, and what is below.
+use mathlib.Core.Path.{_≡_, refl, sym, ap, _∙_}
+use mathlib.Core.List.{List, [], _∷_, _++_, append-nil, append-assoc}
+use Prim.Native.Nat.{ℕ, zero, suc, _+_}
+use native.Mathlib.Omega.{arith}
+use lib.ListN.{length, length-append}
+use Rattle.layout.specs.Layout.{little, _▸_, Tree, digits, spellAll, spell}
+use Rattle.layout.specs.Laws.{digits-length}
+use Rattle.value.specs.Value.{Value}
+use Rattle.table.specs.Table.{CategoryIn, DimProperties, Dimension}
+use Rattle.table.specs.Records.{Head, front, children, total, size}
+use Rattle.table.specs.LeastBytes.{size-all}
+
+-- ---- what they spell
+
+pub spell-category : (d : ℕ) (t : Tree (CategoryIn (suc d))) → spell (CategoryIn (suc d)) t ≡ spell Head (front d t) ++ spellAll (spell (CategoryIn d)) (children d t)
+unfolding spell spellAll
+spell-category d (m, (zero, t)) = sym (append-nil (spell Head (m, (zero, t))))
+spell-category d (m, (suc k, (t, (n, ts)))) = simp (append-nil, append-assoc)
+
+pub spell-dimension : (t : Tree Dimension)
+    → spell Dimension t ≡ spell (Value ▸ DimProperties) (t .0) ++ digits little 4 (t .1 .0) ++ spellAll (spell (CategoryIn 8)) (t .1 .1)
+unfolding spell
+spell-dimension t = sym (append-assoc (spell (Value ▸ DimProperties) (t .0)) (digits little 4 (t .1 .0)) (spellAll (spell (CategoryIn 8)) (t .1 .1)))
+
+-- ---- sizes
+
+pub size-category : (d : ℕ) (t : Tree (CategoryIn (suc d))) → size (CategoryIn (suc d)) t ≡ size Head (front d t) + total (size (CategoryIn d)) (children d t)
+unfolding size
+size-category d t = rw (spell-category d t, length-append, size-all (CategoryIn d) (children d t))
+
+pub size-dimension : (t : Tree Dimension) → size Dimension t ≡ size (Value ▸ DimProperties) (t .0) + 4 + total (size (CategoryIn 8)) (t .1 .1)
+unfolding size
+size-dimension t = rw (spell-dimension t, length-append, length-append, digits-length, size-all (CategoryIn 8) (t .1 .1))
