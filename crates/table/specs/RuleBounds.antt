@@ -1,23 +1,22 @@
 -- Which numbers the rules of dimensions, axes and cells give, and that what they find wrong lies inside.
-use mathlib.Core.Path.{_≡_, refl, sym, ap, _∙_}
+use mathlib.Core.Path.{_≡_, refl}
 use mathlib.Core.Bool.{Bool, true, false}
-use mathlib.Core.Option.{Option, none, some}
+use mathlib.Core.Option.{none, some}
 use mathlib.Core.List.{List, [], _∷_, _++_}
 use Prim.Native.Nat.{ℕ, zero, suc, _+_, _≤_}
 use native.Mathlib.Omega.{arith}
-use lib.ListN.{length, length-append}
-use Rattle.layout.specs.Layout.{Layout, _▸_, times, Tree, spell, among, All, all-none, all-more, Valid, pick}
-use Rattle.layout.specs.Conventions.{int32, int64}
+use lib.ListN.{length-append}
+use Rattle.layout.specs.Layout.{_▸_, Tree, spell, among, All, all-none, all-more, pick}
+use Rattle.layout.specs.Conventions.{int32}
 use Rattle.layout.specs.Rule.{Rule}
 use Rattle.layout.specs.Laws.{digits-length}
 use Rattle.layout.specs.Laws.Bounds.{Numbered, PlacesInside}
 use Rattle.value.specs.Value.{Value}
-use Rattle.checks.specs.declared.Verdict.{Verdict}
-use Rattle.checks.specs.declared.Verdict.the-variants.{Fine, Bad}
+use Rattle.checks.specs.declared.Verdict.the-variants.{Bad}
 use Rattle.checks.specs.Checks.{fresh, firstBad}
 use Rattle.checks.specs.Checks as checks
 use Rattle.table.specs.Table.{CategoryIn, DimProperties, Dimension}
-use Rattle.table.specs.Records.{Head, front, total, size}
+use Rattle.table.specs.Records.{Head, total, size}
 use Rattle.table.specs.Rules.{kindRule, categoryRule, leavesAll, treeLeaves, leavesOf, placeOf, dimensionRule, dimensionsRule, entryRule, axesRule, cellRule, cellsRule}
 use Rattle.table.specs.Sizes.{size-category, size-dimension}
 

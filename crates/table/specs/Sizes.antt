@@ -1,9 +1,8 @@
 -- How many bytes categories and dimensions cover: their own part, and what is below.
-use mathlib.Core.Path.{_≡_, refl, sym, ap, _∙_}
-use mathlib.Core.List.{List, [], _∷_, _++_, append-nil, append-assoc}
+use mathlib.Core.Path.{_≡_, sym}
+use mathlib.Core.List.{_++_, append-nil, append-assoc}
 use Prim.Native.Nat.{ℕ, zero, suc, _+_}
-use native.Mathlib.Omega.{arith}
-use lib.ListN.{length, length-append}
+use lib.ListN.{length-append}
 use Rattle.layout.specs.Layout.{little, _▸_, Tree, digits, spellAll, spell}
 use Rattle.layout.specs.Laws.{digits-length}
 use Rattle.value.specs.Value.{Value}
