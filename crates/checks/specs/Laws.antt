@@ -114,6 +114,14 @@ one-more n seen x = (
       (is-fresh n seen x .1 (s .0, o .distinct .0), record { below = s .1; distinct = o .distinct .1 }),
 )
 
+-- None: no number is below 0 (document 01: "n of 3, 0, 5: only an empty cell list")
+pub none-below : {xs : List ℕ} → OnceEach 0 xs → xs ≡ []
+none-below o = go (o .below)
+  where
+    go : {xs : List ℕ} → All (λ x. x < 0) xs → xs ≡ []
+    go all-none = refl
+    go (all-more h hs) = absurd (omega arith)
+
 -- One record more: its first word is fresh after those of the records before it
 pub one-record-more : (n step : ℕ) (ws : List ℕ) (k : ℕ)
     → ((fresh n (firsts step ws k) (word ws (step * k)) ≡ true) × OnceEach n (firsts step ws k)) ↔ OnceEach n (firsts step ws (k + 1))
