@@ -9,7 +9,8 @@ use Rattle.layout.specs.declared.Step.the-variants.{Next, Refused}
 use Rattle.layout.specs.Layout.{pick}
 use Rattle.layout.specs.Read.{read}
 use Rattle.member.specs.declared.Answer.{Answer}
-use Rattle.member.specs.Answer.{outcome, answerOf, nodesAfter, cellsAfter}
+use Rattle.member.specs.Checked.{checked}
+use Rattle.member.specs.Answer.{answerOf, nodesAfter, cellsAfter}
 use Rattle.words.specs.Stores.{AtFront}
 use Rattle.look.specs.declared.Answer.{Answer as LookAnswer}
 use Rattle.look.specs.declared.Answer.the-variants as look
@@ -25,15 +26,15 @@ word n = n % 2 ^ 32
 
 -- 88 words: 0 refusal, 1 place, 2 dimensions, 3 nodes, 4 cells, 5 layers, 6 rows, 7 columns; from 8 on for each of 16 dimensions the
 -- place and length of its name, its n and its first node; from 72 on the dimension numbers of the axes, in the order of the file
-unfoldable pub answerWords : Answer → List ℕ
-answerWords a =
-    (a .refusal ∷ word (a .place) ∷ a .dims ∷ a .nodes ∷ a .cells ∷ a .layers ∷ a .rows ∷ a .columns ∷ []) ++ a .dimensions ++ a .order
+unfoldable pub answerWords : ℕ → Answer → List ℕ
+answerWords place a =
+    (a .refusal ∷ place ∷ a .dims ∷ a .nodes ∷ a .cells ∷ a .layers ∷ a .rows ∷ a .columns ∷ []) ++ a .dimensions ++ a .order
 
 -- a call of `digarumbi_read_member`, which gave n: where `answer` has 88 words, they and the two areas are what `read_member` delivers
 pub record MemberRead (member answer nodes cells : List ℕ) (n : ℕ) (answer′ nodes′ cells′ : List ℕ) : Type 0 where
-  pub words : AtFront 88 (answerWords (answerOf (outcome member) (length nodes) (length cells))) answer n answer′
-  pub node-area : nodes′ ≡ pick (leb 88 (length answer)) (nodesAfter (outcome member) nodes (length cells)) nodes
-  pub cell-area : cells′ ≡ pick (leb 88 (length answer)) (cellsAfter (outcome member) (length nodes) cells) cells
+  pub words : let a = answerOf (checked member) (length nodes) (length cells) in AtFront 88 (answerWords (a .place) a) answer n answer′
+  pub node-area : nodes′ ≡ pick (leb 88 (length answer)) (nodesAfter (checked member) nodes (length cells)) nodes
+  pub cell-area : cells′ ≡ pick (leb 88 (length answer)) (cellsAfter (checked member) (length nodes) cells) cells
 
 -- the place of the name of node i: word 3 of its record; 0 if there is no record i, or if it points outside the member
 unfoldable pub namePlace : List ℕ → List ℕ → ℕ → ℕ

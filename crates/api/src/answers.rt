@@ -18,10 +18,10 @@ fn arrays(out: &mut [u32], st: Step, dimensions: [u32; 64], order: [u32; 16]) ->
     put(out, st, &order)
 }
 
-// The 88 words of what reading a member answers.
+// The 88 words of what reading a member answers; the place as a word.
 pub fn member_words(out: &mut [u32], a: Answer) -> Step
-    ensures { λ r. ⌜ Stores (spec.answerWords a) (now (out .entry)) (Next 0) (now (out .exit)) r ⌝ }
-    ensures { λ _. ⌜ length (spec.answerWords a) ≡ 88 ⌝ }
+    ensures { λ r. ⌜ Stores (spec.answerWords (spec.word (a .place)) a) (now (out .entry)) (Next 0) (now (out .exit)) r ⌝ }
+    ensures { λ _. ⌜ length (spec.answerWords (spec.word (a .place)) a) ≡ 88 ⌝ }
 {
     let dimensions = a.dimensions;
     let order = a.order;

@@ -8,14 +8,14 @@ use lib.ListN.{length, take, drop, getD, length-append, length-take}
 use lib.Seq.{take-at}
 use lib.Dec.{leb}
 use borrow.Author.Tests.{le-leb, lt-leb}
-use Rattle.layout.specs.Layout.{Bytes, pick}
+use Rattle.layout.specs.Layout.{Tree, spell, pick}
+use Rattle.value.specs.Value.{Value}
+use Rattle.checks.specs.Checks.{word}
 use Rattle.member.specs.declared.Answer.{Answer}
-use Rattle.member.specs.Answer.{outcome, Delivered}
 use Rattle.member.specs.Part.{partOf}
-use Rattle.member.specs.Member.{nodes, nodeRecords, dimensions, dimensionsAt}
-use Rattle.member.specs.Core.{six-nodes}
-use Rattle.member.specs.Demand3.{yields}
-use Rattle.member.specs.Demand3.Terms.{Accepted}
+use Rattle.member.specs.Member.{nodes, nodeRecords}
+use Rattle.member.specs.RecordsSpelt.{nodeNames, names-of-nodes, node-words, node-name}
+use Rattle.member.specs.Demand3.{Accepted, Demand3}
 use Rattle.desk.specs.Desk.{filledOf, nameOf}
 
 -- ---- the words filled
@@ -62,11 +62,10 @@ outside member ns i h =
     rw (lt-leb (getD ns (6 * i + 3) 0 + getD ns (6 * i + 4) 0) (length member) h) (same (leb (6 * (i + 1)) (length ns)) [])
 
 -- after a call of `read_member` that accepts, the names are those of the derivation's records
-pub of-the-derivation : (bs : List ℕ) (b : Bytes bs) (nodes₀ cells₀ : List ℕ) {r : Answer} {nodes₁ cells₁ : List ℕ}
-    → Delivered (outcome bs) nodes₀ cells₀ r nodes₁ cells₁ → (a : Accepted bs (length nodes₀) (length cells₀)) (i : ℕ)
+pub of-the-derivation : {bs nodes₀ cells₀ : List ℕ} {r : Answer} {nodes₁ cells₁ : List ℕ}
+    → Demand3 bs nodes₀ cells₀ r nodes₁ cells₁ → (a : Accepted bs (length nodes₀) (length cells₀)) (i : ℕ)
     → nameOf bs (filledOf nodes₁ (r .nodes)) i ≡ nameOf bs (nodeRecords (a .derivation .tree)) i
-of-the-derivation bs b nodes₀ cells₀ call a i =
+of-the-derivation {bs} {nodes₀} call a i =
     let t = a .derivation .tree in
-    let y = yields bs b nodes₀ cells₀ call a in
-    rw (y .node-area, y .number-of-nodes)
-    (beyond bs (nodeRecords t) (drop (6 * nodes t) nodes₀) (nodes t) i (six-nodes 0 0 (dimensionsAt t) (dimensions t)))
+    let y = call .yields a in
+    rw (y .node-area, y .number-of-nodes) (beyond bs (nodeRecords t) (drop (6 * nodes t) nodes₀) (nodes t) i (node-words (a .derivation)))

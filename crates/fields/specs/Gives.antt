@@ -15,6 +15,7 @@ use Rattle.layout.specs.declared.Span.the-variants.{Of, Not}
 use Rattle.layout.specs.declared.Step.{Step}
 use Rattle.layout.specs.declared.Step.the-variants.{Next, Refused}
 use Rattle.layout.specs.Layout.{Order, Test, the-number, a-bool, one-of, among, passes, Layout, empty, number, string, _▸_, times, Tree, spell, Bytes, no-bytes, byte, pick, undigits}
+use Rattle.layout.specs.Steps.Slices.{drop-bytes}
 use Rattle.layout.specs.Read.{Got, got, no, bind, readNumber, readTimes, read, too-short}
 use Rattle.layout.specs.Laws as laws
 use Rattle.layout.specs.Laws.Places.{Announced, announced, too-few, counted-view, announced-length}
@@ -37,11 +38,6 @@ pub record Found (g : Layout) (s : List ℕ) (at p : ℕ) (f : Fields g) : Type 
 pub record Gives (g : Layout) (s : List ℕ) (st r : Step) (f : Fields g) : Type 0 where
   pub reads : Reads g s st r
   pub found : Bytes s → (at p : ℕ) → st ≡ Next at → r ≡ Next p → Found g s at p f
-
-pub drop-bytes : (n : ℕ) {s : List ℕ} → Bytes s → Bytes (drop n s)
-drop-bytes zero h = h
-drop-bytes (suc n) no-bytes = no-bytes
-drop-bytes (suc n) (byte h hs) = drop-bytes n hs
 
 pub take-bytes : (n : ℕ) {s : List ℕ} → Bytes s → Bytes (take n s)
 take-bytes zero h = no-bytes

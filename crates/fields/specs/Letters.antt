@@ -14,7 +14,8 @@ use Rattle.layout.specs.Read.{got, bind, readNumber, read, refusal}
 use Rattle.layout.specs.Laws as laws
 use Rattle.layout.specs.Reads.{step, chain, Reads}
 use Rattle.fields.specs.Slices.{whole}
-use Rattle.fields.specs.Gives.{drop-bytes, take-bytes}
+use Rattle.layout.specs.Steps.Slices.{drop-bytes}
+use Rattle.fields.specs.Gives.{take-bytes}
 
 number-all : (o : Order) (bs : List ℕ) → readNumber o (length bs) bs 0 ≡ got (undigits o bs) [] (0 + length bs)
 unfolding readNumber pick

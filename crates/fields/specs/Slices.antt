@@ -1,24 +1,17 @@
--- The numbers of a slice of bytes, and what is read there, fit.
+-- What is read in bytes fits.
 use mathlib.Core.Path.{_≡_, refl}
 use mathlib.Core.List.{List, [], _∷_}
 use Prim.Native.Nat.{ℕ, zero, suc, _^_, _<_}
 use native.Mathlib.Nat.{pow-suc}
 use native.Mathlib.Omega.{arith}
-use lib.ListN.{drop, getD}
-use mir.Syntax.{w8}
-use mir.Val.{Fits}
+use lib.ListN.{drop}
 use Rattle.layout.specs.declared.Step.{Step}
 use Rattle.layout.specs.declared.Step.the-variants.{Next, Refused}
-use Rattle.layout.specs.Layout.{Order, any-number, passes, empty, number, Bytes, no-bytes, byte, pick}
+use Rattle.layout.specs.Layout.{Order, any-number, passes, empty, number, Bytes, pick}
 use Rattle.layout.specs.Read.{Got, got, no, bind, readNumber, read}
 use Rattle.layout.specs.Laws as laws
 use Rattle.layout.specs.Reads.{numberOf, peek}
-use Rattle.fields.specs.Gives.{drop-bytes}
-
--- what is known of each element of a slice
-pub bytes-of : (s : List ℕ) → ((i : ℕ) → Fits w8 (getD s i 0)) → Bytes s
-bytes-of [] h = no-bytes
-bytes-of (b ∷ bs) h = byte (h 0 .fits) (bytes-of bs (λ i. h (suc i)))
+use Rattle.layout.specs.Steps.Slices.{drop-bytes}
 
 pow-pos : (w : ℕ) → 0 < 256 ^ w
 pow-pos zero = omega arith

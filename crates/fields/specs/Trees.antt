@@ -17,7 +17,8 @@ use Rattle.layout.specs.Reads.{chain}
 use Rattle.fields.specs.declared.Name.{Name}
 use Rattle.fields.specs.Fields.{Fields, placedAll, placed, bytesOf, resolveAll, resolve}
 use Rattle.fields.specs.Check.{checkNumber, checkName, checkAll, check}
-use Rattle.fields.specs.Gives.{drop-bytes, take-bytes}
+use Rattle.layout.specs.Steps.Slices.{drop-bytes}
+use Rattle.fields.specs.Gives.{take-bytes}
 use Rattle.fields.specs.Puts.{Fit}
 
 length-le : (w n : ℕ) → length (le w n) ≡ w

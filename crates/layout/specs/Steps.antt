@@ -8,7 +8,8 @@ pub mod Numbers
 pub mod Counted
 pub mod Runs
 pub mod Rows
-pub mod Refusals
 pub mod Least
+pub mod Keeping
+pub mod Slices
 
 pub ruleset reads = (then, free-of, tested-of, string-of, nothing-of, switch-of, region-of, leading-of, yes-of, no-of, empty-of)

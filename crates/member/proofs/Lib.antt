@@ -1,3 +1,4 @@
-mod Copied
-mod Parts
 mod Areas
+mod Copied
+mod Ends
+mod Parts

@@ -18,7 +18,7 @@ use Rattle.table.specs.Table.{DimProperties}
 use Rattle.table.specs.Records.{total, nodes as categoryNodes, size, concatAll, leafIndexes, dimNodes, dimLeaves, mapAll}
 use Rattle.table.specs.Rules.{categoryRule, leavesAll, treeLeaves, leavesOf, dimensionRule, dimensionsRule, entryRule, axesRule, cellRule, cellsRule}
 use Rattle.member.specs.Member.{Member, dimensions, nodes, cells, MemberDerivation, AsDemanded}
-use Rattle.member.specs.Rules.{memberRule}
+use Rattle.member.specs.Refused.{memberRule}
 use Rattle.member.specs.Checked.{ended, checked}
 use Rattle.member.specs.Demanded.{accepted}
 

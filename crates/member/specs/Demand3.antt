@@ -6,41 +6,66 @@
 -- the axes, and puts every cell inside the table with no cell index twice. The dimensions, category nodes and cells it then yields are
 -- that derivation's. No run of bytes has two derivations, accepted or not."
 --
--- The grammar is `Member`, and a derivation `MemberDerivation`, in Member.antt. What a call of `read_member` answers is `Delivered`, the
--- contract of the function: so contract and theorem together say all of this of the code.
+-- And document 01: "A refusal is given exactly in its case."
+--
+-- The grammar is `Member`, and a derivation `MemberDerivation`, in Member.antt; which refusal is given where stands in Refused.antt. A call of
+-- `read_member` ensures `Demand3`, below.
 use mathlib.Core.Path.{_≡_}
 use mathlib.Core.Logic.{_↔_, _⊎_}
-use mathlib.Core.List.{List}
-use Prim.Native.Nat.{ℕ}
-use lib.ListN.{length}
-use Rattle.layout.specs.Layout.{Bytes}
+use mathlib.Core.List.{List, _++_}
+use Prim.Native.Nat.{ℕ, _*_, _-_, _≤_}
+use lib.ListN.{length, drop}
+use Rattle.layout.specs.Layout.{Tree}
+use Rattle.table.specs.Rules.{longest}
 use Rattle.member.specs.declared.Answer.{Answer}
-use Rattle.member.specs.Answer.{outcome, Delivered}
-use Rattle.member.specs.Member.{MemberDerivation}
-use Rattle.member.specs.Core as core
-pub mod Terms
-mod Proof
-use Terms.{Accepted, Yields, TooSmall}
+use Rattle.member.specs.Member.{Member, dimensions, layers, rows, columns, order, cells, nodes, nodeRecords, dimensionEntries, cellRecords, MemberDerivation, AsDemanded, LargeEnough}
+use Rattle.member.specs.Refused.{RefusedWith}
+use Rattle.member.specs.Answer.{zeros}
+use Rattle.member.specs.Demanded as demanded
 
--- any bytes, and a call with lent areas of any length that hold anything
-module _ (bs : List ℕ) (b : Bytes bs) (nodes₀ cells₀ : List ℕ) {r : Answer} {nodes₁ cells₁ : List ℕ}
-    (call : Delivered (outcome bs) nodes₀ cells₀ r nodes₁ cells₁) where
+-- a derivation that is as demanded, for which areas of these lengths are large enough
+pub record Accepted (bs : List ℕ) (node-words cell-words : ℕ) : Type 0 where
+  pub derivation : MemberDerivation bs
+  pub demanded : AsDemanded (derivation .tree)
+  pub large : LargeEnough (derivation .tree) node-words cell-words
+
+-- the answer r, and what the areas hold then, are those of a derivation
+pub record Yields (t : Tree Member) (nodes₀ cells₀ : List ℕ) (r : Answer) (nodes₁ cells₁ : List ℕ) : Type 0 where
+  pub number-of-dimensions : r .dims ≡ length (dimensions t)
+  pub number-of-nodes : r .nodes ≡ nodes t
+  pub number-of-cells : r .cells ≡ length (cells t)
+  pub dimension-entries : r .dimensions ≡ dimensionEntries t ++ zeros (64 - length (dimensionEntries t))
+  pub number-of-layers : r .layers ≡ layers t
+  pub number-of-rows : r .rows ≡ rows t
+  pub number-of-columns : r .columns ≡ columns t
+  pub axis-order : r .order ≡ order t ++ zeros (16 - length (order t))
+  pub node-area : nodes₁ ≡ nodeRecords t ++ drop (6 * nodes t) nodes₀
+  pub cell-area : cells₁ ≡ cellRecords t ++ drop (3 * length (cells t)) cells₀
+
+-- "All refusals return the number, the place and no records; 12 and 13 also return the counts of nodes and cells; everything else returned
+-- is 0. No lent area changes."
+pub record NoRecords (nodes₀ cells₀ : List ℕ) (r : Answer) (nodes₁ cells₁ : List ℕ) : Type 0 where
+  pub no-dimensions : (r .dims ≡ 0) × (r .dimensions ≡ zeros 64)
+  pub no-axes : (r .layers ≡ 0) × (r .rows ≡ 0) × (r .columns ≡ 0) × (r .order ≡ zeros 16)
+  pub same-nodes : nodes₁ ≡ nodes₀
+  pub same-cells : cells₁ ≡ cells₀
+
+-- a call with any bytes, and with lent areas of any length that hold anything
+pub record Demand3 (bs nodes₀ cells₀ : List ℕ) (r : Answer) (nodes₁ cells₁ : List ℕ) : Type 0 where
   -- A member is accepted exactly when it has a derivation as demanded, for which the areas are large enough.
   pub accepted-exactly : (r .refusal ≡ 0) ↔ Accepted bs (length nodes₀) (length cells₀)
-  accepted-exactly = let x = Proof.result bs b nodes₀ cells₀ call in (λ e. Proof.accepted x e, λ a. Proof.yielded x a .0)
-
   -- The dimensions, category nodes and cells it then yields are that derivation's.
   pub yields : (a : Accepted bs (length nodes₀) (length cells₀)) → Yields (a .derivation .tree) nodes₀ cells₀ r nodes₁ cells₁
-  yields a = Proof.yielded (Proof.result bs b nodes₀ cells₀ call) a .1
-
-  -- 12 and 13: the member is one to be accepted but for an area that is too small; the answer counts its nodes and cells.
-  pub too-small : (r .refusal ≡ 12) ⊎ (r .refusal ≡ 13) → TooSmall bs nodes₀ cells₀ r
-  too-small = Proof.too-small (Proof.result bs b nodes₀ cells₀ call)
-
-  -- A refusal leaves both areas as they were.
-  pub kept : (r .refusal ≡ 0 → ⊥) → (nodes₁ ≡ nodes₀) × (cells₁ ≡ cells₀)
-  kept = Proof.kept (Proof.result bs b nodes₀ cells₀ call)
+  -- A refusal is given exactly in its case, with its number and its place.
+  pub refused-exactly : (n p : ℕ) → ((r .refusal ≡ n) × (r .place ≡ p) × (n ≡ 0 → ⊥)) ↔ RefusedWith bs (length nodes₀) (length cells₀) n p
+  -- It returns no records, and both areas are as they were.
+  pub nothing-else : (r .refusal ≡ 0 → ⊥) → NoRecords nodes₀ cells₀ r nodes₁ cells₁
+  -- 12 and 13 count the derivation's nodes and cells; the others count nothing.
+  pub counts : (r .refusal ≡ 12) ⊎ (r .refusal ≡ 13) → (m : MemberDerivation bs) → (r .nodes ≡ nodes (m .tree)) × (r .cells ≡ length (cells (m .tree)))
+  pub no-counts : (r .refusal ≡ 0 → ⊥) → (r .refusal ≡ 12 → ⊥) → (r .refusal ≡ 13 → ⊥) → (r .nodes ≡ 0) × (r .cells ≡ 0)
+  -- The place is in the bytes, or right after them, and 0 where they are too many.
+  pub place : (r .place ≤ length bs) × (r .place ≤ longest)
 
 -- No run of bytes has two derivations, accepted or not.
 pub one-derivation : (bs : List ℕ) (m m′ : MemberDerivation bs) → (m .tree ≡ m′ .tree) × (m .ends ≡ m′ .ends)
-one-derivation = core.one-derivation
+one-derivation = demanded.one-derivation

@@ -16,9 +16,10 @@ use Rattle.layout.specs.Rule.{Kept}
 use Rattle.layout.specs.Read.{Got, got, no, lead, read}
 use Rattle.layout.specs.Check.{check}
 use Rattle.layout.specs.Laws.{complete, passes-exactly}
+use Rattle.table.specs.Rules.{longest}
 use Rattle.table.specs.KeptTable.{dimensions-kept, axes-kept, cells-kept}
 use Rattle.member.specs.Member.{Member, final, dimensions, nodes, places, MemberDerivation, AsDemanded}
-use Rattle.member.specs.Rules.{memberRule}
+use Rattle.member.specs.Refused.{memberRule}
 use Rattle.member.specs.Checked.{ended, checked}
 
 -- ---- the rule, in the words of demand 3
@@ -88,7 +89,7 @@ module _ (bs : List ℕ) (b : Bytes bs) where
   pub accepted : (t : Tree Member) (r : List ℕ) (p : ℕ) → checked bs ≡ got t r p → Accepted bs t r p
   unfolding checked
   accepted t r p e =
-      let h = picked (leb (length bs) 1048576) (ended (check memberRule bs 0)) 1 0 t r p e in
+      let h = picked (leb (length bs) longest) (ended (check memberRule bs 0)) 1 0 t r p e in
       let g = ended-got (check memberRule bs 0) t r p (h .1) in
       let q = passes-exactly memberRule bs b 0 t r p .0 (g .0) in
       let k = kept-demanded t .0 (q .1) in
@@ -99,7 +100,7 @@ module _ (bs : List ℕ) (b : Bytes bs) where
           ends = f .0;
           valid = q .0 .valid;
           spells = sym (q .0 .split ∙ ap (λ (l : List ℕ). spell Member t ++ l) (f .1));
-          short = leb-true (length bs) 1048576 (h .0);
+          short = leb-true (length bs) longest (h .0);
           few-nodes = k .1;
           few-places = k .2;
         };
@@ -117,7 +118,7 @@ module _ (bs : List ℕ) (b : Bytes bs) where
       let k = kept-demanded (m .tree) .1 (o, m .few-nodes, m .few-places) in
       let s : Spells Member bs (m .tree) (final (m .ends)) = record { valid = m .valid; split = sym (m .spells) } in
       let e = passes-exactly memberRule bs b 0 (m .tree) (final (m .ends)) (length (spell Member (m .tree))) .1 (s, k, sym (zero-add (length (spell Member (m .tree))))) in
-      rw (le-leb (length bs) 1048576 (m .short), e, final-ends (m .ends))
+      rw (le-leb (length bs) longest (m .short), e, final-ends (m .ends))
 
   -- Exactly: a member has a derivation as demanded exactly when reading by the rule gives a tree
   pub demanded-exactly : ((m : MemberDerivation bs) × AsDemanded (m .tree)) ↔ ((t : Tree Member) × (r : List ℕ) × (p : ℕ) × (checked bs ≡ got t r p))

@@ -4,15 +4,15 @@ use mathlib.Core.Bool.{Bool, true, false, _&&_}
 use mathlib.Core.List.{List, [], _∷_, map}
 use Prim.Native.Nat.{ℕ}
 use lib.ListN.{length, replicate}
-use lib.Dec.{leb, eqb, ltb}
 use Rattle.layout.specs.Layout.{passes, among, pick}
 use Rattle.layout.specs.Read.{Got, got, no, read, refusal}
-use Rattle.layout.specs.Reads.{step, chain, peek}
+use Rattle.layout.specs.Check.{check}
 use Rattle.units.specs.Units.{in-pixels, in-points}
 use Rattle.value.specs.Value.{Value, ValueIn, RawValueOf, TemplateOf, ArgumentOf}
 use Rattle.sections.specs.Sections.{Front, Header, HeaderFlags, HeaderNumbers}
 use Rattle.checks.specs.Checks.{fresh, product}
-use Rattle.member.specs.Answer.{Outcome, table, refused, scan, outcome}
+use Rattle.member.specs.Refused.{memberRule}
+use Rattle.member.specs.Checked.{ended, checked}
 use Rattle.member.specs.Index.{index}
 
 data Input : Type 0 where
@@ -35,9 +35,9 @@ data Result : Type 0 where
   fits : Bool → Result
   is-table : Result
 
-ofMember : Outcome → Result
-ofMember (table d u l r c m ns ds os cs) = is-table
-ofMember (refused n p) = refused-at n p
+ofMember : {A : Type 0} → Got A → Result
+ofMember (got t r p) = is-table
+ofMember (no n p) = refused-at n p
 
 ofValue : {A : Type 0} → Got A → Result
 ofValue (got t r p) = long p
@@ -48,7 +48,7 @@ all-fresh n seen [] = true
 all-fresh n seen (x ∷ xs) = fresh n seen x && all-fresh n (x ∷ seen) xs
 
 result : Input → Result
-result (member bs) = ofMember (outcome bs)
+result (member bs) = ofMember (checked bs)
 result (value bs) = ofValue (read Value bs 0)
 result (coordinates ds) = number (index ds)
 result (cells ns xs) = fits (all-fresh (product ns) [] xs)
@@ -80,5 +80,5 @@ examples =
     ∷ []
 
 twelve : map (λ (e : Example). map result (e .inputs)) examples ≡ map (λ (e : Example). e .expected) examples
-unfolding examples result ofMember ofValue all-fresh outcome scan step chain peek pick read passes among refusal fresh product Front Header HeaderFlags HeaderNumbers Value ValueIn RawValueOf TemplateOf ArgumentOf
+unfolding examples result ofMember ofValue all-fresh checked ended memberRule check pick read passes among refusal fresh product Front Header HeaderFlags HeaderNumbers Value ValueIn RawValueOf TemplateOf ArgumentOf
 twelve = refl

@@ -9,6 +9,7 @@ use Rattle.layout.specs.Layout.{Layout, _▸_, Tree, spell, Valid, All}
 use Rattle.sections.specs.Sections.{Front}
 use Rattle.checks.specs.Checks.{OnceEach, product}
 use Rattle.table.specs.Table.{Dimension, Dimensions, Axes, Cell, Cells}
+use Rattle.table.specs.Rules.{longest}
 use Rattle.table.specs.Records.{total, size, dimNodes, dimLeaves, LeavesOnce, dimsWords, dimsEntries, entryIndex, cellIndex, cellWords, mapAll, rowsWords}
 
 -- ---- the grammar
@@ -79,7 +80,7 @@ pub record MemberDerivation (bs : List ℕ) : Type 0 where
   pub ends : Bool
   pub valid : Valid Member tree
   pub spells : spell Member tree ++ final ends ≡ bs
-  pub short : length bs ≤ 1048576
+  pub short : length bs ≤ longest
   pub few-nodes : nodes tree ≤ 4096
   pub few-places : places tree ≤ 2 ^ 32 - 1
 

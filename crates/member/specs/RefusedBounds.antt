@@ -9,7 +9,7 @@ use Rattle.layout.specs.Layout.{among}
 use Rattle.layout.specs.Laws.{breaks-among, break-inside}
 use Rattle.layout.specs.Laws.Bounds.{allAmong, is-among, Numbered, PlacesInside}
 use Rattle.table.specs.RuleBounds.{numbers, dimensions-numbered, axes-numbered, cells-numbered, dimensions-inside, axes-inside, cells-inside}
-use Rattle.member.specs.Rules.{memberRule, Refused, too-long, inside, left}
+use Rattle.member.specs.Refused.{memberRule, Refused, too-long, inside, left}
 use Rattle.member.specs.NoColor as no-color
 
 member-numbered : Numbered numbers memberRule

@@ -1,29 +1,35 @@
 // The whole member.
 ghost use mathlib.Core.Path.{_≡_};
-ghost use mathlib.Core.List.{[], _++_};
-ghost use Prim.Native.Nat.{_+_, _≤_, min};
+ghost use mathlib.Core.List.{_++_};
+ghost use Prim.Native.Nat.{_+_, _*_, _≤_};
 ghost use lib.ListN.{length, take, drop};
-ghost use Rattle.layout.specs.Reads as reads;
+ghost use Rattle.layout.specs.Keeps.{Keeps};
+ghost use Rattle.layout.specs.Check.{check};
+ghost use Rattle.table.specs.Rules.{longest, cellsRule};
+ghost use Rattle.table.specs.Within.{needed};
+ghost use Rattle.cells.specs.Cells.{AllCells, cellsOf, cell-records};
 ghost use Rattle.member.specs.Answer as spec;
-ghost use Rattle.member.specs.Answer.{Delivered, Fitting};
+ghost use Rattle.member.specs.Answer.{Delivered};
+ghost use Rattle.member.specs.Demand3.{Demand3};
 ghost use Rattle.member.specs.Part.{partOf};
-ghost use Rattle.member.specs.Room.{Roomy};
+ghost use Rattle.member.specs.Checked.{ended, checked};
+ghost use Rattle.member.specs.Whole as whole;
+use cells::AxisCounts;
+use cells::axes::axes;
+use cells::cells::cells as cells_section;
 use checks::product_of;
-use layout::LITTLE;
 use layout::Step;
-use layout::number::count;
-use layout::number::peek;
+use layout::run::skip;
 use sections::front;
-use table::AxisCounts;
+use table::Section;
 use table::Walk;
-use table::axes::axes;
-use table::cells::section;
 use table::dimension::dimensions;
 
-// The numbers of a table that was read: dimensions, nodes, layers, rows, columns, cells; or the refusal.
-pub enum Found {
-    Table(usize, usize, u32, u32, u32, usize),
-    Off(u32, usize),
+// What comes after the dimensions: the axes, or the refusal; how many cells there are; and the dimension numbers on the axes.
+pub struct Tail {
+    pub axes: AxisCounts,
+    pub cells: usize,
+    pub order: [u32; 16],
 }
 
 // What reading a member answers. Unused entries are 0.
@@ -44,67 +50,78 @@ pub struct Answer {
     pub order: [u32; 16],
 }
 
-// After the dimensions: the product, the axes and the cells.
-fn after_dims(
-    s: &[u8],
-    at: usize,
-    d: usize,
-    used: usize,
-    nodes: &[u32],
-    dims: &[u32; 64],
-    order: &mut [u32; 16],
-    cells: &mut [u32],
-) -> Found
-    ensures { λ r. ⌜ spec.outcomeOf r (now (nodes .entry)) (now (dims .entry)) (now (order .exit)) (now (cells .exit)) ≡ spec.afterDims (now (s .entry)) d at used (now (nodes .entry)) (now (dims .entry)) (now (order .entry)) (now (cells .entry)) ⌝ }
+// The end of a member: an optional 01, and nothing after it.
+fn ending(s: &[u8], at: usize) -> Step
+    ensures { λ r. ⌜ r ≡ whole.endAt (now (s .entry)) at ⌝ }
+{
+    match skip(s, Step::Next(at), 0x01, 1) {
+        Step::Refused(r, p) => Step::Refused(r, p),
+        Step::Next(p) => {
+            let over = s.len() <= p;
+            if over {
+                Step::Next(at)
+            } else {
+                Step::Refused(11, p)
+            }
+        }
+    }
+}
+
+// The cells of a table of `total` places, and the end.
+fn to_the_end(s: &[u8], at: usize, total: u32, words: &mut [u32]) -> Walk
+    requires { ⌜ (length (now s) ≤ longest) × (needed cell-records (length (now s)) ≤ length (now words)) ⌝ }
+    ensures { λ r. ⌜ Keeps (now (s .entry)) (AllCells at (now (words .entry))) (ended (check (cellsRule total) (drop at (now (s .entry))) at)) (cellsOf r (now (words .exit))) ⌝ }
+{
+    match cells_section(s, at, total, words) {
+        Walk::Off(r, p) => Walk::Off(r, p),
+        Walk::On(q, m) => match ending(s, q) {
+            Step::Refused(r, p) => Walk::Off(r, p),
+            Step::Next(_) => Walk::On(q, m),
+        },
+    }
+}
+
+// After the dimensions, of which there are d: the product, the axes and the cells.
+fn after_dims(s: &[u8], at: usize, d: usize, dims: &[u32; 64], words: &mut [u32]) -> Tail
+    requires { ⌜ (length (now s) ≤ longest) × (needed cell-records (length (now s)) ≤ length (now words)) ⌝ }
+    ensures { λ r. ⌜ whole.TailRead (now (s .entry)) at d (now (dims .entry)) (now (words .entry)) r (now (words .exit)) ⌝ }
 {
     let total = product_of(dims, d);
     let small = total <= 4294967295;
     if small {
-        match axes(s, at, d, order) {
-            AxisCounts::Not(r, p) => Found::Off(r, p),
-            AxisCounts::Of(layers, rows, columns, next) => match section(s, next, total, cells) {
-                Walk::Off(r, p) => Found::Off(r, p),
-                Walk::On(_, m) => Found::Table(d, used, layers, rows, columns, m),
+        let a = axes(s, at, d);
+        let order = a.order;
+        let counts = a.counts;
+        match counts {
+            AxisCounts::Not(r, p) => Tail {
+                axes: AxisCounts::Not(r, p),
+                cells: 0,
+                order,
+            },
+            AxisCounts::Of(layers, rows, columns, next) => match to_the_end(
+                s,
+                next,
+                total as u32,
+                words,
+            ) {
+                Walk::Off(r, p) => Tail {
+                    axes: AxisCounts::Not(r, p),
+                    cells: 0,
+                    order,
+                },
+                Walk::On(q, m) => Tail {
+                    axes: AxisCounts::Of(layers, rows, columns, q),
+                    cells: m,
+                    order,
+                },
             },
         }
     } else {
-        Found::Off(7, at)
-    }
-}
-
-// The dimensions, from where their number ends, and the rest.
-fn from_dims(
-    s: &[u8],
-    at: usize,
-    d: usize,
-    nodes: &mut [u32],
-    dims: &mut [u32; 64],
-    order: &mut [u32; 16],
-    cells: &mut [u32],
-) -> Found
-    ensures { λ r. ⌜ spec.outcomeOf r (now (nodes .exit)) (now (dims .exit)) (now (order .exit)) (now (cells .exit)) ≡ spec.dimsAt (now (s .entry)) d at (now (nodes .entry)) (now (dims .entry)) (now (order .entry)) (now (cells .entry)) ⌝ }
-{
-    match dimensions(s, at, d, nodes, dims) {
-        Walk::Off(r, p) => Found::Off(r, p),
-        Walk::On(next, used) => after_dims(s, next, d, used, nodes, dims, order, cells),
-    }
-}
-
-// A member, its words in four lists.
-fn scan(
-    s: &[u8],
-    nodes: &mut [u32],
-    dims: &mut [u32; 64],
-    order: &mut [u32; 16],
-    cells: &mut [u32],
-) -> Found
-    ensures { λ r. ⌜ spec.outcomeOf r (now (nodes .exit)) (now (dims .exit)) (now (order .exit)) (now (cells .exit)) ≡ spec.scan (now (s .entry)) (now (nodes .entry)) (now (dims .entry)) (now (order .entry)) (now (cells .entry)) ⌝ }
-{
-    let st = front(s, Step::Next(0));
-    let d = peek(s, st, LITTLE, 4);
-    match count(s, st, 16) {
-        Step::Refused(r, p) => Found::Off(r, p),
-        Step::Next(p) => from_dims(s, p, d as usize, nodes, dims, order, cells),
+        Tail {
+            axes: AxisCounts::Not(7, at),
+            cells: 0,
+            order: [0u32; 16],
+        }
     }
 }
 
@@ -154,49 +171,31 @@ pub fn part(member: &[u8], place: usize, length: usize) -> &[u8]
     }
 }
 
-// The answer for a table that was read, and its records into the lent areas where these are large enough.
+// The answer a, and its records into the lent areas, where these are large enough.
 fn deliver(
-    d: usize,
-    used: usize,
-    layers: u32,
-    rows: u32,
-    columns: u32,
-    m: usize,
-    dims: [u32; 64],
-    order: [u32; 16],
+    a: Answer,
     node_words: &[u32],
     cell_words: &[u32],
     nodes: &mut [u32],
     cells: &mut [u32],
 ) -> Answer
-    requires { ⌜ Fitting used m (now «node_words») (now «cell_words») ⌝ }
-    ensures { λ r. ⌜ Delivered (spec.table d used layers rows columns m (now («node_words» .entry)) dims order (now («cell_words» .entry))) (now (nodes .entry)) (now (cells .entry)) r (now (nodes .exit)) (now (cells .exit)) ⌝ }
+    requires { ⌜ (6 * (a .nodes) ≤ length (now «node_words»)) × (3 * (a .cells) ≤ length (now «cell_words»)) × (a .nodes ≤ 4096) × (a .cells ≤ 4096) ⌝ }
+    ensures { λ r. ⌜ spec.Filled a (now («node_words» .entry)) (now («cell_words» .entry)) (now (nodes .entry)) (now (cells .entry)) r (now (nodes .exit)) (now (cells .exit)) ⌝ }
 {
-    let node_count = (used % 4294967296) as u32;
-    let cell_count = (m % 4294967296) as u32;
+    let used = a.nodes as usize;
+    let m = a.cells as usize;
     let wide = 6 * used <= nodes.len();
     if wide {
         let long = 3 * m <= cells.len();
         if long {
             copy(node_words, nodes, 6 * used);
             copy(cell_words, cells, 3 * m);
-            Answer {
-                refusal: 0,
-                place: 0,
-                dims: (d % 4294967296) as u32,
-                nodes: node_count,
-                cells: cell_count,
-                dimensions: dims,
-                layers,
-                rows,
-                columns,
-                order,
-            }
+            a
         } else {
-            refused(13, 0, node_count, cell_count)
+            refused(13, 0, a.nodes, a.cells)
         }
     } else {
-        refused(12, 0, node_count, cell_count)
+        refused(12, 0, a.nodes, a.cells)
     }
 }
 
@@ -208,43 +207,58 @@ fn by_way_of(
     nodes: &mut [u32],
     cells: &mut [u32],
 ) -> Answer
-    requires { ⌜ Roomy (now member) (now «node_words») (now «cell_words») ⌝ }
-    ensures { λ r. ⌜ Delivered (spec.scanned (now (member .entry))) (now (nodes .entry)) (now (cells .entry)) r (now (nodes .exit)) (now (cells .exit)) ⌝ }
+    requires { ⌜ whole.Roomy (now member) (now «node_words») (now «cell_words») ⌝ }
+    ensures { λ r. ⌜ Delivered (checked (now (member .entry))) (now (nodes .entry)) (now (cells .entry)) r (now (nodes .exit)) (now (cells .exit)) ⌝ }
 {
     let mut dims = [0u32; 64];
-    let mut order = [0u32; 16];
-    match scan(member, node_words, &mut dims, &mut order, cell_words) {
-        Found::Off(r, p) => refused(r, p, 0, 0),
-        Found::Table(d, used, layers, rows, columns, m) => deliver(
-            d,
-            used,
-            layers,
-            rows,
-            columns,
-            m,
-            dims,
-            order,
-            node_words,
-            cell_words,
-            nodes,
-            cells,
-        ),
+    match front(member, Step::Next(0)) {
+        Step::Refused(r, p) => refused(r, p, 0, 0),
+        Step::Next(at) => match dimensions(member, at, node_words, &mut dims) {
+            Section::Not(r, p) => refused(r, p, 0, 0),
+            Section::Of(next, d, used) => {
+                let tail = after_dims(member, next, d, &dims, cell_words);
+                let order = tail.order;
+                let axes = tail.axes;
+                match axes {
+                    AxisCounts::Not(r, p) => refused(r, p, 0, 0),
+                    AxisCounts::Of(layers, rows, columns, _) => deliver(
+                        Answer {
+                            refusal: 0,
+                            place: 0,
+                            dims: (d % 4294967296) as u32,
+                            nodes: (used % 4294967296) as u32,
+                            cells: (tail.cells % 4294967296) as u32,
+                            dimensions: dims,
+                            layers,
+                            rows,
+                            columns,
+                            order,
+                        },
+                        node_words,
+                        cell_words,
+                        nodes,
+                        cells,
+                    ),
+                }
+            }
+        },
     }
 }
 
 // A member of at most 4,608 bytes: they hold at most 288 nodes and 512 cells, and shorter lists are sooner cleared.
 fn read_short(member: &[u8], nodes: &mut [u32], cells: &mut [u32]) -> Answer
     requires { ⌜ length (now member) ≤ 4608 ⌝ }
-    ensures { λ r. ⌜ Delivered (spec.scanned (now (member .entry))) (now (nodes .entry)) (now (cells .entry)) r (now (nodes .exit)) (now (cells .exit)) ⌝ }
+    ensures { λ r. ⌜ Delivered (checked (now (member .entry))) (now (nodes .entry)) (now (cells .entry)) r (now (nodes .exit)) (now (cells .exit)) ⌝ }
 {
     let mut node_words = [0u32; 1728];
     let mut cell_words = [0u32; 1536];
     by_way_of(member, &mut node_words, &mut cell_words, nodes, cells)
 }
 
-// A member of any length.
+// A member of any length that is accepted.
 fn read_long(member: &[u8], nodes: &mut [u32], cells: &mut [u32]) -> Answer
-    ensures { λ r. ⌜ Delivered (spec.scanned (now (member .entry))) (now (nodes .entry)) (now (cells .entry)) r (now (nodes .exit)) (now (cells .exit)) ⌝ }
+    requires { ⌜ length (now member) ≤ longest ⌝ }
+    ensures { λ r. ⌜ Delivered (checked (now (member .entry))) (now (nodes .entry)) (now (cells .entry)) r (now (nodes .exit)) (now (cells .exit)) ⌝ }
 {
     let mut node_words = [0u32; 24576];
     let mut cell_words = [0u32; 12288];
@@ -253,7 +267,8 @@ fn read_long(member: &[u8], nodes: &mut [u32], cells: &mut [u32]) -> Answer
 
 // Reads a member. On a refusal both areas hold what they held; on acceptance the records, and beyond them what was there.
 pub fn read_member(member: &[u8], nodes: &mut [u32], cells: &mut [u32]) -> Answer
-    ensures { λ r. ⌜ Delivered (spec.outcome (now (member .entry))) (now (nodes .entry)) (now (cells .entry)) r (now (nodes .exit)) (now (cells .exit)) ⌝ }
+    ensures checks { λ r. ⌜ Delivered (checked (now (member .entry))) (now (nodes .entry)) (now (cells .entry)) r (now (nodes .exit)) (now (cells .exit)) ⌝ }
+    ensures demands { λ r. ⌜ Demand3 (now (member .entry)) (now (nodes .entry)) (now (cells .entry)) r (now (nodes .exit)) (now (cells .exit)) ⌝ }
 {
     if member.len() <= 4608 {
         read_short(member, nodes, cells)

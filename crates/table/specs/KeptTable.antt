@@ -89,6 +89,10 @@ indexes-are : (t : Tree Dimension) → indexes (leavesOf t) ≡ dimLeaves t
 unfolding leavesOf dimLeaves
 indexes-are t = indexes-all (size (CategoryIn 8)) (treeLeaves 8) (leafIndexes 8) (indexes-tree 8) (size (Value ▸ DimProperties) (t .0) + 4) (t .1 .1)
 
+-- n of a dimension is their number
+pub leaf-count : (t : Tree Dimension) → length (leavesOf t) ≡ length (dimLeaves t)
+leaf-count t = sym (length-map (leavesOf t) (λ l. l .0)) ∙ ap length (indexes-are t)
+
 is-fine : (v : Verdict) → placeOf v ≡ none → v ≡ Fine
 is-fine Fine e = refl
 is-fine (Bad p) e = absurd (let z : _≡_ {A = ℕ} 0 1 = cc in omega arith)
@@ -96,7 +100,7 @@ is-fine (Bad p) e = absurd (let z : _≡_ {A = ℕ} 0 1 = cc in omega arith)
 -- Leaves: no place is wrong exactly when the n leaf indexes are 0 to n-1, once each
 leaves-once : (t : Tree Dimension) → (placeOf (firstBad (length (leavesOf t)) [] (leavesOf t)) ≡ none) ↔ LeavesOnce t
 leaves-once t =
-    let n : length (leavesOf t) ≡ length (dimLeaves t) = sym (length-map (leavesOf t) (λ l. l .0)) ∙ ap length (indexes-are t) in
+    let n = leaf-count t in
     let bad = none-bad (length (leavesOf t)) (leavesOf t) in (
       λ e. rw (indexes-are t, n) at (bad .0 (is-fine (firstBad (length (leavesOf t)) [] (leavesOf t)) e)),
       λ o. ap placeOf (bad .1 (rw (indexes-are t, n) o)),

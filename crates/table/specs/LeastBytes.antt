@@ -1,28 +1,17 @@
 -- How many bytes records take at least: 16 for each category node, 9 for each cell.
 use mathlib.Core.Path.{_≡_, refl}
-use mathlib.Core.List.{List, [], _∷_}
+use mathlib.Core.List.{List}
 use Prim.Native.Nat.{ℕ, zero, suc, _+_, _*_, _≤_}
 use native.Mathlib.Nat.{mul-zero, mul-add}
 use native.Mathlib.Omega.{arith}
 use lib.ListN.{length, length-append}
-use Rattle.layout.specs.Layout.{Layout, empty, number, string, _▸_, times, leading, region, nothing, Tree, spellAll, spell, All, all-none, all-more, Valid}
+use Rattle.layout.specs.Layout.{Tree, spell, All, all-none, all-more, Valid}
 use Rattle.layout.specs.Laws.{digits-length}
-use Rattle.layout.specs.Steps.Least.{least}
+use Rattle.layout.specs.Steps.Least.{least, least-spelt}
 use Rattle.value.specs.Value.{Value, ValueIn}
 use Rattle.table.specs.Table.{Leaf, CategoryIn, Dimension, Cell}
 use Rattle.table.specs.Records.{total, nodes, size, dimNodes}
-
--- a derivation covers as many bytes as its layout takes at least
-pub least-size : (g : Layout) (t : Tree g) → Valid g t → least g ≤ size g t
-unfolding least size spell
-least-size empty t v = omega arith
-least-size (number o w test k) t v = rw (length-append, digits-length) (omega arith)
-least-size (string o w) t v = omega arith
-least-size (a ▸ b) t v = rw length-append (omega (arith, least-size a (t .0) (v .0), least-size b (t .1) (v .1)))
-least-size (times n a) t v = omega arith
-least-size (leading b n a) t v = rw length-append (omega (arith, v .0 .some-byte))
-least-size (region o f a) t v = omega arith
-least-size nothing t v = absurd v
+use Rattle.table.specs.Sizes.{size-all}
 
 -- ---- trees that follow each other
 
@@ -32,25 +21,19 @@ unfolding total
 total-least c f h each all-none = omega (arith, mul-zero c)
 total-least c f h each (all-more {x} {xs} p ps) = rw (mul-add c (f x) (total f xs)) (omega (arith, each x p, total-least c f h each ps))
 
--- the bytes of all are those of each
-pub size-all : (g : Layout) (ts : List (Tree g)) → length (spellAll (spell g) ts) ≡ total (size g) ts
-unfolding total size spellAll
-size-all g [] = refl
-size-all g (t ∷ ts) = rw (length-append, size-all g ts)
-
 -- ---- categories
 
 -- a Value takes a byte or more
 value-bytes : (t : Tree Value) → Valid Value t → 1 ≤ size Value t
-unfolding Value ValueIn least
-value-bytes t v = least-size Value t v
+unfolding Value ValueIn least size
+value-bytes t v = least-spelt Value t v
 
 pub category-bytes : (d : ℕ) (t : Tree (CategoryIn d)) → Valid (CategoryIn d) t → 16 * nodes d t ≤ size (CategoryIn d) t
 unfolding nodes total least size spell
 category-bytes zero t v = absurd v
 category-bytes (suc d) (m, (zero, t)) v =
     let name = value-bytes m (v .0) in
-    let rest : 12 ≤ size Leaf t = least-size Leaf t (v .1 .2) in
+    let rest : 12 ≤ size Leaf t = least-spelt Leaf t (v .1 .2) in
     simp (length-append, digits-length) (omega arith)
 category-bytes (suc d) (m, (suc k, (t, (n, ts)))) v =
     let name = value-bytes m (v .0) in
@@ -75,8 +58,8 @@ dimensions-bytes vs = total-least 16 dimNodes (size Dimension) dimension-bytes v
 -- ---- cells
 
 pub cell-bytes : (t : Tree Cell) → Valid Cell t → 9 ≤ size Cell t
-unfolding least Value ValueIn
-cell-bytes t v = least-size Cell t v
+unfolding least Value ValueIn size
+cell-bytes t v = least-spelt Cell t v
 
 pub cells-bytes : {ts : List (Tree Cell)} → All (Valid Cell) ts → 9 * length ts ≤ total (size Cell) ts
 unfolding total

@@ -6,7 +6,7 @@ use Rattle.layout.specs.Layout.{Layout, empty, _▸_, Tree, spell}
 use Rattle.layout.specs.Conventions.{int32}
 use Rattle.checks.specs.Checks.{OnceEach}
 use Rattle.value.specs.Value.{Value}
-use Rattle.table.specs.Table.{CategoryOf, CategoryIn, DimProperties, Dimension, Axes, Cell}
+use Rattle.table.specs.Table.{CategoryOf, CategoryIn, DimProperties, Dimension, Cell}
 
 -- a category without what is below it
 abbrev pub Head : Layout

@@ -1,14 +1,13 @@
 -- How many bytes categories and dimensions cover: their own part, and what is below.
-use mathlib.Core.Path.{_≡_, sym}
-use mathlib.Core.List.{_++_, append-nil, append-assoc}
+use mathlib.Core.Path.{_≡_, refl, sym}
+use mathlib.Core.List.{List, [], _∷_, _++_, append-nil, append-assoc}
 use Prim.Native.Nat.{ℕ, zero, suc, _+_}
-use lib.ListN.{length-append}
-use Rattle.layout.specs.Layout.{little, _▸_, Tree, digits, spellAll, spell}
+use lib.ListN.{length, length-append}
+use Rattle.layout.specs.Layout.{little, Layout, _▸_, Tree, digits, spellAll, spell}
 use Rattle.layout.specs.Laws.{digits-length}
 use Rattle.value.specs.Value.{Value}
 use Rattle.table.specs.Table.{CategoryIn, DimProperties, Dimension}
 use Rattle.table.specs.Records.{Head, front, children, total, size}
-use Rattle.table.specs.LeastBytes.{size-all}
 
 -- ---- what they spell
 
@@ -23,6 +22,12 @@ unfolding spell
 spell-dimension t = sym (append-assoc (spell (Value ▸ DimProperties) (t .0)) (digits little 4 (t .1 .0)) (spellAll (spell (CategoryIn 8)) (t .1 .1)))
 
 -- ---- sizes
+
+-- the bytes of all are those of each
+pub size-all : (g : Layout) (ts : List (Tree g)) → length (spellAll (spell g) ts) ≡ total (size g) ts
+unfolding total size spellAll
+size-all g [] = refl
+size-all g (t ∷ ts) = rw (length-append, size-all g ts)
 
 pub size-category : (d : ℕ) (t : Tree (CategoryIn (suc d))) → size (CategoryIn (suc d)) t ≡ size Head (front d t) + total (size (CategoryIn d)) (children d t)
 unfolding size

@@ -1,8 +1,8 @@
 -- Source document 003, "Dimensions", "Categories", "Axes" and "Cells", for version 3, with document 01's choices.
 use mathlib.Core.List.{List, [], _∷_}
 use Prim.Native.Nat.{ℕ, zero, suc, _^_, _-_}
-use Rattle.layout.specs.Layout.{little, any-number, one-of, Layout, empty, number, _▸_, times, nothing}
-use Rattle.layout.specs.Conventions.{field, fixed, i, byte, bool, int32, int64, at-most-many, many}
+use Rattle.layout.specs.Layout.{little, any-number, one-of, Layout, number, _▸_, times, nothing}
+use Rattle.layout.specs.Conventions.{fixed, i, byte, bool, int32, int64, at-most-many, many}
 use Rattle.value.specs.Value.{Value}
 
 -- ---- 003, Categories

@@ -1,13 +1,22 @@
 // Dimensions: a name, properties and categories; when one ends, its n is known and its leaf indexes are tested.
 ghost use mathlib.Core.Path.{_≡_};
-ghost use Prim.Native.Nat.{_<_, _≤_, _-_, min};
+ghost use mathlib.Core.List.{[], _∷_};
+ghost use Prim.Native.Nat.{_<_, _≤_, _+_, _-_, _*_};
+ghost use lib.ListN.{length, drop};
+ghost use lib.Seq.{sets};
 ghost use Rattle.layout.specs.Reads.{Reads};
+ghost use Rattle.layout.specs.Rule.{items};
+ghost use Rattle.layout.specs.Check.{check};
+ghost use Rattle.layout.specs.Keeps.{Keeps, Each};
 ghost use Rattle.table.specs.Table as grammar;
-ghost use Rattle.table.specs.Walk as walk;
-ghost use Rattle.table.specs.Scan as spec;
+ghost use Rattle.table.specs.Rules.{longest, dimensionRule, dimensionsRule};
+ghost use Rattle.table.specs.Dims as spec;
+ghost use Rattle.table.specs.Dims.{NodeRoom};
+ghost use Rattle.table.specs.Within.{needed, within};
+use crate::Section;
 use crate::Walk;
-use crate::at_most;
-use crate::category::categories;
+use crate::categories;
+use crate::length;
 use checks::Verdict;
 use checks::check_leaves;
 use checks::count_leaves;
@@ -15,6 +24,7 @@ use layout::LITTLE;
 use layout::Step;
 use layout::number::any;
 use layout::number::boolean;
+use layout::number::count;
 use layout::number::fixed;
 use layout::number::peek;
 use value::value;
@@ -43,7 +53,7 @@ fn name_length(at: usize, name: Step) -> u32
     ensures { λ r. ⌜ r ≡ spec.nameLength at name ⌝ }
 {
     match name {
-        Step::Next(e) => (between(at, e) % 4294967296) as u32,
+        Step::Next(e) => length(at, e),
         Step::Refused(_, _) => 0,
     }
 }
@@ -51,7 +61,7 @@ fn name_length(at: usize, name: Step) -> u32
 // The four words of dimension i.
 fn store(dims: &mut [u32; 64], i: usize, place: u32, length: u32, n: u32, first: u32)
     requires { ⌜ i < 16 ⌝ }
-    ensures { λ _. ⌜ now (dims .exit) ≡ spec.storeDim i place length n first (now (dims .entry)) ⌝ }
+    ensures { λ _. ⌜ now (dims .exit) ≡ sets (now (dims .entry)) (4 * i) (place ∷ length ∷ n ∷ first ∷ []) ⌝ }
 {
     let at = 4 * i;
     dims[at] = place;
@@ -60,51 +70,35 @@ fn store(dims: &mut [u32; 64], i: usize, place: u32, length: u32, n: u32, first:
     dims[at + 3] = first;
 }
 
-// Dimension i ends, after a walk that gave `w`.
+// Dimension i, whose name has that place and length, ends at p, with u nodes in all.
 fn close(
     i: usize,
     at: usize,
-    name: Step,
+    size: u32,
     used: usize,
-    w: Walk,
+    p: usize,
+    u: usize,
     nodes: &[u32],
     dims: &mut [u32; 64],
 ) -> Walk
     requires { ⌜ i < 16 ⌝ }
-    ensures { λ r. ⌜ spec.dimsOf r (now (nodes .entry)) (now (dims .exit)) ≡ spec.closeDim i at name used (now (dims .entry)) (walk.walked w (now (nodes .entry))) ⌝ }
+    ensures { λ r. ⌜ spec.Closed i at size used p u (now (nodes .entry)) (now (dims .entry)) r (now (dims .exit)) ⌝ }
 {
-    match w {
-        Walk::Off(r, p) => Walk::Off(r, p),
-        Walk::On(p, u) => {
-            let k = between(used, u);
-            let n = count_leaves(nodes, used, k);
-            match check_leaves(nodes, used, k, n as u64) {
-                Verdict::Bad(q) => Walk::Off(8, q),
-                Verdict::Fine => {
-                    let place = (at % 4294967296) as u32;
-                    let length = name_length(at, name);
-                    store(
-                        dims,
-                        i,
-                        place,
-                        length,
-                        (n % 4294967296) as u32,
-                        (used % 4294967296) as u32,
-                    );
-                    Walk::On(p, u)
-                }
-            }
+    let k = between(used, u);
+    let n = count_leaves(nodes, used, k);
+    match check_leaves(nodes, used, k, n as u64) {
+        Verdict::Bad(q) => Walk::Off(8, q),
+        Verdict::Fine => {
+            store(
+                dims,
+                i,
+                (at % 4294967296) as u32,
+                size,
+                (n % 4294967296) as u32,
+                (used % 4294967296) as u32,
+            );
+            Walk::On(p, u)
         }
-    }
-}
-
-// The categories of a dimension, from where the count ends.
-fn inner(s: &[u8], st: Step, i: u32, n: u64, used: usize, nodes: &mut [u32]) -> Walk
-    ensures { λ r. ⌜ walk.walked r (now (nodes .exit)) ≡ spec.fromStep st (λ p. walk.walkAll (walk.walk 8 (now (s .entry)) i 4294967295) n p used (now (nodes .entry))) ⌝ }
-{
-    match st {
-        Step::Next(p) => categories(s, p, 8, i, 4294967295, n, used, nodes),
-        Step::Refused(r, p) => Walk::Off(r, p),
     }
 }
 
@@ -117,21 +111,25 @@ fn dimension(
     nodes: &mut [u32],
     dims: &mut [u32; 64],
 ) -> Walk
-    requires { ⌜ i < 16 ⌝ }
-    ensures { λ r. ⌜ spec.dimsOf r (now (nodes .exit)) (now (dims .exit)) ≡ spec.dimAt (now (s .entry)) i at used (now (nodes .entry)) (now (dims .entry)) ⌝ }
+    requires { ⌜ (i < 16) × (length (now s) ≤ longest) × (used ≤ 4096) × (16 * used ≤ at) × NodeRoom (length (now nodes)) (now s) ⌝ }
+    ensures { λ r. ⌜ Keeps (now (s .entry)) (spec.Dim at (spec.kept i used (now (nodes .entry)) (now (dims .entry)))) (check (dimensionRule used) (drop at (now (s .entry))) at) (spec.dimsOf (i + 1) r (now (nodes .exit)) (now (dims .exit))) ⌝ }
 {
     let name = value(s, Step::Next(at));
     let before = properties(s, name);
     let n = peek(s, before, LITTLE, 4);
-    let st = any(s, before, 4);
-    let w = inner(s, st, i as u32, n, used, nodes);
-    close(i, at, name, used, w, nodes, dims)
+    match any(s, before, 4) {
+        Step::Refused(r, p) => Walk::Off(r, p),
+        Step::Next(f) => match categories(s, f, 8, i as u32, 4294967295, n, used, nodes) {
+            Walk::Off(r, p) => Walk::Off(r, p),
+            Walk::On(p, u) => close(i, at, name_length(at, name), used, p, u, nodes, dims),
+        },
+    }
 }
 
 // n dimensions.
 fn all(s: &[u8], at: usize, n: usize, nodes: &mut [u32], dims: &mut [u32; 64]) -> Walk
-    requires { ⌜ n ≤ 16 ⌝ }
-    ensures { λ r. ⌜ spec.dimsOf r (now (nodes .exit)) (now (dims .exit)) ≡ spec.dimsFrom (now (s .entry)) n 0 at 0 (now (nodes .entry)) (now (dims .entry)) ⌝ }
+    requires { ⌜ (n ≤ 16) × (length (now s) ≤ longest) × NodeRoom (length (now nodes)) (now s) ⌝ }
+    ensures { λ r. ⌜ Keeps (now (s .entry)) (Each spec.Dim at (spec.kept 0 0 (now (nodes .entry)) (now (dims .entry)))) (check (items {n = n} spec.nextDim) (drop at (now (s .entry))) at) (spec.dimsOf n r (now (nodes .exit)) (now (dims .exit))) ⌝ }
 {
     let mut at = at;
     let mut used = 0;
@@ -151,9 +149,40 @@ fn all(s: &[u8], at: usize, n: usize, nodes: &mut [u32], dims: &mut [u32; 64]) -
     Walk::On(at, used)
 }
 
-// n dimensions; a number above 16 counts as 16.
-pub fn dimensions(s: &[u8], at: usize, n: usize, nodes: &mut [u32], dims: &mut [u32; 64]) -> Walk
-    ensures { λ r. ⌜ spec.dimsOf r (now (nodes .exit)) (now (dims .exit)) ≡ spec.dimsFrom (now (s .entry)) (min n 16) 0 at 0 (now (nodes .entry)) (now (dims .entry)) ⌝ }
+// The section, in a member that is no longer than members are, with room for its records.
+fn section(s: &[u8], at: usize, nodes: &mut [u32], dims: &mut [u32; 64]) -> Section
+    requires { ⌜ (length (now s) ≤ longest) × NodeRoom (length (now nodes)) (now s) ⌝ }
+    ensures { λ r. ⌜ Keeps (now (s .entry)) (spec.AllDims at (now (nodes .entry)) (now (dims .entry))) (check dimensionsRule (drop at (now (s .entry))) at) (spec.sectionOf r (now (nodes .exit)) (now (dims .exit))) ⌝ }
 {
-    all(s, at, at_most(n, 16), nodes, dims)
+    let n = peek(s, Step::Next(at), LITTLE, 4);
+    match count(s, Step::Next(at), 16) {
+        Step::Refused(r, p) => Section::Not(r, p),
+        Step::Next(p) => match all(s, p, n as usize, nodes, dims) {
+            Walk::Off(r, q) => Section::Not(r, q),
+            Walk::On(q, used) => Section::Of(q, n as usize, used),
+        },
+    }
+}
+
+// How many words the node records of n bytes have at most: a category takes 16 bytes or more.
+fn most_words(n: usize) -> usize
+    ensures { λ r. ⌜ r ≡ needed spec.node-records n ⌝ }
+{
+    let k = n / 16;
+    if k <= 4096 { 6 * k } else { 24576 }
+}
+
+// The number of dimensions at a position, and the dimensions. Refused besides: more bytes than a member has, 1 at 0; a list that is too
+// short for the node records of so many bytes, 12 at 0.
+pub fn dimensions(s: &[u8], at: usize, nodes: &mut [u32], dims: &mut [u32; 64]) -> Section
+    ensures { λ r. ⌜ Keeps (now (s .entry)) (spec.AllDims at (now (nodes .entry)) (now (dims .entry))) (within spec.node-records (now (s .entry)) (length (now (nodes .entry))) (check dimensionsRule (drop at (now (s .entry))) at)) (spec.sectionOf r (now (nodes .exit)) (now (dims .exit))) ⌝ }
+{
+    if 1048576 < s.len() {
+        return Section::Not(1, 0);
+    }
+    let most = most_words(s.len());
+    if nodes.len() < most {
+        return Section::Not(12, 0);
+    }
+    section(s, at, nodes, dims)
 }

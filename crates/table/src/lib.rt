@@ -1,19 +1,51 @@
-// Dimensions, their categories and their records; axes; cells.
+// Dimensions and their categories: a walk that stores each node's record in a list of words.
 ghost use mathlib.Core.Path.{_≡_};
-ghost use Prim.Native.Nat.{min};
-ghost use lib.ListN.{set};
+ghost use mathlib.Core.List.{[], _∷_};
+ghost use Prim.Native.Nat.{_≤_, _<_, _-_, _*_};
+ghost use lib.ListN.{length, set, drop};
+ghost use lib.Seq.{sets};
+ghost use Rattle.layout.specs.Layout.{little, one-of};
+ghost use Rattle.layout.specs.Conventions as notation;
+ghost use Rattle.layout.specs.Read.{read};
+ghost use Rattle.layout.specs.Reads.{Reads, verdict};
+ghost use Rattle.layout.specs.Check.{check};
+ghost use Rattle.layout.specs.Keeps.{Keeps, Each};
+ghost use Rattle.table.specs.Table as grammar;
+ghost use Rattle.table.specs.Records.{Head};
+ghost use Rattle.table.specs.Rules.{categoryRule, categoriesRule, longest};
+ghost use Rattle.table.specs.Words.{word32};
+ghost use Rattle.table.specs.Heads.{HeadRead, nodeOf};
+ghost use Rattle.table.specs.Nodes as spec;
+use layout::LITTLE;
+use layout::Step;
+use layout::number::any;
+use layout::number::field;
+use layout::number::fixed;
+use layout::number::peek;
+use value::value;
 
-pub mod axes; // axis entries
-pub mod category; // categories and their node records
-pub mod cells; // cells and their records
 pub mod dimension; // dimensions
 
-// n, and no more than `most`.
-fn at_most(n: usize, most: usize) -> usize
-    ensures { λ r. ⌜ r ≡ min n most ⌝ }
-{
-    if n <= most { n } else { most }
+// What a walk gives: the next position and the number of nodes so far; or the refusal's number and place.
+pub enum Walk {
+    On(usize, usize),
+    Off(u32, usize),
 }
+
+// What a section gives: the next position, how many dimensions there are, and how many nodes they have; or the refusal.
+pub enum Section {
+    Of(usize, usize, usize),
+    Not(u32, usize),
+}
+
+// What a category begins with: 0 for a leaf or 1 for a group, the length of its name, its last word, how many categories are below it
+// and where they start; or the refusal.
+pub enum Front {
+    Node(u32, u32, u32, u64, usize),
+    Not(u32, usize),
+}
+
+// ---- words
 
 // The word x at place i, where there is such a place.
 fn put(words: &mut [u32], i: usize, x: u32)
@@ -24,21 +56,163 @@ fn put(words: &mut [u32], i: usize, x: u32)
     }
 }
 
-// What a walk gives: the next position and the number of nodes so far; or the refusal's number and place.
-pub enum Walk {
-    On(usize, usize),
-    Off(u32, usize),
+// Three words from place i on, where there are such places.
+pub fn put_three(words: &mut [u32], i: usize, a: u32, b: u32, c: u32)
+    ensures { λ _. ⌜ now (words .exit) ≡ sets (now (words .entry)) i (a ∷ b ∷ c ∷ []) ⌝ }
+{
+    if i < words.len() {
+        put(words, i, a);
+        put(words, i + 1, b);
+        put(words, i + 2, c);
+    }
 }
 
-// What the axes give: the number of layers, rows and columns and the next position; or the refusal.
-pub enum AxisCounts {
-    Of(u32, u32, u32, usize),
-    Not(u32, usize),
+// The length of what lies from a to e, as a word.
+pub fn length(a: usize, e: usize) -> u32
+    ensures { λ r. ⌜ r ≡ word32 (e - a) ⌝ }
+{
+    if a <= e {
+        ((e - a) % 4294967296) as u32
+    } else {
+        0
+    }
 }
 
-// What a category begins with: 0 for a leaf or 1 for a group, the length of its name, its last word, how many categories are below it
-// and where they start; or the refusal.
-pub enum Front {
-    Node(u32, u32, u32, u64, usize),
-    Not(u32, usize),
+// ---- what a category begins with
+
+// The verdict on the three bytes after a category's name.
+fn known_kind(v: u64) -> u32
+    ensures { λ c. ⌜ c ≡ verdict (one-of grammar.kinds) v ⌝ }
+{
+    let leaf = v == 0;
+    let group = v == 0x01_00_00;
+    let merged = v == 0x01_00_01;
+    if leaf {
+        0
+    } else if group {
+        0
+    } else if merged {
+        0
+    } else {
+        3
+    }
+}
+
+// The three bytes after a category's name, as one field.
+fn kind_field(s: &[u8], st: Step) -> Step
+    ensures { λ r. ⌜ Reads (notation.field little 3 (one-of grammar.kinds)) (now (s .entry)) st r ⌝ }
+{
+    field(s, st, 3, known_kind(peek(s, st, LITTLE, 3)))
+}
+
+// A node, once its name ends at `name` and its own part at `end`.
+fn node(kind: u32, at: usize, name: Step, word: u64, children: u64, end: Step) -> Front
+    ensures { λ r. ⌜ r ≡ nodeOf kind at name word children end ⌝ }
+{
+    match end {
+        Step::Refused(r, p) => Front::Not(r, p),
+        Step::Next(next) => match name {
+            Step::Refused(r, p) => Front::Not(r, p),
+            Step::Next(e) => {
+                let size = length(at, e);
+                Front::Node(kind, size, (word % 4294967296) as u32, children, next)
+            }
+        },
+    }
+}
+
+// A category without what is below it.
+fn head(s: &[u8], at: usize) -> Front
+    requires { ⌜ length (now s) ≤ longest ⌝ }
+    ensures { λ r. ⌜ HeadRead (now (s .entry)) at (read Head (drop at (now (s .entry))) at) r ⌝ }
+{
+    let name = value(s, Step::Next(at));
+    let kind = peek(s, name, LITTLE, 3);
+    let st = kind_field(s, name);
+    let is_leaf = kind == 0;
+    if is_leaf {
+        let a = fixed(s, st, LITTLE, 4, 2);
+        let index = peek(s, a, LITTLE, 4);
+        let end = fixed(s, any(s, a, 4), LITTLE, 4, 0);
+        node(0, at, name, index, 0, end)
+    } else {
+        let a = any(s, st, 4);
+        let b = fixed(s, a, LITTLE, 4, 4294967295);
+        let n = peek(s, b, LITTLE, 4);
+        let end = any(s, b, 4);
+        node(1, at, name, n, n, end)
+    }
+}
+
+// ---- categories
+
+// A category, `depth` levels of which are allowed, and its nodes from the number `used` on.
+fn category(
+    s: &[u8],
+    at: usize,
+    depth: usize,
+    dimension: u32,
+    parent: u32,
+    used: usize,
+    nodes: &mut [u32],
+) -> Walk
+    requires { ⌜ (length (now s) ≤ longest) × (used ≤ 4096) ⌝ }
+    ensures { λ r. ⌜ Keeps (now (s .entry)) (spec.Node depth dimension parent at (used, now (nodes .entry))) (check (categoryRule depth used) (drop at (now (s .entry))) at) (spec.walked r (now (nodes .exit))) ⌝ }
+{
+    if depth == 0 {
+        return Walk::Off(7, at);
+    }
+    if 4096 <= used {
+        return Walk::Off(7, at);
+    }
+    match head(s, at) {
+        Front::Not(r, p) => Walk::Off(r, p),
+        Front::Node(kind, size, word, children, next) => {
+            let place = (at % 4294967296) as u32;
+            put_three(nodes, 6 * used, kind, dimension, parent);
+            put_three(nodes, 6 * used + 3, place, size, word);
+            categories(
+                s,
+                next,
+                depth - 1,
+                dimension,
+                used as u32,
+                children,
+                used + 1,
+                nodes,
+            )
+        }
+    }
+}
+
+// As many categories as `count` says, one after the other.
+fn categories(
+    s: &[u8],
+    at: usize,
+    depth: usize,
+    dimension: u32,
+    parent: u32,
+    count: u64,
+    used: usize,
+    nodes: &mut [u32],
+) -> Walk
+    requires { ⌜ (length (now s) ≤ longest) × (used ≤ 4096) ⌝ }
+    ensures { λ r. ⌜ Keeps (now (s .entry)) (Each (spec.Node depth dimension parent) at (used, now (nodes .entry))) (check (categoriesRule depth used count) (drop at (now (s .entry))) at) (spec.walked r (now (nodes .exit))) ⌝ }
+{
+    let mut at = at;
+    let mut used = used;
+    let mut i = 0;
+    while i < count {
+        match category(s, at, depth, dimension, parent, used, nodes) {
+            Walk::Off(r, p) => {
+                return Walk::Off(r, p);
+            }
+            Walk::On(a, u) => {
+                at = a;
+                used = u;
+            }
+        }
+        i += 1;
+    }
+    Walk::On(at, used)
 }

@@ -12,5 +12,5 @@ digarumbi-read-member-spec =
     (λ c.
     let w = c .before .before in
     let m = w .before .before .before .before .before .before in
-    with-answer _ _ _ _ _ (m .before .before .before .if1 .taken) (m .read-member .ensures) (w .member-words .ensures .0) (w .member-words .ensures .1))
+    with-answer _ _ _ _ _ (m .before .before .before .if1 .taken) (m .read-member .ensures .0) (m .read-member .ensures .1) (w .member-words .ensures .0) (w .member-words .ensures .1))
     (λ c. without-answer _ _ _ _ (c .if1 .left)))

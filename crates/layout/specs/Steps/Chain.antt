@@ -5,11 +5,11 @@ use Prim.Native.Nat.{ℕ, zero, suc, _-_, _≤_, _<_}
 use native.Mathlib.Nat.{lt-irrefl}
 use native.Mathlib.Numerals.{sub-one}
 use native.Mathlib.Omega.{arith}
-use lib.ListN.{take, drop}
+use lib.ListN.{drop}
 use Rattle.layout.specs.declared.Step.{Step}
 use Rattle.layout.specs.declared.Step.the-variants.{Next, Refused}
 use Rattle.layout.specs.Layout.{Layout, empty, _▸_, times, nothing}
-use Rattle.layout.specs.Read.{Got, got, no, refusal, bind, readTimes, read}
+use Rattle.layout.specs.Read.{Got, got, no, bind, readTimes, read}
 use Rattle.layout.specs.Laws.Places.{Within, w-got, w-no, within, tail}
 use Rattle.layout.specs.Reads.{forget, step, chain, Reads, refused}
 

@@ -13,7 +13,7 @@ use Rattle.layout.specs.declared.Step.the-variants.{Next, Refused}
 use Rattle.layout.specs.Layout.{passes, Layout, empty, number, string, _▸_, times, leading, region, nothing, Tree, pick}
 use Rattle.layout.specs.Read.{Got, got, no, bind, readNumber, lead, readLeading, read, differs}
 use Rattle.layout.specs.Laws.Places.{Within, w-got, w-no, within}
-use Rattle.layout.specs.Reads.{forget, step, chain, Reads, bytes, past, skip}
+use Rattle.layout.specs.Reads.{forget, step, chain, Reads, skip}
 
 -- a number or a run comes first, so every tree of the layout spells at least one byte
 unfoldable pub begins : Layout → Bool

@@ -2,7 +2,7 @@ use Prim.Native.Nat.{ℕ}
 use lib.ListN.{length-replicate, length-take}
 use borrow.Author.Tests.{leb-true}
 use borrow.Author.Needs.{needs}
-use Rattle.fields.specs.Slices.{bytes-of}
+use Rattle.layout.specs.Steps.Slices.{bytes-of}
 use Rattle.fields.specs.Puts.{long}
 use Rattle.look_write.proofs.Whole.{within, part-length, min-fits, returns-stray, returns-length, returns-short, returns-refused}
 use Rattle.look_write.proofs.write_look.Statement.{statement}

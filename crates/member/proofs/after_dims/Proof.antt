@@ -1,31 +1,47 @@
+use mathlib.Core.Path.{refl}
+use native.Mathlib.Omega.{arith}
+use borrow.Author.Tests.{leb-true}
 use borrow.Author.Needs.{needs}
-use Rattle.layout.specs.Layout.{pick}
-use Rattle.member.specs.Answer.{afterDims}
+use Rattle.layout.specs.Steps.Slices.{bytes-of}
+use Rattle.member.specs.Whole.{too-many-places, no-axes, no-cells, with-cells}
 use Rattle.member.proofs.after_dims.Statement.{statement}
 use Rattle.member.proofs.after_dims.Tie as tie
 
 pub after-dims-spec : {M : Type 1} → statement M
-unfolding afterDims pick
 after-dims-spec =
     tie.close
     (tie.spec
-    (λ _ _. tt) (λ _ _. tt) (λ c. search needs) (λ c. search needs) (λ _ _. tt) (λ c. search needs) (λ c. search needs)
+    (λ c κs. search needs) (λ c κs. search needs) (λ c. search needs) (λ c. search needs)
+    (λ c. omega (arith, leb-true))
+    (λ c κs. c .before .before .before .before .before .before .before .before .before .before .before .pre)
+    (λ c. search needs) (λ c. search needs)
     (λ c.
-    let x = c .before .before .before in
-    let p = x .before .before .before in
-    rw (← (p .product-of .ensures), x .before .before .if1 .taken, ← (x .axes .ensures), c .before .r .given .1))
+    let p = c .before .before .before .before .before .before in
+    let st = p .before .before .before in
+    let a = st .before .args in
+    let b = bytes-of _ (st .shared-slice-known .given) in
+    λ ts few d-is ns inside.
+    no-axes (a .s .now) b (a .at) (a .d) (a .dims .now) (p .product-of .ensures) ts few d-is ns inside (c .before .before .before .before .before .if1 .taken) (rw (c .before .counts .given .1) at (c .before .before .before .before .axes .ensures)) refl)
     (λ c. search needs)
     (λ c.
-    let y = c .before .before .before .before .before in
-    let l = y .before .before .before in
-    let x = l .before .before in
-    let p = x .before .before .before in
-    rw (← (p .product-of .ensures), x .before .before .if1 .taken, ← (x .axes .ensures), l .layers .given .1, ← (y .section .ensures), c .before .r2 .given .1))
+    let p = c .before .before .before .before .before .before .before .before .before .before .before .before .before in
+    let st = p .before .before .before in
+    let a = st .before .args in
+    let b = bytes-of _ (st .shared-slice-known .given) in
+    λ ts few d-is ns inside.
+    no-cells (a .s .now) b (a .at) (a .d) (a .dims .now) (p .product-of .ensures) ts few d-is ns inside (c .before .before .before .before .before .before .before .before .before .before .before .before .if1 .taken) (rw (c .before .before .before .before .before .before .before .before .counts2 .given .1) at (c .before .before .before .before .before .before .before .before .before .before .before .axes .ensures)) (rw (c .before .r .given .1) at (c .before .before .before .before .before .to-the-end .ensures)) refl)
     (λ c. search needs)
     (λ c.
-    let y = c .before .before .before .before .before in
-    let l = y .before .before .before in
-    let x = l .before .before in
-    let p = x .before .before .before in
-    rw (← (p .product-of .ensures), x .before .before .if1 .taken, ← (x .axes .ensures), l .layers .given .1, ← (y .section .ensures), c .before .m .given .1))
-    (λ c. rw (← (c .before .product-of .ensures), c .if1 .left)))
+    let p = c .before .before .before .before .before .before .before .before .before .before .before .before .before in
+    let st = p .before .before .before in
+    let a = st .before .args in
+    let b = bytes-of _ (st .shared-slice-known .given) in
+    λ ts few d-is ns inside.
+    with-cells (a .s .now) b (a .at) (a .d) (a .dims .now) (p .product-of .ensures) ts few d-is ns inside (c .before .before .before .before .before .before .before .before .before .before .before .before .if1 .taken) (rw (c .before .before .before .before .before .before .before .before .counts2 .given .1) at (c .before .before .before .before .before .before .before .before .before .before .before .axes .ensures)) (rw (c .before .q .given .1) at (c .before .before .before .before .before .to-the-end .ensures)) refl refl refl)
+    (λ c.
+    let p = c .before in
+    let st = p .before .before .before in
+    let a = st .before .args in
+    let b = bytes-of _ (st .shared-slice-known .given) in
+    λ ts few d-is ns inside.
+    too-many-places (a .s .now) b (a .at) (a .d) (a .dims .now) (p .product-of .ensures) ts few d-is ns inside (c .if1 .left) refl))

@@ -1,28 +1,54 @@
 use borrow.Author.Needs.{needs}
-use Rattle.member.specs.Answer.{zeros}
-use Rattle.member.specs.Room.{fitting, delivers}
-use Rattle.member.proofs.Areas.{of-refusal}
+use Rattle.layout.specs.Steps.Slices.{bytes-of}
+use Rattle.member.specs.Whole.{no-front, no-dims, no-tail, same-length, with-tail, told-room, delivered, not-delivered}
 use Rattle.member.proofs.by_way_of.Statement.{statement}
 use Rattle.member.proofs.by_way_of.Tie as tie
 
 pub by-way-of-spec : {M : Type 1} → statement M
-unfolding zeros
 by-way-of-spec =
     tie.close
     (tie.spec
-    (λ _ _. tt) (λ c. search needs) (λ _ _. tt) (λ c. search needs)
+    (λ c κs. search needs) (λ c. search needs) (λ c κs. search needs) (λ c. search needs) (λ c κs. search needs)
+    (λ c. search needs) (λ c κs. search needs) (λ c. search needs)
+    (λ c κs. let p = c .before .before .before .before .before .before .before .before .before .before .before .before .before .before .before .before .before .before .before .pre in (p .short, p .for-cells))
+    (λ c. search needs) (λ c κs. search needs) (λ c. search needs) (λ c. search needs) (λ c. search needs)
+    (λ c. search needs)
     (λ c κs.
-    let d = c .before .before .before .before .before in
-    let w = d .before .before .before .before .before .before in
-    fitting _ _ _ (w .before .before .before .before .before .before .before .before .before .before .pre) (rw (d .d .given .1) at (w .scan .ensures)))
+    let z = c .before .before .before .before .before .before .before .before .before .before .before .before .before .before .before .before .before .before .before .before .before .before .before .before .before .before .before .before .before .before in
+    let a = z .before .args in
+    let b = bytes-of _ (z .shared-slice-known .given) in
+    let f = c .before .before .before .before .before .before .before .before .before .before .before .before .before .before .before .before .before .before .before .before .before .before .before .before .before .front .ensures in
+    told-room (with-tail (a .member .now) b (a .node-words .now) (a .cell-words .now) (z .before .pre) f (c .before .before .before .before .before .before .before .before .before .before .before .before .before .before .before .before .before .before .before .before .before .before .before .at .given .1) (rw (c .before .before .before .before .before .before .before .before .before .before .before .before .before .before .before .next .given .1) at (c .before .before .before .before .before .before .before .before .before .before .before .before .before .before .before .before .before .before .before .dimensions .ensures)) (c .before .before .before .before .before .before .before .before .before .before .before .after-dims .ensures) (c .before .before .before .before .before .before .axes2 .given .1)))
+    (λ c.
+    let z = c .before .before .before .before .before .before .before .before .before in
+    let a = z .before .args in
+    let b = bytes-of _ (z .shared-slice-known .given) in
+    let f = c .before .before .before .before .front .ensures in
+    rw (c .refused .ensures) (not-delivered (a .member .now) (no-front (a .member .now) b (a .node-words .now) (a .cell-words .now) (z .before .pre) f (c .before .before .r .given .1))))
+    (λ c. search needs)
+    (λ c.
+    let z = c .before .before .before .before .before .before .before .before .before .before .before .before .before .before .before .before .before in
+    let a = z .before .args in
+    let b = bytes-of _ (z .shared-slice-known .given) in
+    let f = c .before .before .before .before .before .before .before .before .before .before .before .before .front .ensures in
+    rw (c .refused2 .ensures) (not-delivered (a .member .now) (no-dims (a .member .now) b (a .node-words .now) (a .cell-words .now) (z .before .pre) f (c .before .before .before .before .before .before .before .before .before .before .at .given .1) (rw (c .before .before .r2 .given .1) at (c .before .before .before .before .before .before .dimensions .ensures)))))
     (λ c. search needs) (λ c. search needs)
     (λ c.
-    let w = c .before .before .before .before .before .before .before .before in
-    delivers _ _ _ (w .before .before .before .before .before .before .before .before .before .before .pre)
-    (rw (← (w .scan .ensures), c .before .before .r .given .1, c .refused .ensures) (of-refusal _ _ _ _)))
-    (λ c. search needs) (λ c. search needs) (λ c. search needs) (λ c. search needs)
+    let z = c .before .before .before .before .before .before .before .before .before .before .before .before .before .before .before .before .before .before .before .before .before .before .before .before .before .before in
+    let a = z .before .args in
+    let b = bytes-of _ (z .shared-slice-known .given) in
+    let f = c .before .before .before .before .before .before .before .before .before .before .before .before .before .before .before .before .before .before .before .before .before .front .ensures in
+    rw (c .refused3 .ensures) (not-delivered (a .member .now) (no-tail (a .member .now) b (a .node-words .now) (a .cell-words .now) (z .before .pre) f (c .before .before .before .before .before .before .before .before .before .before .before .before .before .before .before .before .before .before .before .at .given .1) (rw (c .before .before .before .before .before .before .before .before .before .before .before .next .given .1) at (c .before .before .before .before .before .before .before .before .before .before .before .before .before .before .before .dimensions .ensures)) (c .before .before .before .before .before .before .before .after-dims .ensures) (c .before .before .axes .given .1))))
     (λ c.
-    let t = c .before .before .before .before in
-    let d = t .before .before .before .before .before .before in
-    let w = d .before .before .before .before .before .before in
-    delivers _ _ _ (w .before .before .before .before .before .before .before .before .before .before .pre) (rw (← (w .scan .ensures), d .d .given .1) (t .deliver .ensures))))
+    let z = c .before .before .before .before .before .before .before .before .before .before .before .before .before .before .before .before .before .before .before .before .before .before .before .before .before .before .before .before .before .before .before .before .before .before .before in
+    let a = z .before .args in
+    let b = bytes-of _ (z .shared-slice-known .given) in
+    let f = c .before .before .before .before .before .before .before .before .before .before .before .before .before .before .before .before .before .before .before .before .before .before .before .before .before .before .before .before .before .before .front .ensures in
+    same-length (a .member .now) b (a .node-words .now) (a .cell-words .now) (z .before .pre) f (c .before .before .before .before .before .before .before .before .before .before .before .before .before .before .before .before .before .before .before .before .before .before .before .before .before .before .before .before .at .given .1) (rw (c .before .before .before .before .before .before .before .before .before .before .before .before .before .before .before .before .before .before .before .before .next .given .1) at (c .before .before .before .before .before .before .before .before .before .before .before .before .before .before .before .before .before .before .before .before .before .before .before .before .dimensions .ensures)))
+    (λ c. search needs) (λ c. search needs) (λ c. search needs)
+    (λ c.
+    let z = c .before .before .before .before .before .before .before .before .before .before .before .before .before .before .before .before .before .before .before .before .before .before .before .before .before .before .before .before .before .before .before .before .before .before .before in
+    let a = z .before .args in
+    let b = bytes-of _ (z .shared-slice-known .given) in
+    let f = c .before .before .before .before .before .before .before .before .before .before .before .before .before .before .before .before .before .before .before .before .before .before .before .before .before .before .before .before .before .before .front .ensures in
+    delivered (with-tail (a .member .now) b (a .node-words .now) (a .cell-words .now) (z .before .pre) f (c .before .before .before .before .before .before .before .before .before .before .before .before .before .before .before .before .before .before .before .before .before .before .before .before .before .before .before .before .at .given .1) (rw (c .before .before .before .before .before .before .before .before .before .before .before .before .before .before .before .before .before .before .before .before .next .given .1) at (c .before .before .before .before .before .before .before .before .before .before .before .before .before .before .before .before .before .before .before .before .before .before .before .before .dimensions .ensures)) (c .before .before .before .before .before .before .before .before .before .before .before .before .before .before .before .before .after-dims .ensures) (c .before .before .before .before .before .before .before .before .before .before .before .axes2 .given .1)) (c .before .before .before .before .deliver .ensures)))

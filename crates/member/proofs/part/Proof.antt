@@ -1,5 +1,5 @@
-use borrow.Author.Needs.{needs}
 use native.Mathlib.Omega.{arith}
+use borrow.Author.Needs.{needs}
 use Rattle.member.proofs.Parts.{part-inside, part-outside}
 use Rattle.member.proofs.part.Statement.{statement}
 use Rattle.member.proofs.part.Tie as tie

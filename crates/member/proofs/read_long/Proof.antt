@@ -1,15 +1,15 @@
-use borrow.Author.Needs.{needs}
+use mathlib.Core.Path.{refl}
 use native.Mathlib.Omega.{arith}
-use Rattle.member.specs.Answer.{zeros}
-use Rattle.member.specs.Room.{zeros-room}
+use borrow.Author.Needs.{needs}
 use Rattle.member.proofs.read_long.Statement.{statement}
 use Rattle.member.proofs.read_long.Tie as tie
 
 pub read-long-spec : {M : Type 1} → statement M
-unfolding zeros
 read-long-spec =
     tie.close
     (tie.spec
     (λ c. search needs) (λ c. search needs)
-    (λ c κs. zeros-room _ 24576 12288 (omega arith) (omega arith) (λ u few l. omega arith) (λ u few l. omega arith))
-    (λ c. search needs) (λ c. search needs) (λ c. search needs))
+    (λ c κs.
+    record { short = omega arith; clear-nodes = refl; for-nodes = omega arith; clear-cells = refl; for-cells = omega arith })
+    (λ c. search needs) (λ c. search needs)
+    (λ c. c .before .before .before .before .before .before .by-way-of .ensures))

@@ -1,6 +1,8 @@
-use borrow.Author.Needs.{needs}
 use native.Mathlib.Omega.{arith}
-use Rattle.member.proofs.Areas.{of-scan, of-length}
+use borrow.Author.Needs.{needs}
+use Rattle.layout.specs.Steps.Slices.{bytes-of}
+use Rattle.member.specs.Whole.{not-delivered, longer}
+use Rattle.member.specs.Holds.{demand3}
 use Rattle.member.proofs.read_member.Statement.{statement}
 use Rattle.member.proofs.read_member.Tie as tie
 
@@ -8,8 +10,21 @@ pub read-member-spec : {M : Type 1} → statement M
 read-member-spec =
     tie.close
     (tie.spec
-    (λ c κs. omega arith) (λ _ _. tt) (λ _ _. tt) (λ c. search needs) (λ c. search needs)
-    (λ c. of-scan _ _ _ _ _ _ (omega arith) (c .before .before .before .before .read-short .ensures))
+    (λ c κs. search needs) (λ c κs. search needs) (λ c κs. search needs) (λ c. search needs) (λ c. search needs)
+    (λ c.
+    let z = c .before .before .before .before .before .before .before .before .before .before in
+    let a = z .before .args in
+    let b = bytes-of _ (z .shared-slice-known .given) in
+    (c .before .before .before .before .read-short .ensures, demand3 (a .member .now) b (a .nodes .now) (a .cells .now) (c .before .before .before .before .read-short .ensures)))
     (λ c. search needs) (λ c. search needs)
-    (λ c. of-scan _ _ _ _ _ _ (omega arith) (c .before .before .before .before .read-long .ensures))
-    (λ c. rw (c .refused .ensures) (of-length _ _ _ (omega arith))))
+    (λ c.
+    let z = c .before .before .before .before .before .before .before .before .before .before .before in
+    let a = z .before .args in
+    let b = bytes-of _ (z .shared-slice-known .given) in
+    (c .before .before .before .before .read-long .ensures, demand3 (a .member .now) b (a .nodes .now) (a .cells .now) (c .before .before .before .before .read-long .ensures)))
+    (λ c.
+    let z = c .before .before .before .before .before in
+    let a = z .before .args in
+    let b = bytes-of _ (z .shared-slice-known .given) in
+    let o = not-delivered (a .member .now) (longer (a .member .now) (omega arith)) {N = a .nodes .now} {C = a .cells .now} in
+    (rw (c .refused .ensures) o, rw (c .refused .ensures) (demand3 (a .member .now) b (a .nodes .now) (a .cells .now) o))))

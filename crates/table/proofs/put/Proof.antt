@@ -1,7 +1,7 @@
 use mathlib.Core.Path.{sym}
-use borrow.Author.Needs.{needs}
 use native.Mathlib.Omega.{arith}
-use Rattle.table.specs.Seen.{set-past}
+use borrow.Author.Needs.{needs}
+use Rattle.table.specs.Words.{set-past}
 use Rattle.table.proofs.put.Statement.{statement}
 use Rattle.table.proofs.put.Tie as tie
 

@@ -1,6 +1,6 @@
 use borrow.Author.Needs.{needs}
 use Rattle.fields.specs.Puts.{letters-puts}
-use Rattle.fields.specs.Slices.{bytes-of}
+use Rattle.layout.specs.Steps.Slices.{bytes-of}
 use Rattle.fields.proofs.write.letters.Statement.{statement}
 use Rattle.fields.proofs.write.letters.Tie as tie
 

@@ -1,5 +1,5 @@
 use borrow.Author.Needs.{needs}
-use Rattle.fields.specs.Slices.{bytes-of}
+use Rattle.layout.specs.Steps.Slices.{bytes-of}
 use Rattle.look.proofs.Answered.{when-left, when-read, when-refused}
 use Rattle.look.proofs.read.read_look.Statement.{statement}
 use Rattle.look.proofs.read.read_look.Tie as tie

@@ -1,31 +1,35 @@
-use Prim.Native.Nat.{_≤_, _<_, _-_}
-use mathlib.Core.Path.{_≡_, refl, sym, _∙_}
-use native.Mathlib.Nat.{sub-zero}
-use borrow.Author.Needs.{needs}
+use mathlib.Core.Path.{_≡_, refl}
+use Prim.Native.Nat.{_-_}
 use native.Mathlib.Omega.{arith}
+use borrow.Author.Needs.{needs}
 use lib.ListN.{length}
-use Rattle.table.specs.Scan.{dimsFrom}
-use Rattle.table.proofs.Scans.{dims-more, dims-none}
+use Rattle.table.specs.Dims.{Passing, passing, passes-on, passes-off, passes-to}
 use Rattle.table.proofs.dimension.all.Statement.{statement}
 use Rattle.table.proofs.dimension.all.Tie as tie
+
+abbrev Inv-loop : tie.InvT-loop
+Inv-loop s at n nodes₀ dims₀ at₀ used₀ i₀ nodes dims at' used i = (length nodes ≡ length nodes₀) × Passing s n at nodes₀ dims₀ i at' used nodes dims
+
+abbrev μ-loop : tie.MeasureT-loop
+μ-loop s at n nodes₀ dims₀ at₀ used₀ i₀ nodes dims at' used i = n - i
 
 pub all-spec : {M : Type 1} → statement M
 all-spec =
     tie.close
     (tie.spec
-    (λ s at n nodes₀ dims₀ at₀ used₀ i₀ nodes dims at′ used i. (i ≤ n) × (length nodes ≡ length nodes₀) × (dimsFrom s n 0 at 0 nodes₀ dims₀ ≡ dimsFrom s (n - i) i at′ used nodes dims))
-    (λ s at n nodes₀ dims₀ at₀ used₀ i₀ nodes dims at′ used i. n - i) (λ c. (omega arith, refl, rw sub-zero))
-    (λ c κs. omega arith) (λ c. search needs) (λ c. omega arith)
-    (λ c.
-    let l = c .before .before .before .before .before .before .before .before .before in
-    let h : l .loop .i < l .before .before .before .args .n = omega arith in
-    sym (l .loop .inv .2 ∙ rw (dims-more, ← (c .before .before .before .before .before .dimension .ensures), c .before .r .given .1)))
+    Inv-loop
+    μ-loop
+    (λ c. (refl, passing _ _ _ _ _))
+    (λ c κs.
+    let l = c .before .before .before in
+    let p = l .before .before .before .pre in
+    (omega arith, p .1, l .loop .inv .1 .few, l .loop .inv .1 .bytes, rw (l .loop .inv .0) (p .2)))
+    (λ c. search needs) (λ c. omega arith)
+    (λ c. let l = c .before .before .before .before .before .before .before .before .before in
+    passes-off _ _ _ _ _ (l .loop .inv .1) (omega arith) (rw (c .before .r .given .1) at (c .before .before .before .before .before .dimension .ensures)))
     (λ c. search needs) (λ c. omega arith) (λ c. omega arith)
-    (λ c.
-    let l = c .before .before .before .before .before .before .before .before .before in
-    let h : l .loop .i < l .before .before .before .args .n = omega arith in
-    (omega arith, omega arith, rw (dims-more, ← (c .before .before .before .before .before .dimension .ensures), c .before .a .given .1) at (l .loop .inv .2)))
+    (λ c. let l = c .before .before .before .before .before .before .before .before .before in
+    (omega arith, passes-on _ _ _ _ _ (l .loop .inv .1) (omega arith) (rw (c .before .a .given .1) at (c .before .before .before .before .before .dimension .ensures))))
     (λ c. omega arith)
-    (λ c.
-    let h : c .before .before .before .before .args .n ≤ c .before .loop .i = omega arith in
-    sym (c .before .loop .inv .2 ∙ rw dims-none)))
+    (λ c. passes-to _ _ _ _ _ (c .before .loop .inv .1) (omega arith))
+    )

@@ -6,5 +6,7 @@ pub name-length-spec : {M : Type 1} → statement M
 name-length-spec =
     tie.close
     (tie.spec
-    (λ c. search needs) (λ _ _. tt) (λ c. search needs) (λ c. search needs)
-    (λ c. simp (c .before .before .name .given .1, ← (c .between .ensures))) (λ c. search needs))
+    (λ c. search needs) (λ c κs. search needs) (λ c. search needs)
+    (λ c. simp (c .before .before .name .given .1) (c .length .ensures))
+    (λ c. search needs)
+    )

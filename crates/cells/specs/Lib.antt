@@ -1,0 +1,4 @@
+pub mod Rows
+pub mod Axes
+pub mod Seen
+pub mod Cells

@@ -1,0 +1,17 @@
+-- The elements of a slice of bytes are bytes.
+use mathlib.Core.List.{List, [], _∷_}
+use Prim.Native.Nat.{ℕ, zero, suc}
+use lib.ListN.{drop, getD}
+use mir.Syntax.{w8}
+use mir.Val.{Fits}
+use Rattle.layout.specs.Layout.{Bytes, no-bytes, byte}
+
+-- what is known of each element of a slice
+pub bytes-of : (s : List ℕ) → ((i : ℕ) → Fits w8 (getD s i 0)) → Bytes s
+bytes-of [] h = no-bytes
+bytes-of (b ∷ bs) h = byte (h 0 .fits) (bytes-of bs (λ i. h (suc i)))
+
+pub drop-bytes : (n : ℕ) {s : List ℕ} → Bytes s → Bytes (drop n s)
+drop-bytes zero b = b
+drop-bytes (suc n) no-bytes = no-bytes
+drop-bytes (suc n) (byte h hs) = drop-bytes n hs

@@ -1,0 +1,51 @@
+-- Which members are refused: document 01's table, "Refusal numbers", and its paragraph "Order". No reader is in it: what stands before the
+-- failing field are valid trees, and the failing field is what the bytes are. `Demand3` says that `read_member` refuses exactly so.
+use mathlib.Core.List.{List, _∷_}
+use Prim.Native.Nat.{ℕ, _+_, _*_, _≤_, _<_}
+use lib.ListN.{length}
+use Rattle.layout.specs.Layout.{Tree, spell}
+use Rattle.layout.specs.Fails.{Spells, Runs}
+use Rattle.layout.specs.Rule.{Rule, plain, _▸▸_, Kept, Breaks}
+use Rattle.sections.specs.Sections.{Front}
+use Rattle.table.specs.Rules.{longest, dimensionsRule, placesOf, axesRule, cellsRule}
+use Rattle.member.specs.Member.{Member, nodes, cells, MemberDerivation, AsDemanded}
+
+-- Where document 01's rows stand. `layout` is in layout/specs, `table` in table/specs:
+--
+-- No.  When                                                    Place                           Stated
+-- 1    member too long                                         0                               too-long, below
+-- 2    a field doesn't fit in the input or its region          first byte of the field         layout Fails: number-short, string-short, region-short
+-- 3    a fixed byte, fixed number, mark or area index differs  the field                       layout Fails: number-wrong, run-alone; Numbers: refusal
+-- 4    version not 3                                           version                         layout Fails: number-wrong; Numbers: refusal
+-- 5    a bool neither 0 nor 1                                  the byte                        layout Fails: number-wrong; Numbers: refusal
+-- 6    a region's content ends early                           first byte left in it           layout Fails: bytes-left
+-- 7    a limit passed: dimensions, footnotes, cells            the count                       layout Fails: number-wrong; Numbers: refusal
+--      the 4,097th category                                    its first byte                  table Rules: categoryRule
+--      a Value or category that is too deep                    its first byte                  layout Fails: too-deep
+--      the product                                             first axis count, before        table Rules: axesRule
+-- 8    leaf index not below n, or seen before                  that leaf index                 table Rules: dimensionRule
+-- 9    axis counts don't add up                                first count, after all three    table Rules: countsRule
+--      an entry is no dimension or is repeated                 the entry, as soon as read      table Rules: entryRule
+-- 10   cell index not below the product, or seen before        that index, as soon as read     table Rules: cellRule
+-- 11   bytes left at the end                                   first of them                   left, below
+-- 12   node area shorter than 6 words a node                   0                               few-node-words, below
+-- 13   cell area shorter than 3 words a cell                   0                               few-cell-words, below
+
+-- the member's sections in their order, each with its tests: `Front` is Header to Formats, which the layout tests alone
+unfoldable pub memberRule : Rule Member
+memberRule = plain Front ▸▸ (λ _. dimensionsRule) ▸▸ (λ t. axesRule (t .1 .1)) ▸▸ (λ t. cellsRule (placesOf (t .0 .1 .1)))
+
+-- Refused bs n p: the bytes get refusal n, at the place p. "Order: 1, then the file from front to back, ... then 11"
+pub data Refused (bs : List ℕ) : ℕ → ℕ → Type 0 where
+  too-long : longest < length bs → Refused bs 1 0
+  inside : {n p : ℕ} → length bs ≤ longest → Breaks Member memberRule bs 0 n p → Refused bs n p
+  -- after the last section an optional 01, and then a byte
+  left : {t : Tree Member} {r : List ℕ} {k b : ℕ} {r′ : List ℕ} → length bs ≤ longest → Spells Member bs t r → Kept memberRule t → Runs 0x01 1 r k (b ∷ r′)
+      → Refused bs 11 (length (spell Member t) + k)
+
+-- RefusedWith bs node-words cell-words n p: the bytes, with lent areas of those lengths, get refusal n at the place p. ".. then 11, 12, 13"
+pub data RefusedWith (bs : List ℕ) (node-words cell-words : ℕ) : ℕ → ℕ → Type 0 where
+  by-bytes : {n p : ℕ} → Refused bs n p → RefusedWith bs node-words cell-words n p
+  few-node-words : (m : MemberDerivation bs) → AsDemanded (m .tree) → node-words < 6 * nodes (m .tree) → RefusedWith bs node-words cell-words 12 0
+  few-cell-words : (m : MemberDerivation bs) → AsDemanded (m .tree) → 6 * nodes (m .tree) ≤ node-words → cell-words < 3 * length (cells (m .tree))
+      → RefusedWith bs node-words cell-words 13 0

@@ -1,0 +1,92 @@
+use mathlib.Core.Path.{_≡_, refl}
+use Prim.Native.Nat.{ℕ, suc, _<_, _+_, _-_, _*_, _^_}
+use native.Mathlib.Omega.{arith}
+use borrow.Author.Needs.{needs}
+use borrow.Fn.Kinds.{In}
+use borrow.Fn.PlainCycle.{Measures, is, falls, and}
+use lib.ListN.{length}
+use Rattle.table.specs.Words.{word32, two-puts}
+use Rattle.table.specs.Heads.{head-off}
+use Rattle.table.specs.Nodes.{Walking, walking, walks-on, walks-off, walks-to, too-deep, one-too-many, no-head, with-head}
+use Rattle.table.proofs.categories.Reads as categories
+use Rattle.table.proofs.categories.Kinds as categories-kinds
+use Rattle.table.proofs.+categories+category.Lts-categories as categories-lts
+use Rattle.table.proofs.category.Reads as category
+use Rattle.table.proofs.category.Kinds as category-kinds
+use Rattle.table.proofs.+categories+category.Lts-category as category-lts
+use Rattle.table.proofs.head.Reads as head-reads
+use Rattle.table.proofs.put_three.Reads as put-three-reads
+use Rattle.table.proofs.+categories+category.{statement}
+use Rattle.table.proofs.+categories+category.Tie.{close}
+
+abbrev μ-categories : Measures 2 categories-kinds.ps ℕ
+μ-categories κs a = 2 * a .1 .1 .0 + 1
+
+abbrev μ-category : Measures 2 category-kinds.ps ℕ
+μ-category κs a = 2 * a .1 .1 .0
+
+abbrev categories-at : ℕ → In 2 categories-kinds.ps
+categories-at t = and 2 categories-kinds.ps (is 2 categories-kinds.ps μ-categories t) categories.Pre
+
+abbrev categories-below : ℕ → In 2 categories-kinds.ps
+categories-below t = and 2 categories-kinds.ps (falls 2 categories-kinds.ps _<_ μ-categories t) categories.Pre
+
+abbrev category-at : ℕ → In 2 category-kinds.ps
+category-at t = and 2 category-kinds.ps (is 2 category-kinds.ps μ-category t) category.Pre
+
+abbrev category-below : ℕ → In 2 category-kinds.ps
+category-below t = and 2 category-kinds.ps (falls 2 category-kinds.ps _<_ μ-category t) category.Pre
+
+abbrev categories-Inv-loop : categories-lts.InvT-loop
+categories-Inv-loop s at depth dimension parent count used nodes₀ at₀ used₀ i₀ nodes at' used' i =
+    (length nodes ≡ length nodes₀) × Walking depth dimension parent s count at used nodes₀ i at' used' nodes
+
+abbrev categories-μ-loop : categories-lts.MeasureT-loop
+categories-μ-loop s at depth dimension parent count used nodes₀ at₀ used₀ i₀ nodes at' used' i = count - i
+
+pub +categories+category-spec : {M : Type 1} → statement M
++categories+category-spec =
+    close μ-categories μ-category
+    (λ t.
+    categories-lts.spec (category-below t, category.Post) (categories-at t) categories.Post categories-Inv-loop categories-μ-loop
+    (λ c. (refl, walking _ _ _ _ _ _ _ _ (omega arith)))
+    (λ c κs. (omega arith, (omega arith, c .before .before .loop .inv .1 .few)))
+    (λ c. search needs) (λ c. omega arith)
+    (λ c.
+    let l = c .before .before .before .before .before .before .before .before in
+    walks-off _ _ _ _ _ _ _ _ (l .loop .inv .1) (omega arith) (rw (c .before .r .given .1) at (c .before .before .before .before .before .category .ensures)))
+    (λ c. search needs) (λ c. omega arith) (λ c. omega arith)
+    (λ c.
+    let l = c .before .before .before .before .before .before .before .before in
+    (omega arith, walks-on _ _ _ _ _ _ _ _ (l .loop .inv .1) (omega arith) (rw (c .before .a .given .1) at (c .before .before .before .before .before .category .ensures))))
+    (λ c. omega arith)
+    (λ c. walks-to _ _ _ _ _ _ _ _ (c .before .loop .inv .1) (omega arith)))
+    (λ t.
+    category-lts.spec (head-reads.Asked, head-reads.Learnt, put-three-reads.Asked, put-three-reads.Learnt, categories-below t, categories.Post) (category-at t) category.Post
+    (λ c. rw (c .if1 .taken) (too-deep 0 _ _ _ _ _ _))
+    (λ c.
+    let a = c .before .before .before .before .args in
+    let e : a .depth ≡ suc (a .depth - 1) = omega arith in
+    rw e (one-too-many (a .depth - 1) (a .s .now) (a .dimension) (a .parent) (a .at) (a .used) (a .nodes .now) (c .if2 .taken)))
+    (λ c κs. omega arith) (λ c. search needs) (λ c. search needs) (λ c. search needs) (λ c. omega arith)
+    (λ c κs. omega arith) (λ c. omega arith) (λ c. omega arith) (λ c κs. omega arith) (λ c. omega arith) (λ c. omega arith)
+    (λ c. omega arith)
+    (λ c κs. (omega arith, (omega arith, omega arith)))
+    (λ c.
+    let h = c .before .before .before in
+    let a = h .before .before .before .before .before .args in
+    let e : a .depth ≡ suc (a .depth - 1) = omega arith in
+    rw e (no-head (a .depth - 1) (a .s .now) (a .dimension) (a .parent) (a .at) (a .used) (a .nodes .now) (h .before .if2 .left) (head-off (h .head .ensures) (c .before .r .given .1))))
+    (λ c. omega arith)
+    (λ c.
+    let k = c .before .before in
+    let p₂ = k .before .before .before .before in
+    let p₁ = p₂ .before .before .before .before in
+    let f = p₁ .before .before .before in
+    let v = f .kind .given .0 in
+    let h = f .before .before in
+    let a = h .before .before .before .before .before .args in
+    let e : a .depth ≡ suc (a .depth - 1) = omega arith in
+    let small : length (a .s .now) < 2 ^ 32 = omega (arith, h .before .before .before .before .before .pre .1 .0) in
+    rw e (with-head (a .depth - 1) (a .s .now) (a .dimension) (a .parent) (a .at) (a .used) (a .nodes .now) small (h .before .if2 .left) (rw (f .kind .given .1) at (h .head .ensures)) refl
+    (two-puts (6 * a .used) (v .0) (a .dimension) (a .parent) (word32 (a .at)) (v .1 .0) (v .1 .1 .0) (a .nodes .now) (p₁ .put-three .ensures) (p₂ .put-three2 .ensures)) (k .categories .ensures))))

@@ -1,0 +1,14 @@
+use Prim.Native.Nat.{_*_}
+use borrow.Author.Needs.{needs}
+use Rattle.table.specs.Words.{four-sets}
+use Rattle.table.proofs.dimension.store.Statement.{statement}
+use Rattle.table.proofs.dimension.store.Tie as tie
+
+pub store-spec : {M : Type 1} → statement M
+store-spec =
+    tie.close
+    (tie.spec
+    (λ c. search needs) (λ c. search needs) (λ c. search needs) (λ c. search needs) (λ c. search needs) (λ c. search needs)
+    (λ c. search needs) (λ c. search needs) (λ c. search needs) (λ c. search needs) (λ c. search needs) (λ c. search needs)
+    (λ c. let a = c .args in four-sets (a .dims .now) (4 * a .i) (a .place) (a .length) (a .n) (a .first))
+    )
