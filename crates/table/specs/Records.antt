@@ -121,9 +121,6 @@ dimsEntries used at (t ∷ ts) = dimEntry used at t ++ dimsEntries (used + dimNo
 abbrev pub entryIndex : Tree int32 → ℕ
 entryIndex t = t .0
 
-abbrev pub entryWords : ℕ → Tree int32 → List ℕ
-entryWords at t = t .0 ∷ []
-
 abbrev pub cellIndex : Tree Cell → ℕ
 cellIndex t = t .0 .0
 
