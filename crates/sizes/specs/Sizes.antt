@@ -1,0 +1,86 @@
+-- The numbers of document 01 that code and specification share, each under one name; `src/lib.rt` has the same ones for the code.
+use Prim.Native.Nat.{ℕ, _+_, _*_, _-_, _^_}
+
+-- ---- document 01, "Sizes we accept"
+
+-- "Member at most 1,048,576 bytes."
+abbrev pub member-bytes : ℕ
+member-bytes = 1048576
+
+-- "Dimensions 16."
+abbrev pub most-dimensions : ℕ
+most-dimensions = 16
+
+-- "Footnotes 256."
+abbrev pub most-footnotes : ℕ
+most-footnotes = 256
+
+-- "Category nodes 4,096 in the whole member."
+abbrev pub most-nodes : ℕ
+most-nodes = 4096
+
+-- "Cells 4,096."
+abbrev pub most-cells : ℕ
+most-cells = 4096
+
+-- "Values nested 8 deep, the outermost being 1."
+abbrev pub value-depth : ℕ
+value-depth = 8
+
+-- "Categories nested 8 deep likewise."
+abbrev pub category-depth : ℕ
+category-depth = 8
+
+-- "Product of all n at most 4,294,967,295."
+abbrev pub most-places : ℕ
+most-places = 2 ^ 32 - 1
+
+-- ---- document 01, "What the caller gets"
+
+-- "Node, 6 words"
+abbrev pub node-words : ℕ
+node-words = 6
+
+-- "Cell, 3 words"
+abbrev pub cell-words : ℕ
+cell-words = 3
+
+-- "for each dimension the place and length of its name, its n and its first node"
+abbrev pub dimension-words : ℕ
+dimension-words = 4
+
+-- "number of the parent node or 4,294,967,295"
+abbrev pub no-parent : ℕ
+no-parent = 2 ^ 32 - 1
+
+-- areas that suffice for the records of every member
+abbrev pub node-area : ℕ
+node-area = node-words * most-nodes
+
+abbrev pub cell-area : ℕ
+cell-area = cell-words * most-cells
+
+-- the entries of all dimensions
+abbrev pub dimension-area : ℕ
+dimension-area = dimension-words * most-dimensions
+
+-- an answer as words: eight numbers, the entries of the dimensions and the axis order
+abbrev pub answer-words : ℕ
+answer-words = 8 + dimension-area + most-dimensions
+
+-- ---- looks
+
+-- "the longest 2,770 and 3,152" (document 01, "Bench examples")
+abbrev pub longest-look : ℕ
+longest-look = 3152
+
+-- a look as words; with the refusal and its place before them
+abbrev pub look-words : ℕ
+look-words = 262
+
+abbrev pub look-answer-words : ℕ
+look-answer-words = 2 + look-words
+
+-- the refusal, its place and the length of a look that was written
+abbrev pub write-answer-words : ℕ
+write-answer-words = 3

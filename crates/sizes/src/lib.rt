@@ -1,0 +1,52 @@
+// The numbers of document 01 that code and specification share, each under one name: `specs/Sizes.antt` has the same ones for the
+// contracts. What is computed from another is written so.
+
+// ---- document 01, "Sizes we accept"
+
+pub const MEMBER_BYTES: usize = 1048576;
+
+pub const MOST_DIMENSIONS: usize = 16;
+
+pub const MOST_FOOTNOTES: usize = 256;
+
+pub const MOST_NODES: usize = 4096;
+
+pub const MOST_CELLS: usize = 4096;
+
+pub const VALUE_DEPTH: usize = 8;
+
+pub const CATEGORY_DEPTH: usize = 8;
+// the largest product of all n
+pub const MOST_PLACES: u64 = 4294967295;
+
+// ---- document 01, "What the caller gets"
+
+pub const NODE_WORDS: usize = 6;
+
+pub const CELL_WORDS: usize = 3;
+// of a dimension: the place and length of its name, its n and its first node
+pub const DIMENSION_WORDS: usize = 4;
+// the parent of a node that has none
+pub const NO_PARENT: u32 = 4294967295;
+
+// areas that suffice for the records of every member
+pub const NODE_AREA: usize = NODE_WORDS * MOST_NODES;
+
+pub const CELL_AREA: usize = CELL_WORDS * MOST_CELLS;
+
+// the entries of all dimensions
+pub const DIMENSION_AREA: usize = DIMENSION_WORDS * MOST_DIMENSIONS;
+
+// an answer as words: eight numbers, the entries of the dimensions and the axis order
+pub const ANSWER_WORDS: usize = 8 + DIMENSION_AREA + MOST_DIMENSIONS;
+
+// ---- looks
+
+// the longest look, of version 02 with names of 255 bytes (document 01, "Bench examples")
+pub const LONGEST_LOOK: usize = 3152;
+// a look as words; with the refusal and its place before them
+pub const LOOK_WORDS: usize = 262;
+
+pub const LOOK_ANSWER_WORDS: usize = 2 + LOOK_WORDS;
+// the refusal, its place and the length of a look that was written
+pub const WRITE_ANSWER_WORDS: usize = 3;
