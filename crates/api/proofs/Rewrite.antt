@@ -19,9 +19,9 @@ use Rattle.look.specs.Answers.{outcome, expected}
 use Rattle.look_write.specs.declared.Written.{Written}
 use Rattle.look_write.specs.declared.Written.the-variants as wrote-variants
 use Rattle.look_write.specs.Writing.{output, answer as written, Wrote}
-use Rattle.look_write.specs.Calls.{reach, reach-within}
-use Rattle.look_words.specs.Kept.{word-same}
-use Rattle.look_words.specs.Theorems.{place-same}
+use Rattle.look_write.specs.Laws.Calls.{reach, reach-within}
+use Rattle.look_words.specs.Laws.Kept.{word-same}
+use Rattle.look_words.specs.Laws.Theorems.{place-same}
 use Rattle.api.specs.Api.{word, rewriting, rewritten, stepWords, Rewritten}
 
 three : (st : Step) → length (stepWords st) ≡ 3

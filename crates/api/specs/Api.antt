@@ -11,7 +11,7 @@ use Rattle.layout.specs.Read.{read}
 use Rattle.member.specs.declared.Answer.{Answer}
 use Rattle.member.specs.Checked.{checked}
 use Rattle.member.specs.Answer.{answerOf, nodesAfter, cellsAfter}
-use Rattle.words.specs.Stores.{AtFront}
+use Rattle.store.specs.Puts.{AtFront}
 use Rattle.look.specs.declared.Answer.{Answer as LookAnswer}
 use Rattle.look.specs.declared.Answer.the-variants as look
 use Rattle.look.specs.Look.{TableLook}

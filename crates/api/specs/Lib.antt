@@ -1,2 +1,2 @@
 pub mod Api
-pub mod Theorems
+pub mod Laws

@@ -3,15 +3,15 @@ ghost use mathlib.Core.Path.{_≡_};
 ghost use mathlib.Core.List.{[], _∷_, _++_};
 ghost use lib.ListN.{length};
 ghost use Rattle.layout.specs.declared.Step.the-variants.{Next};
-ghost use Rattle.words.specs.Stores.{Stores};
+ghost use Rattle.store.specs.Puts.{PutsWords};
 ghost use Rattle.api.specs.Api as spec;
 use layout::Step;
 use member::Answer;
-use words::put;
+use store::words::put;
 
 // The words of the dimensions and of the axis order.
 fn arrays(out: &mut [u32], st: Step, dimensions: [u32; 64], order: [u32; 16]) -> Step
-    ensures { λ r. ⌜ Stores (dimensions ++ order) (now (out .entry)) st (now (out .exit)) r ⌝ }
+    ensures { λ r. ⌜ PutsWords (dimensions ++ order) (now (out .entry)) st (now (out .exit)) r ⌝ }
     ensures { λ _. ⌜ length (dimensions ++ order) ≡ 80 ⌝ }
 {
     let st = put(out, st, &dimensions);
@@ -20,7 +20,7 @@ fn arrays(out: &mut [u32], st: Step, dimensions: [u32; 64], order: [u32; 16]) ->
 
 // The 88 words of what reading a member answers; the place as a word.
 pub fn member_words(out: &mut [u32], a: Answer) -> Step
-    ensures { λ r. ⌜ Stores (spec.answerWords (spec.word (a .place)) a) (now (out .entry)) (Next 0) (now (out .exit)) r ⌝ }
+    ensures { λ r. ⌜ PutsWords (spec.answerWords (spec.word (a .place)) a) (now (out .entry)) (Next 0) (now (out .exit)) r ⌝ }
     ensures { λ _. ⌜ length (spec.answerWords (spec.word (a .place)) a) ≡ 88 ⌝ }
 {
     let dimensions = a.dimensions;
@@ -44,7 +44,7 @@ pub fn member_words(out: &mut [u32], a: Answer) -> Step
 
 // Three words: the refusal, or 0, its place, and the length.
 pub fn step_words(out: &mut [u32], refusal: u32, place: usize, length: usize) -> Step
-    ensures { λ r. ⌜ Stores (refusal ∷ spec.word place ∷ spec.word length ∷ []) (now (out .entry)) (Next 0) (now (out .exit)) r ⌝ }
+    ensures { λ r. ⌜ PutsWords (refusal ∷ spec.word place ∷ spec.word length ∷ []) (now (out .entry)) (Next 0) (now (out .exit)) r ⌝ }
 {
     put(
         out,

@@ -14,7 +14,7 @@ ghost use Rattle.desk.specs.Desk.{filledOf, nameOf};
 ghost use Rattle.look.specs.Look.{TableLook};
 ghost use Rattle.look.specs.Answers.{expected};
 ghost use Rattle.look_words.specs.FieldWords as look_spec;
-ghost use Rattle.words.specs.Stores.{AtFront};
+ghost use Rattle.store.specs.Puts.{AtFront};
 ghost use Rattle.api.specs.Api.{MemberRead, namePlace, Rewritten};
 use crate::answers::member_words;
 use crate::answers::step_words;

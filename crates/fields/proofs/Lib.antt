@@ -1,3 +1,1 @@
 mod Signs
-mod Parts
-mod Inside

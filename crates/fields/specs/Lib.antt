@@ -1,12 +1,2 @@
-pub mod Values
-pub mod Fields
 pub mod Gives
-pub mod Slices
-pub mod Letters
-pub mod Check
-pub mod Puts
-pub mod Trees
-pub mod Bounds
-pub mod Unwritable
 pub mod Laws
-pub mod Failing

@@ -1,16 +1,10 @@
 // The fields of a layout, by value. Each reader takes a slice and what was read so far, as those of `layout` do, and gives the value of
-// the field beside what is read then; after a refusal the value says nothing.
+// the field beside what is read then; after a refusal the value is 0.
 
 pub mod read; // readers
-pub mod write; // writers
 
 use layout::Step;
-
-// A name by its place and its length.
-pub struct Name {
-    pub place: usize,
-    pub length: usize,
-}
+use store::Name;
 
 // A value of each kind, and what was read.
 pub struct Got8 {

@@ -1,6 +1,8 @@
 // Readers of fields that give their values.
 ghost use mathlib.Core.Path.{_≡_};
+ghost use mathlib.Core.Bool.{false};
 ghost use mathlib.Core.List.{[], _∷_};
+ghost use lib.IntN.{pos};
 ghost use Prim.Native.Nat.{_≤_, _-_};
 ghost use lib.ListN.{length, take, drop};
 ghost use mir.Syntax.{w32};
@@ -9,15 +11,15 @@ ghost use Rattle.layout.specs.Layout.{little, big, the-number, a-color, a-versi
 ghost use Rattle.layout.specs.Conventions as grammar;
 ghost use lib.Dec.{eqb};
 ghost use Rattle.layout.specs.Reads.{verdict};
-ghost use Rattle.fields.specs.Gives.{Gives};
-ghost use Rattle.fields.specs.Values.{bit, twos};
+ghost use Rattle.store.specs.Values.{bit, twos};
+ghost use Rattle.store.specs.Fields.{lent};
+ghost use Rattle.fields.specs.Gives.{Gives, GivesValue};
 use crate::Got8;
 use crate::Got16;
 use crate::Got32;
 use crate::GotBool;
 use crate::GotName;
 use crate::GotSigned;
-use crate::Name;
 use layout::LITTLE;
 use layout::Span;
 use layout::Step;
@@ -28,24 +30,10 @@ use layout::number::fixed;
 use layout::number::left;
 use layout::number::limit;
 use layout::number::peek;
-use layout::number::unless_either;
 use layout::region::bytes;
 use layout::region::part;
-
-// ---- verdicts
-
-pub fn high_byte(v: u64) -> u32
-    ensures { λ c. ⌜ c ≡ verdict a-color v ⌝ }
-{
-    let none = v < 16777216;
-    if none { 0 } else { 14 }
-}
-
-pub fn known_two(v: u64, a: u64, b: u64) -> u32
-    ensures { λ c. ⌜ c ≡ verdict (a-version (a ∷ b ∷ [])) v ⌝ }
-{
-    unless_either(v, a, b, 4)
-}
+use store::Name;
+use store::verdict::high_byte;
 
 // ---- fields
 
@@ -78,7 +66,7 @@ pub fn four_zeros(s: &[u8], st: Step) -> Step
 }
 
 pub fn byte(s: &[u8], st: Step) -> Got8
-    ensures { λ r. ⌜ Gives grammar.byte (now (s .entry)) st (r .next) (r .value, tt) ⌝ }
+    ensures { λ r. ⌜ GivesValue grammar.byte (now (s .entry)) st (r .next) (r .value, tt) (r .value) 0 ⌝ }
 {
     Got8 {
         value: peek(s, st, LITTLE, 1) as u8,
@@ -87,7 +75,7 @@ pub fn byte(s: &[u8], st: Step) -> Got8
 }
 
 pub fn int16(s: &[u8], st: Step) -> Got16
-    ensures { λ r. ⌜ Gives grammar.int16 (now (s .entry)) st (r .next) (r .value, tt) ⌝ }
+    ensures { λ r. ⌜ GivesValue grammar.int16 (now (s .entry)) st (r .next) (r .value, tt) (r .value) 0 ⌝ }
 {
     Got16 {
         value: peek(s, st, LITTLE, 2) as u16,
@@ -96,7 +84,7 @@ pub fn int16(s: &[u8], st: Step) -> Got16
 }
 
 pub fn int32(s: &[u8], st: Step) -> Got32
-    ensures { λ r. ⌜ Gives grammar.int32 (now (s .entry)) st (r .next) (r .value, tt) ⌝ }
+    ensures { λ r. ⌜ GivesValue grammar.int32 (now (s .entry)) st (r .next) (r .value, tt) (r .value) 0 ⌝ }
 {
     Got32 {
         value: peek(s, st, LITTLE, 4) as u32,
@@ -106,28 +94,40 @@ pub fn int32(s: &[u8], st: Step) -> Got32
 
 // A byte that is at most n.
 pub fn small(s: &[u8], st: Step, n: u64) -> Got8
-    ensures { λ r. ⌜ Gives (grammar.field little 1 (at-most n)) (now (s .entry)) st (r .next) (r .value, tt) ⌝ }
+    ensures { λ r. ⌜ GivesValue (grammar.field little 1 (at-most n)) (now (s .entry)) st (r .next) (r .value, tt) (r .value) 0 ⌝ }
 {
     let v = peek(s, st, LITTLE, 1);
-    Got8 {
-        value: v as u8,
-        next: field(s, st, 1, limit(v, n)),
+    match field(s, st, 1, limit(v, n)) {
+        Step::Next(p) => Got8 {
+            value: v as u8,
+            next: Step::Next(p),
+        },
+        Step::Refused(r, p) => Got8 {
+            value: 0,
+            next: Step::Refused(r, p),
+        },
     }
 }
 
 // A color of a look.
 pub fn color(s: &[u8], st: Step) -> Got32
-    ensures { λ r. ⌜ Gives (grammar.field little 4 a-color) (now (s .entry)) st (r .next) (r .value, tt) ⌝ }
+    ensures { λ r. ⌜ GivesValue (grammar.field little 4 a-color) (now (s .entry)) st (r .next) (r .value, tt) (r .value) 0 ⌝ }
 {
     let v = peek(s, st, LITTLE, 4);
-    Got32 {
-        value: v as u32,
-        next: field(s, st, 4, high_byte(v)),
+    match field(s, st, 4, high_byte(v)) {
+        Step::Next(p) => Got32 {
+            value: v as u32,
+            next: Step::Next(p),
+        },
+        Step::Refused(r, p) => Got32 {
+            value: 0,
+            next: Step::Refused(r, p),
+        },
     }
 }
 
 pub fn flag(s: &[u8], st: Step) -> GotBool
-    ensures { λ r. ⌜ Gives grammar.bool (now (s .entry)) st (r .next) (bit (r .value), tt) ⌝ }
+    ensures { λ r. ⌜ GivesValue grammar.bool (now (s .entry)) st (r .next) (bit (r .value), tt) (r .value) false ⌝ }
 {
     let v = peek(s, st, LITTLE, 1);
     let on = v == 1;
@@ -149,7 +149,7 @@ pub fn from_bits(v: u32) -> i32
 }
 
 pub fn signed(s: &[u8], st: Step) -> GotSigned
-    ensures { λ r. ⌜ Gives grammar.int32 (now (s .entry)) st (r .next) (twos (r .value), tt) × SFits w32 (r .value) ⌝ }
+    ensures { λ r. ⌜ GivesValue grammar.int32 (now (s .entry)) st (r .next) (twos (r .value), tt) (r .value) (pos 0) × SFits w32 (r .value) ⌝ }
 {
     let n = int32(s, st);
     let next = n.next;
@@ -161,7 +161,7 @@ pub fn signed(s: &[u8], st: Step) -> GotSigned
 
 // A name: its length in one byte, and as many bytes.
 pub fn name(s: &[u8], st: Step) -> GotName
-    ensures { λ r. ⌜ Gives (string little 1) (now (s .entry)) st (r .next) (r .value) ⌝ }
+    ensures { λ r. ⌜ GivesValue (string little 1) (now (s .entry)) st (r .next) (lent (r .value)) (r .value) (record { place = 0; length = 0 }) ⌝ }
 {
     let p = part(s, st, LITTLE, 1);
     let n = bytes(s, p);

@@ -5,6 +5,7 @@ pub mod number; // numbers and their tests
 pub mod region; // strings and counted regions
 pub mod run; // a run of one byte
 pub mod rows; // rows of fields, skipped without visiting each
+pub mod slice; // a part of a slice
 
 // What reading a symbol gives: the next position, or the refusal's number and place.
 pub enum Step {

@@ -4,7 +4,8 @@ use mathlib.Core.Bool.{Bool, true, false, false≢true}
 use mathlib.Core.List.{List}
 use Prim.Native.Nat.{ℕ}
 use Rattle.layout.specs.declared.Step.{Step}
-use Rattle.fields.specs.Gives.{Gives, empty-gives}
+use Rattle.fields.specs.Gives.{Gives}
+use Rattle.fields.specs.Laws.Gives.{empty-gives}
 use Rattle.look.specs.declared.V2Styles.{V2Styles}
 use Rattle.look.specs.Look as grammar
 use Rattle.look.specs.Values as values

@@ -5,7 +5,7 @@ use Prim.Native.Nat.{ℕ}
 use lib.Dec.{eqb}
 use Rattle.layout.specs.Layout.{Tree}
 use Rattle.layout.specs.Read.{Got, got, no}
-use Rattle.fields.specs.Fields.{Fields, placed}
+use Rattle.store.specs.Fields.{Fields, placed}
 use Rattle.look.specs.declared.Separator.the-variants.{NotDrawn}
 use Rattle.look.specs.declared.Frame.{Frame}
 use Rattle.look.specs.declared.V2Styles.{V2Styles}

@@ -1,6 +1,5 @@
 pub mod Look
 pub mod Values
 pub mod Answers
-pub mod Bounds
 pub mod Refused
-pub mod RefusedExactly
+pub mod Laws

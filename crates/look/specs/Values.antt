@@ -4,8 +4,8 @@ use mathlib.Core.List.{List, [], _∷_}
 use Prim.Native.Nat.{ℕ}
 use lib.Dec.{eqb}
 use Rattle.layout.specs.Layout.{big, undigits}
-use Rattle.fields.specs.Fields.{Fields}
-use Rattle.fields.specs.Values.{bit, twos}
+use Rattle.store.specs.Fields.{lent, Fields}
+use Rattle.store.specs.Values.{bit, twos}
 use Rattle.look.specs.declared.Separator.{Separator}
 use Rattle.look.specs.declared.Separator.the-variants.{NotDrawn, Drawn}
 use Rattle.look.specs.declared.Settings.{Settings}
@@ -74,7 +74,7 @@ font x =
 abbrev pub typeface : Typeface → Fields grammar.typeface
 typeface x =
     num (bit (x .italic)) & num (bit (x .underline)) & num (bit (x .strikethrough)) & num (x .«rtf_charset_number») & num (x .x)
-    & x .«font_name» & num (x .«text_color») & (num 0 ∷ num 0 ∷ [])
+    & lent (x .«font_name») & num (x .«text_color») & (num 0 ∷ num 0 ∷ [])
 
 abbrev pub area-style : AreaStyle → Fields grammar.AreaStyle
 area-style x = alignment (x .alignment) & font (x .font) & typeface (x .typeface)
@@ -100,7 +100,7 @@ frames x =
 
 abbrev pub v2-styles : V2Styles → Fields grammar.V2Styles
 v2-styles x =
-    frames (x .frames) & x .continuation & num (x .«min_col_width») & num (x .«max_col_width») & num (x .«min_row_height»)
+    frames (x .frames) & lent (x .continuation) & num (x .«min_col_width») & num (x .«max_col_width») & num (x .«min_row_height»)
     & num (x .«max_row_height»)
 
 abbrev pub v2-styles-if : (b : Bool) → V2Styles → Fields (grammar.V2StylesIf b)

@@ -5,7 +5,7 @@ mod borders; // separators
 pub mod read; // the reader
 mod section; // the first bytes of a section
 
-use fields::Name;
+use store::Name;
 
 // A border: "either not drawn or drawn with color, style and width" (document 01).
 pub enum Separator {

@@ -21,19 +21,19 @@ use crate::areas::text_style;
 use crate::borders::frames;
 use crate::borders::separator_style;
 use crate::section::section;
-use fields::Name;
 use fields::read::color;
 use fields::read::flag;
 use fields::read::int16;
 use fields::read::int32;
 use fields::read::int32_of;
-use fields::read::known_two;
 use fields::read::mark;
 use fields::read::name;
 use layout::LITTLE;
 use layout::Step;
 use layout::number::field;
 use layout::number::peek;
+use store::Name;
+use store::verdict::known_two;
 
 struct GotSettings {
     value: Settings,

@@ -2,8 +2,9 @@
 use mathlib.Core.List.{List, [], _∷_, _++_}
 use Prim.Native.Nat.{ℕ}
 use lib.ListN.{take, replicate}
-use Rattle.layout.specs.Layout.{Test, any-number, the-number, a-version, a-bool, at-most, one-of, a-color, Layout, empty, number, string, _▸_, times, leading, region, nothing}
-use Rattle.fields.specs.Fields.{Fields}
+use Rattle.sizes.specs.Sizes.{look-words}
+use Rattle.layout.specs.Layout.{Test, any-number, the-number, a-version, a-bool, at-most, one-of, a-color, Layout, empty, number, string, _▸_, times, leading, region, nothing, spellAll}
+use Rattle.store.specs.Fields.{Text, lent, letters, Fields}
 use Rattle.look.specs.Look as grammar
 use Rattle.look.specs.Look.{TableLook}
 use Rattle.look.specs.Answers.{Outcome, accepted, refused}
@@ -20,17 +21,19 @@ numbered a-bool n rest = n ∷ rest
 numbered (at-most m) n rest = n ∷ rest
 numbered a-color n rest = n ∷ rest
 
-unfoldable pub wordsAll : {A : Type 0} → (A → List ℕ) → List A → List ℕ
-wordsAll f [] = []
-wordsAll f (x ∷ xs) = f x ++ wordsAll f xs
+-- a name by its place and its length
+unfoldable pub textWords : Text → List ℕ
+textWords (lent n) = word (n .place) ∷ word (n .length) ∷ []
+-- (no file has letters of the writer's own)
+textWords (letters xs) = []
 
 -- (A look has no runs and no regions.)
 unfoldable pub words : (g : Layout) → Fields g → List ℕ
 words empty f = []
 words (number o w test k) f = numbered test (f .0) (words (k (f .0)) (f .1))
-words (string o w) f = word (f .place) ∷ word (f .length) ∷ []
+words (string o w) f = textWords f
 words (a ▸ b) f = words a (f .0) ++ words b (f .1)
-words (times n a) f = wordsAll (words a) f
+words (times n a) f = spellAll (words a) f
 words (leading b n a) f = []
 words (region o m a) f = []
 words nothing f = []
@@ -45,4 +48,4 @@ fieldWords f v =
 -- 264 words: the refusal, 0 if the look is accepted, and its place, which is at most 3,152; then the look, all 0 on a refusal
 unfoldable pub answerWords : Outcome → List ℕ
 answerWords (accepted f v) = 0 ∷ 0 ∷ fieldWords f v
-answerWords (refused n p) = n ∷ p ∷ replicate 262 0
+answerWords (refused n p) = n ∷ p ∷ replicate look-words 0

@@ -1,7 +1,7 @@
 -- A look as 32-bit words, in the order of source document 002: 262 words.
 use mathlib.Core.List.{List, [], _∷_, _++_}
 use Prim.Native.Nat.{ℕ, _%_, _^_}
-use Rattle.fields.specs.Values.{bit, twos}
+use Rattle.store.specs.Values.{bit, twos}
 use Rattle.look.specs.declared.Separator.{Separator}
 use Rattle.look.specs.declared.Separator.the-variants.{NotDrawn, Drawn}
 use Rattle.look.specs.declared.Settings.{Settings}

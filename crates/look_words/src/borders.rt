@@ -1,15 +1,15 @@
 // The words of borders: separators one by one, in fours, and the eleven of version 02.
 ghost use Rattle.look_words.specs.LookWords as spec;
-ghost use Rattle.words.specs.Stores.{Stores};
+ghost use Rattle.store.specs.Puts.{PutsWords};
 use layout::Step;
 use look::Frame;
 use look::Frames;
 use look::Lines;
 use look::Separator;
-use words::put;
+use store::words::put;
 
 fn separator(out: &mut [u32], st: Step, x: Separator) -> Step
-    ensures { λ r. ⌜ Stores (spec.separator x) (now (out .entry)) st (now (out .exit)) r ⌝ }
+    ensures { λ r. ⌜ PutsWords (spec.separator x) (now (out .entry)) st (now (out .exit)) r ⌝ }
 {
     match x {
         Separator::NotDrawn => put(out, st, &[0, 0, 0, 0]),
@@ -22,7 +22,7 @@ fn separator(out: &mut [u32], st: Step, x: Separator) -> Step
 }
 
 fn four(out: &mut [u32], st: Step, a: Separator, b: Separator, c: Separator, d: Separator) -> Step
-    ensures { λ r. ⌜ Stores (spec.four a b c d) (now (out .entry)) st (now (out .exit)) r ⌝ }
+    ensures { λ r. ⌜ PutsWords (spec.four a b c d) (now (out .entry)) st (now (out .exit)) r ⌝ }
 {
     let st = separator(out, st, a);
     let st = separator(out, st, b);
@@ -31,7 +31,7 @@ fn four(out: &mut [u32], st: Step, a: Separator, b: Separator, c: Separator, d: 
 }
 
 pub fn lines(out: &mut [u32], st: Step, x: Lines) -> Step
-    ensures { λ r. ⌜ Stores (spec.lines x) (now (out .entry)) st (now (out .exit)) r ⌝ }
+    ensures { λ r. ⌜ PutsWords (spec.lines x) (now (out .entry)) st (now (out .exit)) r ⌝ }
 {
     let horizontal_dimension = x.horizontal_dimension;
     let vertical_dimension = x.vertical_dimension;
@@ -48,7 +48,7 @@ pub fn lines(out: &mut [u32], st: Step, x: Lines) -> Step
 }
 
 fn frame(out: &mut [u32], st: Step, x: Frame) -> Step
-    ensures { λ r. ⌜ Stores (spec.frame x) (now (out .entry)) st (now (out .exit)) r ⌝ }
+    ensures { λ r. ⌜ PutsWords (spec.frame x) (now (out .entry)) st (now (out .exit)) r ⌝ }
 {
     let left = x.left;
     let right = x.right;
@@ -58,7 +58,7 @@ fn frame(out: &mut [u32], st: Step, x: Frame) -> Step
 }
 
 pub fn frames(out: &mut [u32], st: Step, x: Frames) -> Step
-    ensures { λ r. ⌜ Stores (spec.frames x) (now (out .entry)) st (now (out .exit)) r ⌝ }
+    ensures { λ r. ⌜ PutsWords (spec.frames x) (now (out .entry)) st (now (out .exit)) r ⌝ }
 {
     let title = x.title;
     let inner = x.inner;

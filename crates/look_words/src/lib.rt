@@ -3,13 +3,14 @@
 mod areas; // colors and styles
 mod borders; // separators
 
+ghost use Rattle.sizes.specs.Sizes.{look-words, look-answer-words};
 ghost use Rattle.layout.specs.Read.{read};
 ghost use Rattle.look.specs.Look.{TableLook};
 ghost use Rattle.look.specs.Answers.{expected};
 ghost use Rattle.look_words.specs.LookWords as spec;
 ghost use Rattle.look_words.specs.LookWords.{lookWords};
 ghost use Rattle.look_words.specs.FieldWords.{answerWords};
-ghost use Rattle.words.specs.Stores.{Stores, AtFront};
+ghost use Rattle.store.specs.Puts.{PutsWords, AtFront};
 use crate::areas::area;
 use crate::areas::most_areas;
 use crate::borders::frames;
@@ -19,11 +20,13 @@ use look::Answer;
 use look::Look;
 use look::V2Styles;
 use look::read::read_look;
-use words::put;
+use sizes::LOOK_ANSWER_WORDS;
+use sizes::LOOK_WORDS;
+use store::words::put;
 
 // The six words that follow the borders of version 02.
 fn v2_numbers(out: &mut [u32], st: Step, x: V2Styles) -> Step
-    ensures { λ r. ⌜ Stores (spec.v2-numbers x) (now (out .entry)) st (now (out .exit)) r ⌝ }
+    ensures { λ r. ⌜ PutsWords (spec.v2-numbers x) (now (out .entry)) st (now (out .exit)) r ⌝ }
 {
     let continuation = x.continuation;
     put(
@@ -40,9 +43,9 @@ fn v2_numbers(out: &mut [u32], st: Step, x: V2Styles) -> Step
     )
 }
 
-// The 262 words of a look.
+// The words of a look.
 fn whole(out: &mut [u32], st: Step, x: Look) -> Step
-    ensures { λ r. ⌜ Stores (lookWords x) (now (out .entry)) st (now (out .exit)) r ⌝ }
+    ensures { λ r. ⌜ PutsWords (lookWords x) (now (out .entry)) st (now (out .exit)) r ⌝ }
 {
     let settings = x.settings;
     let rows = x.rows;
@@ -69,25 +72,25 @@ fn whole(out: &mut [u32], st: Step, x: Look) -> Step
     v2_numbers(out, st, v2)
 }
 
-// Puts the 262 words of a look at the front of an area and gives 262; 0, with nothing changed, if the area is shorter.
+// Puts the words of a look at the front of an area and gives how many they are; 0, with nothing changed, if the area is shorter.
 pub fn look_words(look: Look, area: &mut [u32]) -> usize
-    ensures { λ r. ⌜ AtFront 262 (lookWords look) (now (area .entry)) r (now (area .exit)) ⌝ }
+    ensures { λ r. ⌜ AtFront look-words (lookWords look) (now (area .entry)) r (now (area .exit)) ⌝ }
 {
-    let room = 262 <= area.len();
+    let room = LOOK_WORDS <= area.len();
     if room {
         whole(area, Step::Next(0), look);
-        262
+        LOOK_WORDS
     } else {
         0
     }
 }
 
-// Reads a look and puts 264 words at the front of an area: the refusal, 0 if the look is accepted, and its place; then the 262 words of
-// the look, all 0 on a refusal. Gives 264; 0, with nothing changed, if the area is shorter.
+// Reads a look and puts its answer at the front of an area: the refusal, 0 if the look is accepted, and its place; then the words of the
+// look, all 0 on a refusal. Gives how many words that is; 0, with nothing changed, if the area is shorter.
 pub fn look_answer(file: &[u8], area: &mut [u32]) -> usize
-    ensures { λ r. ⌜ AtFront 264 (answerWords (expected (read TableLook (now (file .entry)) 0))) (now (area .entry)) r (now (area .exit)) ⌝ }
+    ensures { λ r. ⌜ AtFront look-answer-words (answerWords (expected (read TableLook (now (file .entry)) 0))) (now (area .entry)) r (now (area .exit)) ⌝ }
 {
-    let room = 264 <= area.len();
+    let room = LOOK_ANSWER_WORDS <= area.len();
     if room {
         match read_look(file) {
             Answer::Accepted(look) => {
@@ -96,10 +99,10 @@ pub fn look_answer(file: &[u8], area: &mut [u32]) -> usize
             }
             Answer::Refused(n, p) => {
                 let st = put(area, Step::Next(0), &[n, (p % 4294967296) as u32]);
-                put(area, st, &[0u32; 262]);
+                put(area, st, &[0u32; LOOK_WORDS]);
             }
         }
-        264
+        LOOK_ANSWER_WORDS
     } else {
         0
     }

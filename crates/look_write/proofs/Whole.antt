@@ -7,16 +7,21 @@ use native.Mathlib.Omega.{arith}
 use lib.ListN.{length, take, drop}
 use lib.Seq.{take-at, take-length, length-take-le}
 use lib.Dec.{leb}
+use Rattle.sizes.specs.Sizes.{longest-look}
 use Rattle.layout.specs.declared.Step.{Step}
 use Rattle.layout.specs.declared.Step.the-variants.{Next, Refused}
 use Rattle.layout.specs.Layout.{Bytes, pick}
 use Rattle.layout.specs.Reads.{chain}
-use Rattle.fields.specs.Check.{check}
-use Rattle.fields.specs.Puts.{Puts, stored}
+use Rattle.store.specs.Check.{check}
+use Rattle.store.specs.Put.{State, stored, put}
+use Rattle.store.specs.Puts.{Puts}
+use Rattle.store.specs.Fields.{bytesIn}
+use Rattle.store.specs.Laws.Lands.{Lands, put-lands}
+use Rattle.store.specs.Laws.Exactly.{writable-exactly}
 use Rattle.look.specs.declared.Look.{Look}
 use Rattle.look.specs.Look.{TableLook}
 use Rattle.look.specs.Values as values
-use Rattle.look.specs.Bounds.{longest-look}
+use Rattle.look.specs.Laws.Bounds.{look-most}
 use Rattle.look_write.specs.Writing.{file, stray, ending, writing, output, Fits}
 
 -- the answer, once the check is known
@@ -46,53 +51,58 @@ pub min-fits : (n m room : ℕ) → n ≤ room → min n m ≤ room
 min-fits n m room h = omega arith
 
 -- the buffer
-module _ (x : Look) {s b b′ : List ℕ} {r : Step} (long : length b ≡ 3152) (put : Puts TableLook s (values.fields x) b (Next 0) b′ r) where
+module _ (x : Look) {s b b′ : List ℕ} {r : Step} (long : length b ≡ longest-look) (wrote : Puts TableLook s (values.fields x) b (Next 0) b′ r) where
+  lands : Lands b 0 (file x s) (check TableLook s (values.fields x) 0) (b′, r)
+  unfolding file bytesIn
+  lands = rw (wrote .is) (put-lands TableLook s (values.fields x) b 0 (rw long (look-most .is s (values.fields x) 0 (wrote .fit))))
+
   pub checked : r ≡ check TableLook s (values.fields x) 0
-  checked = put .is .checks 0 refl (rw long (longest-look .is s (values.fields x) 0 (put .fit)))
+  checked = lands .answers
 
   module _ {n : ℕ} (e : r ≡ Next n) where
     pub checked-length : check TableLook s (values.fields x) 0 ≡ Next n
     checked-length = sym checked ∙ e
 
-    pub within : n ≤ 3152
-    within = let h = longest-look .is s (values.fields x) 0 (put .fit) in let h′ = rw checked-length at h in h′
+    pub within : n ≤ longest-look
+    within = let h = look-most .is s (values.fields x) 0 (wrote .fit) in let h′ = rw checked-length at h in h′
+
+    file-length : n ≡ 0 + length (file x s)
+    unfolding file bytesIn
+    file-length = writable-exactly TableLook s (values.fields x) 0 n .0 checked-length .1
 
     pub front : take n b′ ≡ file x s
-    unfolding file stored
-    front =
-        let e₁ : n ≡ 0 + length (file x s) = put .is .reach 0 n checked-length in
-        rw (put .is .stores 0 n refl checked-length (rw long within)) (take-at (file x s) (drop (0 + length (file x s)) b) n (omega arith))
+    unfolding stored
+    front = rw (lands .holds n checked-length) (take-at (file x s) (drop (0 + length (file x s)) b) n (omega (arith, file-length)))
 
     -- the part of the buffer that is copied
     pub front-length : n ≡ length (take n b′)
-    unfolding file
-    front-length = put .is .reach 0 n checked-length ∙ rw front (omega arith)
+    front-length = file-length ∙ rw front (omega arith)
 
 -- ---- what is returned
 
 -- the answer is v, and the output holds out′
 abbrev Returns : Look → List ℕ → List ℕ → Step → List ℕ → Type 0
 Returns x s out v out′ =
-    (v ≡ writing x s (length out)) × (out′ ≡ output (writing x s (length out)) (file x s) out) × Fits x × Bytes s
+    (v ≡ writing x s (length out)) × (out′ ≡ output (writing x s (length out)) (file x s) out) × Fits x s × Bytes s
 
-module _ (x : Look) {s b b′ : List ℕ} {r : Step} (long : length b ≡ 3152) (put : Puts TableLook s (values.fields x) b (Next 0) b′ r) (bs : Bytes s) (out : List ℕ) where
+module _ (x : Look) {s b b′ : List ℕ} {r : Step} (long : length b ≡ longest-look) (wrote : Puts TableLook s (values.fields x) b (Next 0) b′ r) (bs : Bytes s) (out : List ℕ) where
   pub returns-refused : {n p : ℕ} → r ≡ Refused n p → Returns x s out (Refused n p) out
   unfolding output
-  returns-refused e = rw (answers-refused x s (length out) (sym (checked x long put) ∙ e)) (refl, refl, record { is = put .fit }, bs)
+  returns-refused e = rw (answers-refused x s (length out) (sym (checked x long wrote) ∙ e)) (refl, refl, record { is = wrote .fit }, bs)
 
   module _ {n : ℕ} (e : r ≡ Next n) where
     pub returns-stray : {lost : Bool} → lost ≡ stray x → lost ≡ true → Returns x s out (Refused 16 n) out
     unfolding output
-    returns-stray h i = rw (answers-stray x s (length out) (checked-length x long put e) (sym h ∙ i)) (refl, refl, record { is = put .fit }, bs)
+    returns-stray h i = rw (answers-stray x s (length out) (checked-length x long wrote e) (sym h ∙ i)) (refl, refl, record { is = wrote .fit }, bs)
 
     pub returns-short : {lost : Bool} → lost ≡ stray x → lost ≡ false → leb n (length out) ≡ false → Returns x s out (Refused 15 0) out
     unfolding output
-    returns-short h i j = rw (answers-short x s (length out) (checked-length x long put e) (sym h ∙ i) j) (refl, refl, record { is = put .fit }, bs)
+    returns-short h i j = rw (answers-short x s (length out) (checked-length x long wrote e) (sym h ∙ i) j) (refl, refl, record { is = wrote .fit }, bs)
 
     pub returns-length : {lost : Bool} {out′ : List ℕ} → lost ≡ stray x → lost ≡ false → leb n (length out) ≡ true
         → out′ ≡ take (length (take n b′)) (take n b′) ++ drop (length (take n b′)) out → Returns x s out (Next n) out′
     unfolding output
     returns-length h i j k =
-        let l : length (take n b′) ≡ n = sym (front-length x long put e) in
-        rw (answers-length x s (length out) (checked-length x long put e) (sym h ∙ i) j)
-        (refl, k ∙ rw (take-length, l, front x long put e), record { is = put .fit }, bs)
+        let l : length (take n b′) ≡ n = sym (front-length x long wrote e) in
+        rw (answers-length x s (length out) (checked-length x long wrote e) (sym h ∙ i) j)
+        (refl, k ∙ rw (take-length, l, front x long wrote e), record { is = wrote .fit }, bs)

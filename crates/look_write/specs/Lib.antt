@@ -1,5 +1,3 @@
 pub mod Writing
 pub mod Refused
-pub mod RefusedExactly
-pub mod Theorems
-pub mod Calls
+pub mod Laws

@@ -13,7 +13,7 @@ use mathlib.Core.Bool.{true, false}
 use mathlib.Core.List.{List}
 use Prim.Native.Nat.{ℕ, _≤_, _<_}
 use lib.ListN.{length}
-use Rattle.fields.specs.Unwritable.{Writable, Unwritable}
+use Rattle.store.specs.Unwritable.{Writable, Unwritable}
 use Rattle.look.specs.declared.Look.{Look}
 use Rattle.look.specs.Look.{TableLook}
 use Rattle.look.specs.Values as values

@@ -9,9 +9,9 @@ use Rattle.layout.specs.declared.Step.{Step}
 use Rattle.layout.specs.declared.Step.the-variants.{Next, Refused}
 use Rattle.layout.specs.Layout.{spell, Bytes, pick}
 use Rattle.layout.specs.Reads.{chain}
-use Rattle.fields.specs.Fields.{resolve}
-use Rattle.fields.specs.Check.{check}
-use Rattle.fields.specs.Puts.{Fit}
+use Rattle.store.specs.Fields.{resolve}
+use Rattle.store.specs.Check.{check}
+use Rattle.store.specs.Fit.{Fit}
 use Rattle.look.specs.declared.Separator.{Separator}
 use Rattle.look.specs.declared.Separator.the-variants.{NotDrawn, Drawn}
 use Rattle.look.specs.declared.Frame.{Frame}
@@ -71,10 +71,10 @@ answer (written.Length n) = Next n
 answer (written.Refused n p) = Refused n p
 
 -- each number of a look fits its bytes, as its type says
-pub record Fits (x : Look) : Type 0 where
-  pub is : Fit TableLook (values.fields x)
+pub record Fits (x : Look) (s : List ℕ) : Type 0 where
+  pub is : Fit TableLook s (values.fields x)
 
 -- a call of `write_look` that answered r and left out′ in the output: for a look x whose names lie in the bytes s
 abbrev pub Wrote : Look → List ℕ → List ℕ → Written → List ℕ → Type 0
 Wrote x s out r out′ =
-    (answer r ≡ writing x s (length out)) × (out′ ≡ output (writing x s (length out)) (file x s) out) × Fits x × Bytes s
+    (answer r ≡ writing x s (length out)) × (out′ ≡ output (writing x s (length out)) (file x s) out) × Fits x s × Bytes s

@@ -1,13 +1,18 @@
 // The writer of binary table looks.
+
+mod put; // the productions of 002, written
+
 ghost use mathlib.Core.Path.{_≡_};
 ghost use mathlib.Core.Bool.{_&&_};
 ghost use Rattle.look_write.specs.Writing as spec;
+use crate::put::table_look;
 use layout::Step;
 use look::Frame;
 use look::Frames;
 use look::Look;
 use look::Separator;
 use look::V2Styles;
+use sizes::LONGEST_LOOK;
 
 // What writing a look answers: how many bytes it has, or the refusal's number and place.
 pub enum Written {
@@ -94,8 +99,8 @@ fn stray(x: Look) -> bool
 pub fn write_look(look: Look, names: &[u8], out: &mut [u8]) -> Written
     ensures { λ r. ⌜ spec.Wrote look (now (names .entry)) (now (out .entry)) r (now (out .exit)) ⌝ }
 {
-    let mut buf = [0u8; 3152];
-    let st = look_put::table_look(&mut buf, Step::Next(0), names, look);
+    let mut buf = [0u8; LONGEST_LOOK];
+    let st = table_look(&mut buf, Step::Next(0), names, look);
     let lost = stray(look);
     match st {
         Step::Next(n) => {

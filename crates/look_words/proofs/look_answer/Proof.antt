@@ -1,9 +1,10 @@
 use borrow.Author.Needs.{needs}
+use Rattle.sizes.specs.Sizes.{look-answer-words}
 use Rattle.layout.specs.Read.{read}
 use Rattle.look.specs.Look.{TableLook}
 use Rattle.look.specs.Answers.{expected}
 use Rattle.look_words.specs.FieldWords.{answerWords}
-use Rattle.words.specs.Stores.{_⊳_, long, without-room}
+use Rattle.store.specs.Laws.Puts.{_⟩_, long-words, without-room}
 use Rattle.look_words.proofs.Answered.{answered}
 use Rattle.look_words.proofs.look_answer.Statement.{statement}
 use Rattle.look_words.proofs.look_answer.Tie as tie
@@ -16,7 +17,7 @@ returns c =
     let q = l .before .before in
     let a = q .before .before .before .before .args in
     answered (a .file .now) (q .read-look .ensures .1) (a .area .now) (q .read-look .result) (q .read-look .ensures .0) (q .before .if1 .taken) (l .look .given .1)
-    (p .put .ensures ⊳ w .whole .ensures)
+    (p .put .ensures ⟩ w .whole .ensures)
 
 returns-2 : tie.Need-returns-2
 returns-2 c =
@@ -26,7 +27,7 @@ returns-2 c =
     let q = n .before .before in
     let a = q .before .before .before .before .args in
     answered (a .file .now) (q .read-look .ensures .1) (a .area .now) (q .read-look .result) (q .read-look .ensures .0) (q .before .if1 .taken) (n .n .given .1)
-    (p .put2 .ensures ⊳ z .put3 .ensures)
+    (p .put2 .ensures ⟩ z .put3 .ensures)
 
 pub look-answer-spec : {M : Type 1} → statement M
 look-answer-spec =
@@ -34,8 +35,8 @@ look-answer-spec =
     (tie.spec
     (λ _ _. tt) (λ c. search needs) (λ c. search needs) (λ _ _. tt) (λ _ _. tt) (λ c. search needs) (λ c. search needs)
     (λ c. search needs) (λ _ _. tt) (λ c. search needs) (λ _ _. tt)
-    (λ c. let w = c .before .before in long (w .before .before .before .before .put .ensures ⊳ w .whole .ensures)) returns
-    (λ c. let z = c .before .before in long (z .before .before .before .before .before .put2 .ensures ⊳ z .put3 .ensures)) returns-2
+    (λ c. let w = c .before .before in long-words (w .before .before .before .before .put .ensures ⟩ w .whole .ensures)) returns
+    (λ c. let z = c .before .before in long-words (z .before .before .before .before .before .put2 .ensures ⟩ z .put3 .ensures)) returns-2
     (λ c.
     let a = c .before .before .before .args in
-    without-room 264 (answerWords (expected (read TableLook (a .file .now) 0))) (a .area .now) (c .if1 .left)))
+    without-room look-answer-words (answerWords (expected (read TableLook (a .file .now) 0))) (a .area .now) (c .if1 .left)))

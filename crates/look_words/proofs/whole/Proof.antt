@@ -1,6 +1,6 @@
 use borrow.Author.Needs.{needs}
 use Rattle.look_words.specs.LookWords.{lookWords}
-use Rattle.words.specs.Stores.{_⊳_, long}
+use Rattle.store.specs.Laws.Puts.{_⟩_, long-words}
 use Rattle.look_words.proofs.whole.Statement.{statement}
 use Rattle.look_words.proofs.whole.Tie as tie
 
@@ -13,13 +13,13 @@ returns c =
     let c₄ = c₃ .before .before .before .before in
     let c₅ = c₄ .before .before .before .before in
     let c₆ = c₅ .before .before .before .before in
-    c₆ .before .before .put .ensures ⊳ c₅ .before .before .lines .ensures ⊳ c₄ .before .before .lines2 .ensures
-    ⊳ c₃ .before .before .area .ensures ⊳ c₂ .before .before .most-areas .ensures ⊳ c₁ .before .before .frames .ensures
-    ⊳ c .before .before .v2-numbers .ensures
+    c₆ .before .before .put .ensures ⟩ c₅ .before .before .lines .ensures ⟩ c₄ .before .before .lines2 .ensures
+    ⟩ c₃ .before .before .area .ensures ⟩ c₂ .before .before .most-areas .ensures ⟩ c₁ .before .before .frames .ensures
+    ⟩ c .before .before .v2-numbers .ensures
 
 pub whole-spec : {M : Type 1} → statement M
 whole-spec =
     tie.close
     (tie.spec
     (λ c. search needs) (λ c. search needs) (λ c. search needs) (λ c. search needs) (λ c. search needs) (λ _ _. tt) (λ _ _. tt) (λ _ _. tt) (λ _ _. tt)
-    (λ _ _. tt) (λ _ _. tt) (λ _ _. tt) (λ c. long (returns c)) returns)
+    (λ _ _. tt) (λ _ _. tt) (λ _ _. tt) (λ c. long-words (returns c)) returns)

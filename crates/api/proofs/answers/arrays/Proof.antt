@@ -1,7 +1,7 @@
 use borrow.Author.Needs.{needs}
 use native.Mathlib.Omega.{arith}
 use lib.ListN.{length-append}
-use Rattle.words.specs.Stores.{_⊳_, long}
+use Rattle.store.specs.Laws.Puts.{_⟩_, long-words}
 use Rattle.api.proofs.answers.arrays.Statement.{statement}
 use Rattle.api.proofs.answers.arrays.Tie as tie
 
@@ -10,5 +10,5 @@ arrays-spec =
     tie.close
     (tie.spec
     (λ c. search needs) (λ _ _. tt) (λ c. search needs) (λ _ _. tt)
-    (λ c. let o = c .before .before in long (o .before .before .before .before .before .put .ensures ⊳ o .put2 .ensures))
-    (λ c. let o = c .before .before in (o .before .before .before .before .before .put .ensures ⊳ o .put2 .ensures, rw length-append (omega arith))))
+    (λ c. let o = c .before .before in long-words (o .before .before .before .before .before .put .ensures ⟩ o .put2 .ensures))
+    (λ c. let o = c .before .before in (o .before .before .before .before .before .put .ensures ⟩ o .put2 .ensures, rw length-append (omega arith))))

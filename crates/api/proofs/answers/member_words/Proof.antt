@@ -1,7 +1,7 @@
 use borrow.Author.Needs.{needs}
 use native.Mathlib.Omega.{arith}
 use lib.ListN.{length-append}
-use Rattle.words.specs.Stores.{_⊳_, long}
+use Rattle.store.specs.Laws.Puts.{_⟩_, long-words}
 use Rattle.api.specs.Api.{answerWords}
 use Rattle.api.proofs.answers.member_words.Statement.{statement}
 use Rattle.api.proofs.answers.member_words.Tie as tie
@@ -12,5 +12,5 @@ member-words-spec =
     tie.close
     (tie.spec
     (λ c. search needs) (λ c. search needs) (λ _ _. tt) (λ _ _. tt)
-    (λ c. let o = c .before .before in long (o .before .before .before .before .put .ensures ⊳ o .arrays .ensures .0))
-    (λ c. let o = c .before .before in (o .before .before .before .before .put .ensures ⊳ o .arrays .ensures .0, rw length-append (omega (arith, rw length-append at (o .arrays .ensures .1))))))
+    (λ c. let o = c .before .before in long-words (o .before .before .before .before .put .ensures ⟩ o .arrays .ensures .0))
+    (λ c. let o = c .before .before in (o .before .before .before .before .put .ensures ⟩ o .arrays .ensures .0, rw length-append (omega (arith, rw length-append at (o .arrays .ensures .1))))))

@@ -1,4 +1,4 @@
-use Rattle.fields.specs.Gives.{bool-gives}
+use Rattle.fields.specs.Laws.Gives.{bool-value}
 use Rattle.fields.proofs.read.flag.Statement.{statement}
 use Rattle.fields.proofs.read.flag.Tie as tie
 
@@ -6,4 +6,4 @@ pub flag-spec : {M : Type 1} → statement M
 flag-spec =
     tie.close
     (tie.spec
-    (λ _ _. tt) (λ _ _. tt) (λ c. bool-gives (c .boolean .ensures) (c .before .peek .ensures)))
+    (λ _ _. tt) (λ _ _. tt) (λ c. bool-value (c .boolean .ensures) (c .before .peek .ensures)))

@@ -1,7 +1,6 @@
 use Rattle.layout.specs.Layout.{little}
-use Rattle.fields.specs.Gives.{number-gives}
-use Rattle.layout.specs.Steps.Slices.{bytes-of}
-use Rattle.fields.specs.Slices.{peek-lt}
+use Rattle.fields.specs.Laws.Slices.{peek-fits}
+use Rattle.fields.specs.Laws.Gives.{any-value}
 use Rattle.fields.proofs.read.int32.Statement.{statement}
 use Rattle.fields.proofs.read.int32.Tie as tie
 
@@ -9,8 +8,5 @@ pub int32-spec : {M : Type 1} → statement M
 int32-spec =
     tie.close
     (tie.spec
-    (λ _ _. tt)
-    (λ c.
-    let a = c .before .before in
-    record { fits = rw (c .peek .ensures) (peek-lt little 4 (a .args .s .now) (bytes-of (a .args .s .now) (c .before .shared-slice-known .given)) (a .args .st)) })
-    (λ _ _. tt) (λ c. number-gives (c .any .ensures .0) (c .before .peek .ensures)))
+    (λ _ _. tt) (λ c. record { fits = peek-fits little 4 _ (c .before .shared-slice-known .given) _ (c .peek .ensures) })
+    (λ _ _. tt) (λ c. any-value (c .any .ensures .0) (c .before .peek .ensures)))

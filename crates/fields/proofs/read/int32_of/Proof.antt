@@ -1,4 +1,4 @@
-use Rattle.fields.specs.Gives.{fixed-gives}
+use Rattle.fields.specs.Laws.Gives.{fixed-gives}
 use Rattle.fields.proofs.read.int32_of.Statement.{statement}
 use Rattle.fields.proofs.read.int32_of.Tie as tie
 

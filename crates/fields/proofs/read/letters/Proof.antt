@@ -6,8 +6,8 @@ use lib.ListN.{length}
 use Rattle.layout.specs.Layout.{big, the-number, passes, pick, undigits}
 use Rattle.layout.specs.Read.{refusal}
 use Rattle.layout.specs.Steps.Chain.{kept}
-use Rattle.fields.specs.Gives.{fixed-gives}
-use Rattle.fields.specs.Letters.{number-short, number-here}
+use Rattle.fields.specs.Laws.Gives.{fixed-gives}
+use Rattle.fields.specs.Laws.Letters.{number-short, number-here}
 use Rattle.fields.proofs.read.letters.Statement.{statement}
 use Rattle.fields.proofs.read.letters.Tie as tie
 

@@ -1,6 +1,7 @@
+use mathlib.Core.Path.{refl}
 use borrow.Author.Needs.{needs}
 use native.Mathlib.Omega.{arith}
-use Rattle.fields.specs.Gives.{string-gives}
+use Rattle.fields.specs.Laws.Gives.{string-gives, next-value}
 use Rattle.fields.proofs.read.name.Statement.{statement}
 use Rattle.fields.proofs.read.name.Tie as tie
 
@@ -12,7 +13,7 @@ name-spec =
     (λ c.
     let p = c .before .p .given .1 in
     let b = c .before .before .before .bytes .ensures in
-    string-gives (omega arith) (c .before .before .before .before .part .ensures) (rw p) (rw (p, ← (rw p at b))))
+    next-value refl (string-gives (omega arith) (c .before .before .before .before .part .ensures) (rw p) (rw (p, ← (rw p at b)))))
     (λ c.
     let p = c .before .p2 .given .1 in
-    string-gives (omega arith) (c .before .before .before .before .part .ensures) (rw p) (rw p)))
+    record { gives = string-gives (omega arith) (c .before .before .before .before .part .ensures) (rw p) (rw p); none = λ n q j. refl }))

@@ -1,4 +1,4 @@
-use Rattle.fields.specs.Gives.{gives}
+use Rattle.fields.specs.Laws.Gives.{_⟩_}
 use Rattle.look.proofs.areas.alignment.Statement.{statement}
 use Rattle.look.proofs.areas.alignment.Tie as tie
 
@@ -7,4 +7,10 @@ alignment-spec =
     tie.close
     (tie.spec
     (λ _ _. tt) (λ _ _. tt) (λ _ _. tt) (λ _ _. tt) (λ _ _. tt) (λ _ _. tt) (λ _ _. tt) (λ _ _. tt) (λ _ _. tt)
-    (λ _ _. tt) (λ _ _. tt) (λ c. search gives depth 20))
+    (λ _ _. tt) (λ _ _. tt)
+    (λ c.
+    let m = c .before .before .before .before in
+    m .before .before .before .before .before .before .int16 .ensures .gives ⟩ m .before .before .before .before .before .int162 .ensures .gives ⟩ m .before .before .before .before .int163 .ensures .gives
+    ⟩ m .before .before .before .int164 .ensures .gives ⟩ m .before .before .int165 .ensures .gives ⟩ m .before .int166 .ensures .gives
+    ⟩ m .int167 .ensures .gives ⟩ c .before .before .before .mark .ensures ⟩ c .before .before .mark2 .ensures ⟩ c .before .mark3 .ensures
+    ⟩ c .mark4 .ensures))

@@ -1,6 +1,6 @@
 use mir.Syntax.{w32}
 use mir.ValLaws.{toZ-ofZ}
-use Rattle.fields.specs.Gives.{gives}
+use Rattle.fields.specs.Laws.Gives.{gives}
 use Rattle.look.proofs.areas.font.Statement.{statement}
 use Rattle.look.proofs.areas.font.Tie as tie
 

@@ -2,7 +2,7 @@ use mathlib.Core.Path.{ap, _∙_}
 use Prim.Native.Nat.{ℕ}
 use lib.Dec.{eqb}
 use borrow.Author.Tests.{eqb-true}
-use Rattle.fields.specs.Gives.{first-of-two, peeked, switch-known, _⟩_}
+use Rattle.fields.specs.Laws.Gives.{first-of-two, peeked, switch-known, _⟩_}
 use Rattle.look.specs.Look as grammar
 use Rattle.look.proofs.borders.separator.Statement.{statement}
 use Rattle.look.proofs.borders.separator.Tie as tie
@@ -17,7 +17,7 @@ separator-spec =
     switch-known (λ type. grammar.SeparatorIf (eqb type 1))
     (λ at n i x. peeked (m .before .before .before .before .args .s .now) at x i (m .before .before .peek .ensures) ∙ eqb-true _ 1 (c .before .before .before .if1 .taken))
     (m .before .one-of-two .ensures)
-    (m .mark .ensures ⟩ c .before .before .color .ensures ⟩ c .before .int16 .ensures ⟩ c .int162 .ensures))
+    (m .mark .ensures ⟩ c .before .before .color .ensures .gives ⟩ c .before .int16 .ensures .gives ⟩ c .int162 .ensures .gives))
     (λ c.
     let m = c .before in
     switch-known (λ type. grammar.SeparatorIf (eqb type 1))

@@ -1,9 +1,9 @@
 use borrow.Author.Needs.{needs}
 use Rattle.layout.specs.Layout.{little, _▸_}
 use Rattle.layout.specs.Steps.Numbers.{tested-of}
-use Rattle.fields.specs.Gives.{switch-gives, _⟩_}
+use Rattle.fields.specs.Laws.Gives.{switch-gives, _⟩_}
 use Rattle.layout.specs.Steps.Slices.{bytes-of}
-use Rattle.fields.specs.Slices.{peek-lt}
+use Rattle.fields.specs.Laws.Slices.{peek-lt}
 use Rattle.look.specs.Look as grammar
 use Rattle.look.specs.Look.{PTTableLook-name}
 use Rattle.look.proofs.read.table_look.Statement.{statement}

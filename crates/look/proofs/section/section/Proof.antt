@@ -1,4 +1,4 @@
-use Rattle.fields.specs.Gives.{gives}
+use Rattle.fields.specs.Laws.Gives.{gives}
 use Rattle.look.proofs.section.section.Statement.{statement}
 use Rattle.look.proofs.section.section.Tie as tie
 

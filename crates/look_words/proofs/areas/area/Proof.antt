@@ -1,6 +1,6 @@
 use borrow.Author.Needs.{needs}
 use Rattle.look_words.specs.LookWords.{area}
-use Rattle.words.specs.Stores.{_⊳_}
+use Rattle.store.specs.Laws.Puts.{_⟩_}
 use Rattle.look_words.proofs.areas.area.Statement.{statement}
 use Rattle.look_words.proofs.areas.area.Tie as tie
 
@@ -14,5 +14,5 @@ area-spec =
     let c₁ = c .before .before .before .before in
     let c₂ = c₁ .before .before .before .before in
     let c₃ = c₂ .before .before .before .before in
-    c₃ .before .before .area-color .ensures ⊳ c₂ .before .before .alignment .ensures ⊳ c₁ .before .before .font .ensures
-    ⊳ c .before .before .typeface .ensures))
+    c₃ .before .before .area-color .ensures ⟩ c₂ .before .before .alignment .ensures ⟩ c₁ .before .before .font .ensures
+    ⟩ c .before .before .typeface .ensures))

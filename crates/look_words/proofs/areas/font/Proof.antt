@@ -3,7 +3,7 @@ use borrow.Author.Needs.{needs}
 use mir.Syntax.{w32}
 use mir.ValLaws.{toZ-ofZ}
 use mir.Val.{SFits}
-use Rattle.fields.specs.Values.{twos}
+use Rattle.store.specs.Values.{twos}
 use Rattle.look_words.proofs.areas.font.Statement.{statement}
 use Rattle.look_words.proofs.areas.font.Tie as tie
 

@@ -1,5 +1,5 @@
 use Rattle.look_words.specs.LookWords.{most-areas}
-use Rattle.words.specs.Stores.{_⊳_, long}
+use Rattle.store.specs.Laws.Puts.{_⟩_, long-words}
 use Rattle.look_words.proofs.areas.most_areas.Statement.{statement}
 use Rattle.look_words.proofs.areas.most_areas.Tie as tie
 
@@ -12,12 +12,12 @@ returns c =
     let c₄ = c₃ .before .before .before .before in
     let c₅ = c₄ .before .before .before .before in
     let c₆ = c₅ .before .before .before .before in
-    c₆ .before .before .area .ensures ⊳ c₅ .before .before .area2 .ensures ⊳ c₄ .before .before .area3 .ensures
-    ⊳ c₃ .before .before .area4 .ensures ⊳ c₂ .before .before .area5 .ensures ⊳ c₁ .before .before .area6 .ensures
-    ⊳ c .before .before .area7 .ensures
+    c₆ .before .before .area .ensures ⟩ c₅ .before .before .area2 .ensures ⟩ c₄ .before .before .area3 .ensures
+    ⟩ c₃ .before .before .area4 .ensures ⟩ c₂ .before .before .area5 .ensures ⟩ c₁ .before .before .area6 .ensures
+    ⟩ c .before .before .area7 .ensures
 
 pub most-areas-spec : {M : Type 1} → statement M
 most-areas-spec =
     tie.close
     (tie.spec
-    (λ _ _. tt) (λ _ _. tt) (λ _ _. tt) (λ _ _. tt) (λ _ _. tt) (λ _ _. tt) (λ _ _. tt) (λ c. long (returns c)) returns)
+    (λ _ _. tt) (λ _ _. tt) (λ _ _. tt) (λ _ _. tt) (λ _ _. tt) (λ _ _. tt) (λ _ _. tt) (λ c. long-words (returns c)) returns)

@@ -1,6 +1,6 @@
 use borrow.Author.Needs.{needs}
 use Rattle.look_words.specs.LookWords.{four}
-use Rattle.words.specs.Stores.{_⊳_}
+use Rattle.store.specs.Laws.Puts.{_⟩_}
 use Rattle.look_words.proofs.borders.four.Statement.{statement}
 use Rattle.look_words.proofs.borders.four.Tie as tie
 
@@ -14,5 +14,5 @@ four-spec =
     let c₁ = c .before .before .before .before in
     let c₂ = c₁ .before .before .before .before in
     let c₃ = c₂ .before .before .before .before in
-    c₃ .before .before .separator .ensures ⊳ c₂ .before .before .separator2 .ensures ⊳ c₁ .before .before .separator3 .ensures
-    ⊳ c .before .before .separator4 .ensures))
+    c₃ .before .before .separator .ensures ⟩ c₂ .before .before .separator2 .ensures ⟩ c₁ .before .before .separator3 .ensures
+    ⟩ c .before .before .separator4 .ensures))

@@ -1,5 +1,5 @@
 use Rattle.look_words.specs.LookWords.{frames}
-use Rattle.words.specs.Stores.{_⊳_, long}
+use Rattle.store.specs.Laws.Puts.{_⟩_, long-words}
 use Rattle.look_words.proofs.borders.frames.Statement.{statement}
 use Rattle.look_words.proofs.borders.frames.Tie as tie
 
@@ -10,9 +10,9 @@ returns c =
     let c₂ = c₁ .before .before .before .before in
     let c₃ = c₂ .before .before .before .before in
     let c₄ = c₃ .before .before .before .before in
-    c₄ .before .before .separator .ensures ⊳ c₃ .before .before .frame .ensures ⊳ c₂ .before .before .frame2 .ensures
-    ⊳ c₁ .before .before .separator2 .ensures ⊳ c .before .before .separator3 .ensures
+    c₄ .before .before .separator .ensures ⟩ c₃ .before .before .frame .ensures ⟩ c₂ .before .before .frame2 .ensures
+    ⟩ c₁ .before .before .separator2 .ensures ⟩ c .before .before .separator3 .ensures
 
 pub frames-spec : {M : Type 1} → statement M
 frames-spec =
-    tie.close (tie.spec (λ _ _. tt) (λ _ _. tt) (λ _ _. tt) (λ _ _. tt) (λ _ _. tt) (λ c. long (returns c)) returns)
+    tie.close (tie.spec (λ _ _. tt) (λ _ _. tt) (λ _ _. tt) (λ _ _. tt) (λ _ _. tt) (λ c. long-words (returns c)) returns)

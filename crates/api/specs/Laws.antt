@@ -1,0 +1,2 @@
+-- The laws of the functions for other languages.
+pub mod Theorems

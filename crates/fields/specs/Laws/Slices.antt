@@ -1,0 +1,35 @@
+-- What is read in bytes fits.
+use mathlib.Core.Path.{_≡_, refl}
+use mathlib.Core.List.{List, [], _∷_}
+use Prim.Native.Nat.{ℕ, zero, suc, _^_, _<_}
+use native.Mathlib.Nat.{pow-suc}
+use native.Mathlib.Omega.{arith}
+use lib.ListN.{drop, getD}
+use mir.Syntax.{w8}
+use mir.Val.{Fits}
+use Rattle.layout.specs.declared.Step.{Step}
+use Rattle.layout.specs.declared.Step.the-variants.{Next, Refused}
+use Rattle.layout.specs.Layout.{Order, any-number, passes, empty, number, Bytes, pick}
+use Rattle.layout.specs.Read.{Got, got, no, bind, readNumber, read}
+use Rattle.layout.specs.Laws as laws
+use Rattle.layout.specs.Reads.{numberOf, peek}
+use Rattle.layout.specs.Steps.Slices.{bytes-of, drop-bytes}
+use Rattle.layout.specs.Laws.Spelt.{whole}
+
+pow-pos : (w : ℕ) → 0 < 256 ^ w
+pow-pos zero = omega arith
+pow-pos (suc w) = let ih : 0 < 256 ^ w = pow-pos w in rw pow-suc (omega arith)
+
+-- a number that was read has its bytes
+pub peek-lt : (o : Order) (w : ℕ) (s : List ℕ) → Bytes s → (st : Step) → peek o w s st < 256 ^ w
+unfolding peek
+peek-lt o w s bs (Refused n p) = pow-pos w
+peek-lt o w s bs (Next at) = go (readNumber o w (drop at s) at) refl
+  where
+    go : (x : Got ℕ) → readNumber o w (drop at s) at ≡ x → numberOf x < 256 ^ w
+    go (got n r p) e = laws.sound (number o w any-number (λ _. empty)) (drop at s) (drop-bytes at bs) at (n, tt) r p (whole o w (drop at s) at n r p e) .0 .0
+    go (no n p) e = pow-pos w
+
+-- the same of the elements of a slice
+pub peek-fits : (o : Order) (w : ℕ) (s : List ℕ) → ((i : ℕ) → Fits w8 (getD s i 0)) → (st : Step) {v : ℕ} → v ≡ peek o w s st → v < 256 ^ w
+peek-fits o w s h st e = rw e (peek-lt o w s (bytes-of s h) st)

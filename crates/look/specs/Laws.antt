@@ -1,0 +1,3 @@
+-- The laws of looks.
+pub mod Bounds
+pub mod RefusedExactly

@@ -1,0 +1,65 @@
+-- How many bytes a look has at most.
+use mathlib.Core.Path.{_≡_, refl}
+use mathlib.Core.Bool.{Bool, true, false}
+use mathlib.Core.List.{List}
+use Prim.Native.Nat.{ℕ, _≤_, max}
+use native.Mathlib.Omega.{arith}
+use lib.Dec.{eqb}
+use Rattle.sizes.specs.Sizes.{longest-look}
+use Rattle.layout.specs.Layout.{Layout, _▸_}
+use Rattle.store.specs.Laws.Bounds.{AtMost, most, Bounded, at-most}
+use Rattle.look.specs.Look as grammar
+use Rattle.look.specs.Look.{TableLook}
+use Rattle.look.specs.Values.{_&_}
+
+-- a number alone
+f : (n : ℕ) → (0 ≤ max 0 (max 0 0)) × Unit {0}
+f n = (omega arith, tt)
+
+section : (letters : List ℕ) → Bounded (grammar.section letters)
+section letters = f & f & f & f & f
+
+separator : Bounded grammar.Separator
+separator n = go (eqb n 1)
+  where
+    go : (b : Bool) → (most (grammar.SeparatorIf b) ≤ max (most grammar.undrawn) (max (most grammar.drawn) (most grammar.undrawn))) × Bounded (grammar.SeparatorIf b)
+    go true = (omega arith, f & f & f & f)
+    go false = (omega arith, f)
+
+color : Bounded grammar.AreaColor
+color = f & f & f & f & f & f & f
+
+style : Bounded grammar.AreaStyle
+style = (f & f & f & f & f & f & f & f & f & f & f) & (f & f & f & f & f & f & f) & (f & f & f & f & f & tt & f & f)
+
+areas : Bounded grammar.MostAreas
+areas = f & f & color & f & f & f & style
+
+v2-if : (b : Bool) → Bounded (grammar.V2StylesIf b)
+v2-if true = separator & tt & f & f & f & f
+v2-if false = tt
+
+sections : (version : ℕ) → Bounded (grammar.sections version)
+sections version =
+    (section grammar.PVSeparatorStyle-name & f & separator & f & f & f & separator) & (section grammar.PVCellStyle-name & color)
+    & (section grammar.PVTextStyle-name & f & style & areas) & v2-if (eqb version 2)
+
+-- what comes after the version
+abbrev rest : Bool → Layout
+rest b = grammar.settings ▸ (grammar.PVSeparatorStyle ▸ grammar.PVCellStyle ▸ grammar.PVTextStyle ▸ grammar.V2StylesIf b)
+
+longest : (b : Bool) → most (rest b) ≤ max (most (rest false)) (max (most (rest false)) (most (rest true)))
+unfolding grammar.PVSeparatorStyle-name grammar.PVCellStyle-name grammar.PVTextStyle-name
+longest true = omega arith
+longest false = omega arith
+
+pub bounded : Bounded TableLook
+bounded = section grammar.PTTableLook-name & (λ version. (longest (eqb version 2), (f & f & f & f & f & f & f & f & f) & sections version))
+
+-- "the longest 2,770 and 3,152" (document 01)
+pub most-bytes : most TableLook ≡ longest-look
+unfolding grammar.PTTableLook-name grammar.PVSeparatorStyle-name grammar.PVCellStyle-name grammar.PVTextStyle-name
+most-bytes = refl
+
+pub look-most : AtMost TableLook longest-look
+look-most = rw most-bytes at (at-most TableLook bounded)

@@ -1,0 +1,17 @@
+use borrow.Author.Needs.{needs}
+use Rattle.store.specs.Laws.Puts.{_⊳_}
+use Rattle.look_write.proofs.put.section.Statement.{statement}
+use Rattle.look_write.proofs.put.section.Tie as tie
+
+pub section-spec : {M : Type 1} → statement M
+section-spec =
+    tie.close
+    (tie.spec
+    (λ _ _. tt) (λ _ _. tt) (λ _ _. tt) (λ _ _. tt) (λ _ _. tt) (λ c. search needs)
+    (λ c.
+    let c₁ = c .before .before .before .before in
+    let c₂ = c₁ .before .before .before .before in
+    let c₃ = c₂ .before .before .before .before in
+    let c₄ = c₃ .before .before .before .before in
+    c₄ .before .before .mark .ensures ⊳ c₃ .before .before .mark2 .ensures ⊳ c₂ .before .before .mark3 .ensures
+    ⊳ c₁ .before .before .mark4 .ensures ⊳ c .before .before .plain-letters .ensures))

@@ -1,0 +1,25 @@
+use borrow.Author.Needs.{needs}
+use Rattle.store.specs.Laws.Puts.{_⊳_, long-plain}
+use Rattle.look.specs.Look.{PVSeparatorStyle-name}
+use Rattle.look_write.proofs.put.separator_style.Statement.{statement}
+use Rattle.look_write.proofs.put.separator_style.Tie as tie
+
+returns : tie.Need-returns
+unfolding PVSeparatorStyle-name
+returns c =
+    let c₁ = c .before .before .before .before in
+    let c₂ = c₁ .before .before .before .before in
+    let c₃ = c₂ .before .before .before .before in
+    let c₄ = c₃ .before .before .before .before in
+    let c₅ = c₄ .before .before .before .before in
+    let c₆ = c₅ .before .before .before .before in
+    c₆ .before .before .section .ensures ⊳ c₅ .before .before .mark .ensures ⊳ c₄ .before .before .lines .ensures
+    ⊳ c₃ .before .before .mark2 .ensures ⊳ c₂ .before .before .mark3 .ensures ⊳ c₁ .before .before .mark4 .ensures
+    ⊳ c .before .before .lines2 .ensures
+
+pub separator-style-spec : {M : Type 1} → statement M
+separator-style-spec =
+    tie.close
+    (tie.spec
+    (λ c. search needs) (λ _ _. tt) (λ _ _. tt) (λ _ _. tt) (λ _ _. tt) (λ _ _. tt) (λ _ _. tt) (λ _ _. tt)
+    (λ c. long-plain (returns c)) returns)

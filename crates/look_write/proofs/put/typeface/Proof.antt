@@ -1,0 +1,24 @@
+use Rattle.store.specs.Laws.Puts.{plain, _⟫_, long}
+use Rattle.look_write.proofs.put.typeface.Statement.{statement}
+use Rattle.look_write.proofs.put.typeface.Tie as tie
+
+returns : tie.Need-returns
+returns c =
+    let c₁ = c .before .before .before .before in
+    let c₂ = c₁ .before .before .before .before in
+    let c₃ = c₂ .before .before .before .before in
+    let c₄ = c₃ .before .before .before .before in
+    let c₅ = c₄ .before .before .before .before in
+    let c₆ = c₅ .before .before .before .before in
+    let c₇ = c₆ .before .before .before .before in
+    plain (c₇ .before .before .flag .ensures) ⟫ plain (c₆ .before .before .flag2 .ensures)
+    ⟫ plain (c₅ .before .before .flag3 .ensures) ⟫ plain (c₄ .before .before .int32 .ensures)
+    ⟫ plain (c₃ .before .before .byte .ensures) ⟫ c₂ .before .before .name .ensures
+    ⟫ plain (c₁ .before .before .color .ensures) ⟫ plain (c .before .before .two-zeros .ensures)
+
+pub typeface-spec : {M : Type 1} → statement M
+typeface-spec =
+    tie.close
+    (tie.spec
+    (λ _ _. tt) (λ _ _. tt) (λ _ _. tt) (λ _ _. tt) (λ _ _. tt) (λ _ _. tt) (λ _ _. tt) (λ _ _. tt)
+    (λ c. long (returns c)) returns)

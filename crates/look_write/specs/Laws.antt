@@ -1,0 +1,4 @@
+-- The laws of writing a look.
+pub mod RefusedExactly
+pub mod Theorems
+pub mod Calls

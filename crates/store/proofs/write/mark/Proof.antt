@@ -1,0 +1,11 @@
+use borrow.Author.Needs.{needs}
+use Rattle.store.specs.Laws.Puts.{plain-fixed}
+use Rattle.store.proofs.write.mark.Statement.{statement}
+use Rattle.store.proofs.write.mark.Tie as tie
+
+pub mark-spec : {M : Type 1} → statement M
+mark-spec =
+    tie.close
+    (tie.spec
+    (λ _ _. tt) (λ c. search needs)
+    (λ c. plain-fixed (c .before .before .before .before .before .fits .b .fits) (c .before .before .number .ensures)))
