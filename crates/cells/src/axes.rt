@@ -6,7 +6,7 @@ ghost use lib.ListN.{drop, replicate};
 ghost use Rattle.layout.specs.Rule.{items};
 ghost use Rattle.layout.specs.Check.{check};
 ghost use Rattle.layout.specs.Keeps.{Keeps, Each};
-ghost use Rattle.checks.specs.Checks.{fresh, firsts};
+ghost use Rattle.once.specs.Once.{fresh, firsts};
 ghost use Rattle.table.specs.Rules.{countsRule};
 ghost use Rattle.cells.specs.Rows.{Row, rowOf, after};
 ghost use Rattle.cells.specs.Axes as spec;
@@ -14,11 +14,11 @@ use crate::AxesRead;
 use crate::AxisCounts;
 use crate::Entries;
 use crate::at_most;
-use checks::seen_before;
 use layout::LITTLE;
 use layout::Step;
 use layout::number::any;
 use layout::number::peek;
+use once::seen_before;
 
 // x is a dimension number that was not named among the first j entries.
 fn is_fresh(order: &[u32; 16], d: u64, j: usize, x: u64) -> bool

@@ -10,7 +10,7 @@ use lib.Dec.{leb}
 use borrow.Author.Tests.{le-leb, lt-leb}
 use Rattle.layout.specs.Layout.{Tree, spell, pick}
 use Rattle.value.specs.Value.{Value}
-use Rattle.checks.specs.Checks.{word}
+use Rattle.once.specs.Once.{word}
 use Rattle.member.specs.declared.Answer.{Answer}
 use Rattle.member.specs.Part.{partOf}
 use Rattle.member.specs.Member.{nodes, nodeRecords}

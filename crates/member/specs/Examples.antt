@@ -10,10 +10,11 @@ use Rattle.layout.specs.Check.{check}
 use Rattle.units.specs.Units.{in-pixels, in-points}
 use Rattle.value.specs.Value.{Value, ValueIn, RawValueOf, TemplateOf, ArgumentOf}
 use Rattle.sections.specs.Sections.{Front, Header, HeaderFlags, HeaderNumbers}
-use Rattle.checks.specs.Checks.{fresh, product}
+use Rattle.once.specs.Once.{fresh}
+use Rattle.index.specs.Index.{product}
 use Rattle.member.specs.Refused.{memberRule}
 use Rattle.member.specs.Checked.{ended, checked}
-use Rattle.member.specs.Index.{index}
+use Rattle.index.specs.Index.{index}
 
 data Input : Type 0 where
   -- a member, a Value

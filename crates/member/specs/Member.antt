@@ -7,7 +7,8 @@ use Prim.Native.Nat.{ℕ, _+_, _*_, _-_, _^_, _≤_}
 use lib.ListN.{length}
 use Rattle.layout.specs.Layout.{Layout, _▸_, Tree, spell, Valid, All}
 use Rattle.sections.specs.Sections.{Front}
-use Rattle.checks.specs.Checks.{OnceEach, product}
+use Rattle.once.specs.Once.{OnceEach}
+use Rattle.index.specs.Index.{product}
 use Rattle.table.specs.Table.{Dimension, Dimensions, Axes, Cell, Cells}
 use Rattle.table.specs.Rules.{longest}
 use Rattle.table.specs.Records.{total, size, dimNodes, dimLeaves, LeavesOnce, dimsWords, dimsEntries, entryIndex, cellIndex, cellWords, mapAll, rowsWords}

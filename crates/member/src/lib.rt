@@ -17,7 +17,7 @@ ghost use Rattle.member.specs.Whole as whole;
 use cells::AxisCounts;
 use cells::axes::axes;
 use cells::cells::cells as cells_section;
-use checks::product_of;
+use index::product_of;
 use layout::Step;
 use layout::run::skip;
 use sections::front;

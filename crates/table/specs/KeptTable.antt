@@ -12,10 +12,10 @@ use borrow.Author.Tests.{ltb-true, lt-ltb, leb-true, le-leb, eqb-true, eq-eqb}
 use Rattle.layout.specs.Layout.{_▸_, Tree, All, all-none, all-more, pick}
 use Rattle.layout.specs.Conventions.{int32}
 use Rattle.layout.specs.Rule.{onto, KeptAll, Kept}
-use Rattle.checks.specs.declared.Verdict.{Verdict}
-use Rattle.checks.specs.declared.Verdict.the-variants.{Fine, Bad}
-use Rattle.checks.specs.Checks.{OnceEach, AllFresh, Leaf, indexes, fresh, firstBad}
-use Rattle.checks.specs.Laws.{all-fresh, none-bad}
+use Rattle.once.specs.declared.Verdict.{Verdict}
+use Rattle.once.specs.declared.Verdict.the-variants.{Fine, Bad}
+use Rattle.once.specs.Once.{OnceEach, AllFresh, Leaf, indexes, fresh, firstBad}
+use Rattle.once.specs.Laws.{all-fresh, none-bad}
 use Rattle.value.specs.Value.{Value}
 use Rattle.table.specs.Table.{CategoryIn, DimProperties, Dimension, Dimensions, Axes, Cell, Cells}
 use Rattle.table.specs.Records.{Head, total, nodes, size, concatAll, leafIndexes, dimNodes, dimLeaves, LeavesOnce, entryIndex, cellIndex, mapAll}

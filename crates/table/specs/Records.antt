@@ -4,7 +4,7 @@ use Prim.Native.Nat.{ℕ, zero, suc, _+_, _-_, _^_}
 use lib.ListN.{length}
 use Rattle.layout.specs.Layout.{Layout, empty, _▸_, Tree, spell}
 use Rattle.layout.specs.Conventions.{int32}
-use Rattle.checks.specs.Checks.{OnceEach}
+use Rattle.once.specs.Once.{OnceEach}
 use Rattle.value.specs.Value.{Value}
 use Rattle.table.specs.Table.{CategoryOf, CategoryIn, DimProperties, Dimension, Cell}
 

@@ -17,9 +17,6 @@ use crate::Section;
 use crate::Walk;
 use crate::categories;
 use crate::length;
-use checks::Verdict;
-use checks::check_leaves;
-use checks::count_leaves;
 use layout::LITTLE;
 use layout::Step;
 use layout::number::any;
@@ -27,6 +24,9 @@ use layout::number::boolean;
 use layout::number::count;
 use layout::number::fixed;
 use layout::number::peek;
+use once::Verdict;
+use once::check_leaves;
+use once::count_leaves;
 use value::value;
 
 fn properties(s: &[u8], st: Step) -> Step

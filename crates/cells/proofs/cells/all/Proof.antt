@@ -4,7 +4,7 @@ use native.Mathlib.Omega.{arith}
 use borrow.Author.Needs.{needs}
 use lib.ListN.{length, length-set}
 use Rattle.layout.specs.Steps.Slices.{bytes-of}
-use Rattle.checks.specs.Checks.{firsts}
+use Rattle.once.specs.Once.{firsts}
 use Rattle.cells.specs.Rows.{Storing, storing, stores-on, stores-off, stores-to}
 use Rattle.cells.specs.Seen.{Seen, one-seen}
 use Rattle.cells.specs.Cells.{cell-kind, cellOf, added}
