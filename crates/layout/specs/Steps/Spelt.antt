@@ -1,6 +1,6 @@
 -- Bytes that a derivation spells, and what `step` and `peek` give there.
 use mathlib.Core.Path.{_≡_, refl, sym, ap, _∙_}
-use mathlib.Core.Bool.{Bool, true, false}
+use mathlib.Core.Bool.{true}
 use mathlib.Core.List.{List, [], _++_, append-nil, append-assoc}
 use Prim.Native.Nat.{ℕ, _+_, _^_, _≤_, _<_}
 use native.Mathlib.Omega.{arith}
@@ -151,6 +151,20 @@ number-at w test s at n r p f =
       passed = f .valid .1;
       inside = λ h. omega (arith, length-drop at s, long, q);
     }
+
+-- a number that was read, where x was peeked at
+pub record ReadNumber (w : ℕ) (test : Test) (s : List ℕ) (at p x : ℕ) : Type 0 where
+  pub found : Read (field little w test) s at p
+  pub is : found .tree .0 ≡ x
+  pub says : NumberAt w test s at x p
+
+pub read-number : {w : ℕ} {test : Test} {s : List ℕ} {at : ℕ} {st : Step} {p x : ℕ} → Bytes s → Reads (field little w test) s (Next at) st → st ≡ Next p
+    → x ≡ peek little w s (Next at) → ReadNumber w test s at p x
+read-number {w} {test} {s} {at} {p = p} b r e pk =
+    let f = read-on b r e in
+    let n = number-at w test s at (f .tree .0) (drop p s) p (f .there) in
+    let i = sym (pk ∙ n .peeked) in
+    record { found = f; is = i; says = rw i at n }
 
 -- a number by a rule: the number alone, and then what it asks for
 pub number-check : (o : Order) (w : ℕ) (test : Test) (l : ℕ → Layout) (k : (n : ℕ) → Rule (l n)) (s : List ℕ) (at : ℕ)
