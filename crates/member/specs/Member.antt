@@ -3,14 +3,14 @@
 use mathlib.Core.Path.{_≡_}
 use mathlib.Core.Bool.{Bool, true, false}
 use mathlib.Core.List.{List, [], _∷_, _++_}
-use Prim.Native.Nat.{ℕ, _+_, _*_, _-_, _^_, _≤_}
+use Prim.Native.Nat.{ℕ, _+_, _*_, _-_, _≤_}
 use lib.ListN.{length}
+use Rattle.sizes.specs.Sizes.{member-bytes, most-nodes, most-places, node-words, cell-words}
 use Rattle.layout.specs.Layout.{Layout, _▸_, Tree, spell, Valid, All}
 use Rattle.sections.specs.Sections.{Front}
 use Rattle.checks.specs.Checks.{OnceEach, product}
 use Rattle.table.specs.Table.{Dimension, Dimensions, Axes, Cell, Cells}
-use Rattle.table.specs.Rules.{longest}
-use Rattle.table.specs.Records.{total, size, dimNodes, dimLeaves, LeavesOnce, dimsWords, dimsEntries, entryIndex, cellIndex, cellWords, mapAll, rowsWords}
+use Rattle.table.specs.Records.{size, dimNodes, dimLeaves, LeavesOnce, dimsWords, dimsEntries, entryIndex, cellIndex, cellWords, mapAll, rowsWords, sum}
 
 -- ---- the grammar
 
@@ -46,7 +46,7 @@ cells t = t .1 .1
 
 -- the number of category nodes
 abbrev pub nodes : Tree Member → ℕ
-nodes t = total dimNodes (dimensions t)
+nodes t = sum dimNodes (dimensions t)
 
 -- n of each dimension, and their product
 abbrev pub ns : Tree Member → List ℕ
@@ -80,9 +80,9 @@ pub record MemberDerivation (bs : List ℕ) : Type 0 where
   pub ends : Bool
   pub valid : Valid Member tree
   pub spells : spell Member tree ++ final ends ≡ bs
-  pub short : length bs ≤ longest
-  pub few-nodes : nodes tree ≤ 4096
-  pub few-places : places tree ≤ 2 ^ 32 - 1
+  pub short : length bs ≤ member-bytes
+  pub few-nodes : nodes tree ≤ most-nodes
+  pub few-places : places tree ≤ most-places
 
 -- what demand 3 asks of a derivation beside the grammar
 pub record AsDemanded (t : Tree Member) : Type 0 where
@@ -96,6 +96,6 @@ pub record AsDemanded (t : Tree Member) : Type 0 where
   pub inside : OnceEach (places t) (mapAll cellIndex (cells t))
 
 -- the two lent areas are large enough
-pub record LargeEnough (t : Tree Member) (node-words cell-words : ℕ) : Type 0 where
-  pub for-nodes : 6 * nodes t ≤ node-words
-  pub for-cells : 3 * length (cells t) ≤ cell-words
+pub record LargeEnough (t : Tree Member) (node-length cell-length : ℕ) : Type 0 where
+  pub for-nodes : node-words * nodes t ≤ node-length
+  pub for-cells : cell-words * length (cells t) ≤ cell-length

@@ -1,12 +1,13 @@
 -- What a derivation of a category says: its node records, in file order (document 01, "What the caller gets"), and its leaf indexes.
 use mathlib.Core.List.{List, [], _∷_, _++_}
-use Prim.Native.Nat.{ℕ, zero, suc, _+_, _-_, _^_}
+use Prim.Native.Nat.{ℕ, zero, suc, _+_, _-_}
 use lib.ListN.{length}
-use Rattle.layout.specs.Layout.{Layout, empty, _▸_, Tree, spell}
+use Rattle.sizes.specs.Sizes.{category-depth, no-parent}
+use Rattle.layout.specs.Layout.{Layout, empty, _▸_, Tree, spell, spellAll}
 use Rattle.layout.specs.Conventions.{int32}
 use Rattle.checks.specs.Checks.{OnceEach}
 use Rattle.value.specs.Value.{Value}
-use Rattle.table.specs.Table.{CategoryOf, CategoryIn, DimProperties, Dimension, Cell}
+use Rattle.table.specs.Table.{CategoryOf, CategoryIn, DimProperties, Dimension, Cell, Category}
 
 -- a category without what is below it
 abbrev pub Head : Layout
@@ -39,14 +40,14 @@ belowOf (m, (suc k, t)) = t .1 .0
 
 -- ---- nodes
 
-unfoldable pub total : {A : Type 0} → (A → ℕ) → List A → ℕ
-total f [] = 0
-total f (t ∷ ts) = f t + total f ts
+unfoldable pub sum : {A : Type 0} → (A → ℕ) → List A → ℕ
+sum f [] = 0
+sum f (t ∷ ts) = f t + sum f ts
 
 -- the number of nodes, at any depth
 unfoldable pub nodes : (d : ℕ) → Tree (CategoryIn d) → ℕ
 nodes zero t = 0
-nodes (suc d) t = 1 + total (nodes d) (children d t)
+nodes (suc d) t = 1 + sum (nodes d) (children d t)
 
 -- how many bytes a derivation covers
 unfoldable pub size : (g : Layout) → Tree g → ℕ
@@ -57,9 +58,13 @@ unfoldable pub wordsAll : {A : Type 0} → (A → ℕ) → (A → ℕ) → (ℕ 
 wordsAll count size f used at [] = []
 wordsAll count size f used at (t ∷ ts) = f used at t ++ wordsAll count size f (used + count t) (at + size t) ts
 
--- the six words of a node at the place `at`: 0 leaf or 1 group; dimension; parent; place and length of the name; leaf index or children
+-- the words of a node: 0 leaf or 1 group; dimension; parent; place and length of the name; leaf index or children
+abbrev pub nodeRecord : ℕ → ℕ → ℕ → ℕ → ℕ → ℕ → List ℕ
+nodeRecord kind dim par place long word = kind ∷ dim ∷ par ∷ place ∷ long ∷ word ∷ []
+
+-- those of a category at the place `at`
 abbrev pub nodeWords : ℕ → ℕ → ℕ → Tree Head → List ℕ
-nodeWords dim par at h = kindOf h ∷ dim ∷ par ∷ at ∷ size Value (h .0) ∷ wordOf h ∷ []
+nodeWords dim par at h = nodeRecord (kindOf h) dim par at (size Value (h .0)) (wordOf h)
 
 -- the records of a category at the place `at` whose node has the number `used`, in file order
 unfoldable pub treeWords : (d dim par used at : ℕ) → Tree (CategoryIn d) → List ℕ
@@ -70,10 +75,6 @@ treeWords (suc d) dim par used at t =
 
 -- ---- leaves
 
-unfoldable pub concatAll : {A : Type 0} → (A → List ℕ) → List A → List ℕ
-concatAll f [] = []
-concatAll f (t ∷ ts) = f t ++ concatAll f ts
-
 abbrev pub ownIndex : Tree Head → List ℕ
 ownIndex (m, (zero, t)) = t .0 .1 .0 ∷ []
 ownIndex (m, (suc k, t)) = []
@@ -81,17 +82,17 @@ ownIndex (m, (suc k, t)) = []
 -- the leaf indexes of a category, in file order
 unfoldable pub leafIndexes : (d : ℕ) → Tree (CategoryIn d) → List ℕ
 leafIndexes zero t = []
-leafIndexes (suc d) t = ownIndex (front d t) ++ concatAll (leafIndexes d) (children d t)
+leafIndexes (suc d) t = ownIndex (front d t) ++ spellAll (leafIndexes d) (children d t)
 
 -- ---- dimensions
 
 -- the number of nodes of a dimension
 unfoldable pub dimNodes : Tree Dimension → ℕ
-dimNodes t = total (nodes 8) (t .1 .1)
+dimNodes t = sum (nodes category-depth) (t .1 .1)
 
 -- its leaf indexes, in file order. n of a dimension is their number (document 01: its number of leaves at any depth)
 unfoldable pub dimLeaves : Tree Dimension → List ℕ
-dimLeaves t = concatAll (leafIndexes 8) (t .1 .1)
+dimLeaves t = spellAll (leafIndexes category-depth) (t .1 .1)
 
 -- the n leaves of a dimension have the indexes 0 to n-1, once each (document 01, our rule)
 abbrev pub LeavesOnce : Tree Dimension → Type 0
@@ -100,7 +101,7 @@ LeavesOnce t = OnceEach (length (dimLeaves t)) (dimLeaves t)
 -- the node records of dimension i at the place `at`, whose first node has the number `used`. A category of the dimension itself has no parent
 unfoldable pub dimWords : ℕ → ℕ → ℕ → Tree Dimension → List ℕ
 dimWords i used at t =
-    wordsAll (nodes 8) (size (CategoryIn 8)) (treeWords 8 i (2 ^ 32 - 1)) used (at + size (Value ▸ DimProperties) (t .0) + 4) (t .1 .1)
+    wordsAll (nodes category-depth) (size Category) (treeWords category-depth i no-parent) used (at + size (Value ▸ DimProperties) (t .0) + 4) (t .1 .1)
 
 -- place and length of its name, n, first node
 unfoldable pub dimEntry : ℕ → ℕ → Tree Dimension → List ℕ

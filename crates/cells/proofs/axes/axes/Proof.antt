@@ -3,7 +3,7 @@ use native.Mathlib.Omega.{arith}
 use borrow.Author.Needs.{needs}
 use Rattle.layout.specs.Steps.Keeping.{kept-off}
 use Rattle.layout.specs.Steps.Slices.{bytes-of}
-use Rattle.cells.specs.Axes.{no-counts, not-summed, no-entries, the-entries}
+use Rattle.cells.specs.Laws.Axes.{no-counts, not-summed, no-entries, the-entries}
 use Rattle.cells.proofs.axes.axes.Statement.{statement}
 use Rattle.cells.proofs.axes.axes.Tie as tie
 

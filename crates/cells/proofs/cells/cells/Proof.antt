@@ -2,8 +2,8 @@ use native.Mathlib.Omega.{arith}
 use borrow.Author.Needs.{needs}
 use lib.ListN.{length}
 use Rattle.layout.specs.Keeps.{keeps-off}
-use Rattle.table.specs.Within.{too-long, too-short, is-within}
-use Rattle.cells.specs.Cells.{cell-records, cell-room}
+use Rattle.table.specs.Laws.Within.{too-long, too-short, is-within}
+use Rattle.cells.specs.Laws.Cells.{cell-records, cell-room}
 use Rattle.cells.proofs.cells.cells.Statement.{statement}
 use Rattle.cells.proofs.cells.cells.Tie as tie
 

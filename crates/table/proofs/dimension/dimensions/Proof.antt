@@ -2,8 +2,8 @@ use native.Mathlib.Omega.{arith}
 use borrow.Author.Needs.{needs}
 use lib.ListN.{length}
 use Rattle.layout.specs.Keeps.{keeps-off}
-use Rattle.table.specs.Within.{too-long, too-short, is-within}
-use Rattle.table.specs.Dims.{node-records, node-room}
+use Rattle.table.specs.Laws.Within.{too-long, too-short, is-within}
+use Rattle.table.specs.Laws.Dims.{node-records, node-room}
 use Rattle.table.proofs.dimension.dimensions.Statement.{statement}
 use Rattle.table.proofs.dimension.dimensions.Tie as tie
 
