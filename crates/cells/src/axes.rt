@@ -7,19 +7,19 @@ ghost use Rattle.sizes.specs.Sizes.{most-dimensions};
 ghost use Rattle.layout.specs.Rule.{items};
 ghost use Rattle.layout.specs.Check.{check};
 ghost use Rattle.layout.specs.Keeps.{Keeps, Each};
-ghost use Rattle.checks.specs.Checks.{fresh, firsts};
+ghost use Rattle.once.specs.Once.{fresh, firsts};
 ghost use Rattle.table.specs.Rules.{countsRule};
 ghost use Rattle.cells.specs.Laws.Rows.{Row, rowOf, after};
 ghost use Rattle.cells.specs.Laws.Axes as spec;
 use crate::AxesRead;
 use crate::AxisCounts;
 use crate::Entries;
-use crate::at_most;
-use checks::seen_before;
 use layout::LITTLE;
 use layout::Step;
 use layout::number::any;
 use layout::number::peek;
+use once::at_most;
+use once::seen_before;
 use sizes::MOST_DIMENSIONS;
 
 // x is a dimension number that was not named among the first j entries.

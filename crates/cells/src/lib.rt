@@ -1,6 +1,4 @@
 // Axes and cells, and their records.
-ghost use mathlib.Core.Path.{_≡_};
-ghost use Prim.Native.Nat.{min};
 use layout::Step;
 use sizes::MOST_DIMENSIONS;
 
@@ -26,11 +24,4 @@ pub struct AxesRead {
 pub struct Entries {
     pub end: Step,
     pub order: [u32; MOST_DIMENSIONS],
-}
-
-// n, and no more than `most`.
-fn at_most(n: usize, most: usize) -> usize
-    ensures { λ r. ⌜ r ≡ min n most ⌝ }
-{
-    if n <= most { n } else { most }
 }

@@ -13,7 +13,8 @@ use Rattle.layout.specs.Read.{Got, got, no, lead, read, refusal}
 use Rattle.layout.specs.Check.{check}
 use Rattle.value.specs.Value.{FontStyle, CellStyle, StylePair, TemplatePrefix, TemplateString, Modifiers, ValueMod, ArgumentOf, TemplateOf, Form01, Form02, Form03, Form04, Form05, Form06, RawValueOf, ValueIn, Value}
 use Rattle.sections.specs.Sections.{HeaderFlags, HeaderNumbers, Header, Titles, Footnote, Footnotes, AreaFont, AreaColors, AreaMargins, Area, EightAreas, Areas, BordersContent, Borders, PrintSettingsContent, PrintSettings, BreaksContent, TableFlags, TableSettingsContent, TableSettings, Y0, CustomCurrency, X1Start, X1, X2, X1X2, X3, Formats, Front}
-use Rattle.checks.specs.Checks.{fresh, firstBad, product}
+use Rattle.once.specs.Once.{fresh, firstBad}
+use Rattle.index.specs.Index.{product}
 use Rattle.table.specs.Table.{DimProperties}
 use Rattle.table.specs.Records.{sum, nodes as categoryNodes, size, leafIndexes, dimNodes, dimLeaves, mapAll}
 use Rattle.table.specs.Rules.{categoryRule, leavesAll, treeLeaves, leavesOf, dimensionRule, dimensionsRule, entryRule, axesRule, cellRule, cellsRule}

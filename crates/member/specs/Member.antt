@@ -8,7 +8,8 @@ use lib.ListN.{length}
 use Rattle.sizes.specs.Sizes.{member-bytes, most-nodes, most-places, node-words, cell-words}
 use Rattle.layout.specs.Layout.{Layout, _▸_, Tree, spell, Valid, All}
 use Rattle.sections.specs.Sections.{Front}
-use Rattle.checks.specs.Checks.{OnceEach, product}
+use Rattle.once.specs.Once.{OnceEach}
+use Rattle.index.specs.Index.{product}
 use Rattle.table.specs.Table.{Dimension, Dimensions, Axes, Cell, Cells}
 use Rattle.table.specs.Records.{size, dimNodes, dimLeaves, LeavesOnce, dimsWords, dimsEntries, entryIndex, cellIndex, cellWords, mapAll, rowsWords, sum}
 

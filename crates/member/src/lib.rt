@@ -20,7 +20,7 @@ use cells::AxisCounts;
 use cells::LEAST_CELL;
 use cells::axes::axes;
 use cells::cells::cells as cells_section;
-use checks::product_of;
+use index::product_of;
 use layout::Step;
 use layout::run::skip;
 use sections::front;

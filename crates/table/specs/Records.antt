@@ -5,7 +5,7 @@ use lib.ListN.{length}
 use Rattle.sizes.specs.Sizes.{category-depth, no-parent}
 use Rattle.layout.specs.Layout.{Layout, empty, _▸_, Tree, spell, spellAll}
 use Rattle.layout.specs.Conventions.{int32}
-use Rattle.checks.specs.Checks.{OnceEach}
+use Rattle.once.specs.Once.{OnceEach}
 use Rattle.value.specs.Value.{Value}
 use Rattle.table.specs.Table.{CategoryOf, CategoryIn, DimProperties, Dimension, Cell, Category}
 

@@ -23,7 +23,7 @@ use Rattle.layout.specs.Keeps.{Out, on, off, Keeps, keeps-on, keeps-off, Each}
 use Rattle.layout.specs.Laws.{digits-length}
 use Rattle.layout.specs.Steps.Chain.{_◂_}
 use Rattle.layout.specs.Steps.Keeping.{kept-on}
-use Rattle.checks.specs.Checks.{fresh, firsts}
+use Rattle.once.specs.Once.{fresh, firsts}
 use Rattle.table.specs.Table.{Axes}
 use Rattle.table.specs.Records.{size, entryIndex, mapAll, rowsWords, sum}
 use Rattle.table.specs.Rules.{entryRule, threeRule, countsRule}

@@ -22,8 +22,8 @@ use Rattle.layout.specs.Laws.{digits-length}
 use Rattle.layout.specs.Keeps.{Out, on, off, Keeps, keeps-on, keeps-off, Each}
 use Rattle.layout.specs.Steps.Keeping.{kept-on}
 use Rattle.value.specs.Value.{Value}
-use Rattle.checks.specs.Checks.{word, fresh, firsts}
-use Rattle.checks.specs.Laws.{is-fresh}
+use Rattle.once.specs.Once.{word, fresh, firsts}
+use Rattle.once.specs.Laws.{is-fresh}
 use Rattle.table.specs.declared.Walk.{Walk}
 use Rattle.table.specs.declared.Walk.the-variants as walk
 use Rattle.table.specs.Table.{Cell, Cells}

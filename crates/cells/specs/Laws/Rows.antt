@@ -15,7 +15,7 @@ use Rattle.layout.specs.Rule.{Rule, items}
 use Rattle.layout.specs.Check.{check}
 use Rattle.layout.specs.Keeps.{Out, on, off, Keeps, Each, each-none, each-more}
 use Rattle.layout.specs.Steps.Keeping.{kept-on, kept-off, Going, going, goes-on, goes-no, goes-to}
-use Rattle.checks.specs.Checks.{word, firsts}
+use Rattle.once.specs.Once.{word, firsts}
 use Rattle.table.specs.Records.{sum, mapAll, rowsWords}
 use Rattle.table.specs.Laws.Words.{sets-append}
 

@@ -6,7 +6,7 @@ use Prim.Native.Nat.{ℕ, _≤_, _<_}
 use borrow.Author.Tests.{ltb-true, ltb-false}
 use lib.ListN.{length, set, replicate, length-set, length-replicate}
 use lib.Dec.{ltb}
-use Rattle.checks.specs.Marks.{Below, higher, Marks, no-marks, marked, unmarked}
+use Rattle.once.specs.Laws.Marks.{Below, higher, Marks, no-marks, marked, unmarked}
 use Rattle.layout.specs.Layout.{all-none, all-more}
 use Rattle.table.specs.Laws.Words.{set-past}
 

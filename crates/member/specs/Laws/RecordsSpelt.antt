@@ -15,7 +15,7 @@ use Rattle.sizes.specs.Sizes.{node-words, cell-words, dimension-words}
 use Rattle.layout.specs.Layout.{little, _▸_, Tree, digits, spellAll, spell, pick}
 use Rattle.value.specs.Value.{Value}
 use Rattle.sections.specs.Sections.{Front}
-use Rattle.checks.specs.Checks.{word}
+use Rattle.once.specs.Once.{word}
 use Rattle.table.specs.Table.{Dimension, Dimensions, Axes, Cell, Cells}
 use Rattle.table.specs.Records.{size}
 use Rattle.table.specs.Laws.RecordsPoint.{categoryNames, dimName, cellValue, all-names, Points, Pointing, words-of, record-of, after-digits, dims-point, entries-point, cells-point}

@@ -19,7 +19,8 @@ use Rattle.layout.specs.Reads.{Reads}
 use Rattle.layout.specs.Keeps.{Out, on, off, Keeps, keeps-on, keeps-off}
 use Rattle.layout.specs.Steps.Keeping.{Reached, kept-on, kept-off}
 use Rattle.sections.specs.Sections.{Front}
-use Rattle.checks.specs.Checks.{word, sizes, product}
+use Rattle.once.specs.Once.{word}
+use Rattle.index.specs.Index.{sizes, product}
 use Rattle.table.specs.Table.{Dimension, Dimensions, Axes, Cell, Cells}
 use Rattle.table.specs.Records.{size, dimNodes, dimLeaves, dimEntry, dimsWords, dimsEntries, entryIndex, cellWords, mapAll, rowsWords}
 use Rattle.table.specs.Rules.{dimensionsRule, placesOf, countsRule, axesRule, cellsRule}

@@ -19,9 +19,9 @@ use Rattle.layout.specs.Laws.{digits-length}
 use Rattle.layout.specs.Steps.Chain.{_◂_}
 use Rattle.layout.specs.Steps.Keeping.{kept-on, kept-off, Going, going, goes-on, goes-no, goes-to}
 use Rattle.value.specs.Value.{Value}
-use Rattle.checks.specs.declared.Verdict.{Verdict}
-use Rattle.checks.specs.declared.Verdict.the-variants.{Fine, Bad}
-use Rattle.checks.specs.Checks.{Leaf, leaves, firstBad}
+use Rattle.once.specs.declared.Verdict.{Verdict}
+use Rattle.once.specs.declared.Verdict.the-variants.{Fine, Bad}
+use Rattle.once.specs.Once.{Leaf, leaves, firstBad}
 use Rattle.table.specs.declared.Walk.{Walk}
 use Rattle.table.specs.declared.Walk.the-variants as walk
 use Rattle.table.specs.declared.Section.{Section}

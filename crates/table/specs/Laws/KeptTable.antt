@@ -13,10 +13,10 @@ use Rattle.sizes.specs.Sizes.{most-nodes, category-depth, most-places}
 use Rattle.layout.specs.Layout.{_▸_, Tree, All, all-none, all-more, pick, spellAll}
 use Rattle.layout.specs.Conventions.{int32}
 use Rattle.layout.specs.Rule.{onto, KeptAll, Kept}
-use Rattle.checks.specs.declared.Verdict.{Verdict}
-use Rattle.checks.specs.declared.Verdict.the-variants.{Fine, Bad}
-use Rattle.checks.specs.Checks.{OnceEach, AllFresh, Leaf, indexes, fresh, firstBad}
-use Rattle.checks.specs.Laws.{all-fresh, none-bad}
+use Rattle.once.specs.declared.Verdict.{Verdict}
+use Rattle.once.specs.declared.Verdict.the-variants.{Fine, Bad}
+use Rattle.once.specs.Once.{OnceEach, AllFresh, Leaf, indexes, fresh, firstBad}
+use Rattle.once.specs.Laws.{all-fresh, none-bad}
 use Rattle.value.specs.Value.{Value}
 use Rattle.table.specs.Table.{CategoryIn, DimProperties, Dimension, Dimensions, Axes, Cell, Cells, Category}
 use Rattle.table.specs.Records.{Head, sum, nodes, size, leafIndexes, dimNodes, dimLeaves, LeavesOnce, entryIndex, cellIndex, mapAll}

@@ -9,9 +9,9 @@ use lib.Seq.{getD-drop, drop-drop, sets}
 use lib.Dec.{eqb}
 use Rattle.sizes.specs.Sizes.{most-nodes, category-depth, node-words}
 use Rattle.layout.specs.Layout.{Tree, pick}
-use Rattle.checks.specs.declared.Verdict.{Verdict}
-use Rattle.checks.specs.declared.Verdict.the-variants.{Fine, Bad}
-use Rattle.checks.specs.Checks.{word, Leaf, leaf, isLeaf, leaves, fresh, firstBad}
+use Rattle.once.specs.declared.Verdict.{Verdict}
+use Rattle.once.specs.declared.Verdict.the-variants.{Fine, Bad}
+use Rattle.once.specs.Once.{word, Leaf, leaf, isLeaf, leaves, fresh, firstBad}
 use Rattle.value.specs.Value.{Value}
 use Rattle.table.specs.Table.{CategoryIn, Category}
 use Rattle.table.specs.Records.{Head, sum, nodes, size, wordsAll, treeWords}

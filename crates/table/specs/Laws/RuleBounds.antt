@@ -13,9 +13,9 @@ use Rattle.layout.specs.Rule.{Rule}
 use Rattle.layout.specs.Laws.{digits-length}
 use Rattle.layout.specs.Laws.Bounds.{Numbered, PlacesInside}
 use Rattle.value.specs.Value.{Value}
-use Rattle.checks.specs.declared.Verdict.the-variants.{Bad}
-use Rattle.checks.specs.Checks.{fresh, firstBad}
-use Rattle.checks.specs.Checks as checks
+use Rattle.once.specs.declared.Verdict.the-variants.{Bad}
+use Rattle.once.specs.Once.{fresh, firstBad}
+use Rattle.once.specs.Once as once
 use Rattle.table.specs.Table.{CategoryIn, DimProperties, Dimension, Category}
 use Rattle.table.specs.Records.{Head, sum, size}
 use Rattle.table.specs.Rules.{kindRule, categoryRule, leavesAll, treeLeaves, leavesOf, placeOf, dimensionRule, dimensionsRule, entryRule, axesRule, cellRule, cellsRule}
@@ -52,14 +52,14 @@ cells-numbered places = λ n done. ((refl, tt), λ _. tt)
 -- ---- places
 
 -- no leaf's place is past m
-abbrev UpTo : ℕ → List checks.Leaf → Type 0
+abbrev UpTo : ℕ → List once.Leaf → Type 0
 UpTo m ls = All (λ l. l .1 ≤ m) ls
 
-both-up-to : {m : ℕ} {ls ls′ : List checks.Leaf} → UpTo m ls → UpTo m ls′ → UpTo m (ls ++ ls′)
+both-up-to : {m : ℕ} {ls ls′ : List once.Leaf} → UpTo m ls → UpTo m ls′ → UpTo m (ls ++ ls′)
 both-up-to all-none q = q
 both-up-to (all-more h hs) q = all-more h (both-up-to hs q)
 
-all-up-to : {A : Type 0} (m : ℕ) (sz : A → ℕ) (f : ℕ → A → List checks.Leaf) → ((at : ℕ) (t : A) → at + sz t ≤ m → UpTo m (f at t))
+all-up-to : {A : Type 0} (m : ℕ) (sz : A → ℕ) (f : ℕ → A → List once.Leaf) → ((at : ℕ) (t : A) → at + sz t ≤ m → UpTo m (f at t))
     → (at : ℕ) (ts : List A) → at + sum sz ts ≤ m → UpTo m (leavesAll sz f at ts)
 unfolding leavesAll sum
 all-up-to m sz f h at [] l = all-none
@@ -81,7 +81,7 @@ leaves-up-to t =
     (omega (arith, size-dimension t))
 
 -- the place of a bad leaf is that of one of them
-bad-up-to : (m n : ℕ) (seen : List ℕ) {ls : List checks.Leaf} → UpTo m ls → (q : ℕ) → placeOf (firstBad n seen ls) ≡ some q → q ≤ m
+bad-up-to : (m n : ℕ) (seen : List ℕ) {ls : List once.Leaf} → UpTo m ls → (q : ℕ) → placeOf (firstBad n seen ls) ≡ some q → q ≤ m
 unfolding firstBad pick
 bad-up-to m n seen all-none q e = let z : _≡_ {A = ℕ} 0 1 = cc in absurd (omega arith)
 bad-up-to m n seen (all-more {x} {xs} h hs) q e = go (fresh n seen (x .0)) e (bad-up-to m n (x .0 ∷ seen) hs q)

@@ -7,7 +7,7 @@ use Rattle.layout.specs.Rule.{Rule}
 use Rattle.layout.specs.Read.{Got, got, no, read, refusal}
 use Rattle.layout.specs.Check.{check}
 use Rattle.value.specs.Value.{Value, ValueIn, RawValueOf, TemplateOf, ArgumentOf}
-use Rattle.checks.specs.Checks.{fresh}
+use Rattle.once.specs.Once.{fresh}
 use Rattle.table.specs.Records.{mapAll}
 use Rattle.table.specs.Rules.{entryRule, countsRule, cellRule}
 

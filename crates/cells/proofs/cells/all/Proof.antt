@@ -5,7 +5,7 @@ use borrow.Author.Needs.{needs}
 use lib.ListN.{length, length-set}
 use Rattle.sizes.specs.Sizes.{cell-words}
 use Rattle.layout.specs.Steps.Slices.{bytes-of}
-use Rattle.checks.specs.Checks.{firsts}
+use Rattle.once.specs.Once.{firsts}
 use Rattle.cells.specs.Laws.Rows.{Storing, storing, stores-on, stores-off, stores-to}
 use Rattle.cells.specs.Laws.Seen.{Seen, one-seen}
 use Rattle.cells.specs.Laws.Cells.{cell-kind, cellOf, added}

@@ -2,7 +2,7 @@ use mathlib.Core.Path.{_≡_, sym}
 use Prim.Native.Nat.{min}
 use native.Mathlib.Omega.{arith}
 use Rattle.sizes.specs.Sizes.{most-cells}
-use Rattle.checks.specs.Marks.{not-among}
+use Rattle.once.specs.Laws.Marks.{not-among}
 use Rattle.cells.proofs.Tests.{fresh-below, fresh-if, fresh-above}
 use Rattle.cells.proofs.cells.is_fresh.Statement.{statement}
 use Rattle.cells.proofs.cells.is_fresh.Tie as tie
