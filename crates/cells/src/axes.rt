@@ -96,7 +96,8 @@ fn adds_up(layers: u64, rows: u64, columns: u64, d: u64) -> bool
 
 // The axes of a table of d dimensions; a larger number counts as `MOST_DIMENSIONS`.
 pub fn axes(s: &[u8], at: usize, d: usize) -> AxesRead
-    ensures { λ r. ⌜ Keeps (now (s .entry)) spec.AllAxes (check (countsRule (min d most-dimensions)) (drop at (now (s .entry))) at) (spec.axesOf (r .counts) (r .order)) ⌝ }
+    ensures axes { λ r. ⌜ Keeps (now (s .entry)) spec.AllAxes (check (countsRule (min d most-dimensions)) (drop at (now (s .entry))) at) (spec.axesOut (r .counts) (r .order)) ⌝ }
+    ensures refused { λ r. ⌜ spec.Cleared (r .counts) (r .order) ⌝ }
 {
     let d = at_most(d, MOST_DIMENSIONS);
     let layers = peek(s, Step::Next(at), LITTLE, 4);
@@ -118,7 +119,7 @@ pub fn axes(s: &[u8], at: usize, d: usize) -> AxesRead
                 match end {
                     Step::Refused(r, p) => AxesRead {
                         counts: AxisCounts::Refused(r, p),
-                        order,
+                        order: [0u32; MOST_DIMENSIONS],
                     },
                     Step::Next(p) => AxesRead {
                         counts: AxisCounts::Of(

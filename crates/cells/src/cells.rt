@@ -8,11 +8,10 @@ ghost use Rattle.layout.specs.Check.{check};
 ghost use Rattle.layout.specs.Keeps.{Keeps};
 ghost use Rattle.once.specs.Once.{fresh, firsts};
 ghost use Rattle.table.specs.Rules.{cellsRule};
-ghost use Rattle.table.specs.Laws.Within.{needed, within};
+ghost use Rattle.table.specs.Laws.Within.{Room, Scratch, needed, within};
 ghost use Rattle.cells.specs.Laws.Rows.{Row, rowOf};
 ghost use Rattle.cells.specs.Laws.Seen.{Seen};
 ghost use Rattle.cells.specs.Laws.Cells as spec;
-ghost use Rattle.cells.specs.Laws.Cells.{CellRoom};
 use crate::LEAST_CELL;
 use layout::LITTLE;
 use layout::Step;
@@ -126,7 +125,7 @@ fn cell(
 
 // n cells, in a table of so many places.
 fn all(s: &[u8], at: usize, places: u32, n: usize, marks: &mut [u8], words: &mut [u32]) -> Step
-    requires { ⌜ (n ≤ most-cells) × (length (now s) ≤ member-bytes) × CellRoom (length (now words)) (now s) × Seen 0 (now marks) [] ⌝ }
+    requires { ⌜ (n ≤ most-cells) × (length (now s) ≤ member-bytes) × Room spec.cell-records (length (now words)) (now s) × Seen 0 (now marks) [] ⌝ }
     ensures { λ r. ⌜ spec.AllRead (now (s .entry)) at places n (now (words .entry)) r (now (words .exit)) ⌝ }
 {
     let mut at = at;
@@ -151,7 +150,7 @@ fn all(s: &[u8], at: usize, places: u32, n: usize, marks: &mut [u8], words: &mut
 
 // Few cells have fewer marks, which are sooner cleared.
 fn with_short_marks(s: &[u8], at: usize, places: u32, n: usize, words: &mut [u32]) -> Step
-    requires { ⌜ (n ≤ most-cells) × (length (now s) ≤ member-bytes) × CellRoom (length (now words)) (now s) ⌝ }
+    requires { ⌜ (n ≤ most-cells) × (length (now s) ≤ member-bytes) × Room spec.cell-records (length (now words)) (now s) ⌝ }
     ensures { λ r. ⌜ spec.AllRead (now (s .entry)) at places n (now (words .entry)) r (now (words .exit)) ⌝ }
 {
     let mut marks = [0u8; SHORT_MARKS];
@@ -159,7 +158,7 @@ fn with_short_marks(s: &[u8], at: usize, places: u32, n: usize, words: &mut [u32
 }
 
 fn with_long_marks(s: &[u8], at: usize, places: u32, n: usize, words: &mut [u32]) -> Step
-    requires { ⌜ (n ≤ most-cells) × (length (now s) ≤ member-bytes) × CellRoom (length (now words)) (now s) ⌝ }
+    requires { ⌜ (n ≤ most-cells) × (length (now s) ≤ member-bytes) × Room spec.cell-records (length (now words)) (now s) ⌝ }
     ensures { λ r. ⌜ spec.AllRead (now (s .entry)) at places n (now (words .entry)) r (now (words .exit)) ⌝ }
 {
     let mut marks = [0u8; LONG_MARKS];
@@ -167,7 +166,7 @@ fn with_long_marks(s: &[u8], at: usize, places: u32, n: usize, words: &mut [u32]
 }
 
 fn with_marks(s: &[u8], at: usize, places: u32, n: usize, words: &mut [u32]) -> Step
-    requires { ⌜ (n ≤ most-cells) × (length (now s) ≤ member-bytes) × CellRoom (length (now words)) (now s) ⌝ }
+    requires { ⌜ (n ≤ most-cells) × (length (now s) ≤ member-bytes) × Room spec.cell-records (length (now words)) (now s) ⌝ }
     ensures { λ r. ⌜ spec.AllRead (now (s .entry)) at places n (now (words .entry)) r (now (words .exit)) ⌝ }
 {
     if n <= FEW_CELLS {
@@ -179,8 +178,8 @@ fn with_marks(s: &[u8], at: usize, places: u32, n: usize, words: &mut [u32]) -> 
 
 // The section, in a member that is no longer than members are, with room for its records.
 fn section(s: &[u8], at: usize, places: u32, words: &mut [u32]) -> Walk
-    requires { ⌜ (length (now s) ≤ member-bytes) × CellRoom (length (now words)) (now s) ⌝ }
-    ensures { λ r. ⌜ Keeps (now (s .entry)) (spec.AllCells at (now (words .entry))) (check (cellsRule places) (drop at (now (s .entry))) at) (spec.cellsOf r (now (words .exit))) ⌝ }
+    requires { ⌜ (length (now s) ≤ member-bytes) × Room spec.cell-records (length (now words)) (now s) ⌝ }
+    ensures { λ r. ⌜ Keeps (now (s .entry)) (spec.AllCells at (now (words .entry))) (check (cellsRule places) (drop at (now (s .entry))) at) (spec.cellsOut r (now (words .exit))) ⌝ }
 {
     let n = peek(s, Step::Next(at), LITTLE, 4);
     match count(s, Step::Next(at), LIMIT) {
@@ -207,7 +206,8 @@ fn most_words(n: usize) -> usize
 // The number of cells at a position, and the cells of a table of so many places: where they end, and how many they are. Refused besides:
 // more bytes than a member has, 1 at 0; a list that is too short for the cell records of so many bytes, 13 at 0.
 pub fn cells(s: &[u8], at: usize, places: u32, words: &mut [u32]) -> Walk
-    ensures { λ r. ⌜ Keeps (now (s .entry)) (spec.AllCells at (now (words .entry))) (within spec.cell-records (now (s .entry)) (length (now (words .entry))) (check (cellsRule places) (drop at (now (s .entry))) at)) (spec.cellsOf r (now (words .exit))) ⌝ }
+    ensures cells { λ r. ⌜ Keeps (now (s .entry)) (spec.AllCells at (now (words .entry))) (within spec.cell-records (now (s .entry)) (length (now (words .entry))) (check (cellsRule places) (drop at (now (s .entry))) at)) (spec.cellsOut r (now (words .exit))) ⌝ }
+    ensures scratch { λ _. ⌜ Scratch (now (words .entry)) (now (words .exit)) ⌝ }
 {
     if MEMBER_BYTES < s.len() {
         return Walk::Refused(1, 0);

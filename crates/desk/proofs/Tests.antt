@@ -4,7 +4,7 @@ use mathlib.Core.List.{List, []}
 use Prim.Native.Nat.{ℕ, _+_, _*_, _≤_, _<_}
 use lib.ListN.{length, take, getD}
 use borrow.Author.Tests.{le-leb, lt-leb}
-use Rattle.sizes.specs.Sizes.{node-words}
+use Rattle.sizes.specs.Sizes.{node-words, name-place, name-length}
 use Rattle.layout.specs.Layout.{pick}
 use Rattle.member.specs.Part.{partOf}
 use Rattle.desk.specs.Desk.{filledOf, nameOf}
@@ -17,8 +17,8 @@ pub too-few : (area : List ℕ) (count : ℕ) → length area < node-words * cou
 unfolding filledOf pick
 too-few area count h = rw (lt-leb (node-words * count) (length area) h)
 
-pub points-to : (member nodes : List ℕ) (i : ℕ) {place n : ℕ} → node-words * (i + 1) ≤ length nodes → place ≡ getD nodes (node-words * i + 3) 0
-    → n ≡ getD nodes (node-words * i + 4) 0 → partOf member place n ≡ nameOf member nodes i
+pub points-to : (member nodes : List ℕ) (i : ℕ) {place n : ℕ} → node-words * (i + 1) ≤ length nodes → place ≡ getD nodes (node-words * i + name-place) 0
+    → n ≡ getD nodes (node-words * i + name-length) 0 → partOf member place n ≡ nameOf member nodes i
 unfolding nameOf pick
 points-to member nodes i h p q = rw (le-leb (node-words * (i + 1)) (length nodes) h, p, q)
 

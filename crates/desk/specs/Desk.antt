@@ -4,7 +4,7 @@ use mathlib.Core.List.{List, []}
 use Prim.Native.Nat.{ℕ, _+_, _*_}
 use lib.ListN.{length, take, getD}
 use lib.Dec.{leb}
-use Rattle.sizes.specs.Sizes.{node-words}
+use Rattle.sizes.specs.Sizes.{node-words, name-place, name-length}
 use Rattle.layout.specs.Layout.{pick}
 use Rattle.member.specs.Part.{partOf}
 
@@ -12,7 +12,7 @@ use Rattle.member.specs.Part.{partOf}
 unfoldable pub filledOf : List ℕ → ℕ → List ℕ
 filledOf area count = pick (leb (node-words * count) (length area)) (take (node-words * count) area) []
 
--- words 3 and 4 of record i are the place and length of its name (document 01, "What the caller gets")
+-- record i has the place and the length of its name (document 01, "What the caller gets")
 unfoldable pub nameOf : List ℕ → List ℕ → ℕ → List ℕ
 nameOf member nodes i =
-    pick (leb (node-words * (i + 1)) (length nodes)) (partOf member (getD nodes (node-words * i + 3) 0) (getD nodes (node-words * i + 4) 0)) []
+    pick (leb (node-words * (i + 1)) (length nodes)) (partOf member (getD nodes (node-words * i + name-place) 0) (getD nodes (node-words * i + name-length) 0)) []

@@ -8,7 +8,7 @@ use lib.ListN.{length, take, drop, getD, length-append, length-take}
 use lib.Seq.{take-at}
 use lib.Dec.{leb}
 use borrow.Author.Tests.{le-leb, lt-leb}
-use Rattle.sizes.specs.Sizes.{node-words}
+use Rattle.sizes.specs.Sizes.{node-words, name-place, name-length}
 use Rattle.layout.specs.Layout.{pick}
 use Rattle.member.specs.declared.Answer.{Answer}
 use Rattle.member.specs.Part.{partOf}
@@ -55,10 +55,10 @@ same true l = refl
 same false l = refl
 
 -- a record that points outside the member
-pub outside : (member ns : List ℕ) (i : ℕ) → length member < getD ns (node-words * i + 3) 0 + getD ns (node-words * i + 4) 0 → nameOf member ns i ≡ []
+pub outside : (member ns : List ℕ) (i : ℕ) → length member < getD ns (node-words * i + name-place) 0 + getD ns (node-words * i + name-length) 0 → nameOf member ns i ≡ []
 unfolding nameOf partOf pick
 outside member ns i h =
-    rw (lt-leb (getD ns (node-words * i + 3) 0 + getD ns (node-words * i + 4) 0) (length member) h) (same (leb (node-words * (i + 1)) (length ns)) [])
+    rw (lt-leb (getD ns (node-words * i + name-place) 0 + getD ns (node-words * i + name-length) 0) (length member) h) (same (leb (node-words * (i + 1)) (length ns)) [])
 
 -- after a call of `read_member` that accepts, the names are those of the derivation's records
 pub of-the-derivation : {bs nodes₀ cells₀ : List ℕ} {r : Answer} {nodes₁ cells₁ : List ℕ}

@@ -3,6 +3,8 @@
 ghost use mathlib.Core.Path.{_≡_};
 ghost use Rattle.desk.specs.Desk.{filledOf, nameOf};
 use member::part;
+use sizes::NAME_LENGTH;
+use sizes::NAME_PLACE;
 use sizes::NODE_WORDS;
 
 // The lent member, and of the node area only the words filled.
@@ -37,7 +39,11 @@ fn name_of<'a, 'b>(member: &'a [u8], nodes: &'b [u32], i: usize) -> &'a [u8]
 {
     if i < nodes.len() / NODE_WORDS {
         let at = NODE_WORDS * i;
-        part(member, wide(nodes[at + 3]), wide(nodes[at + 4]))
+        part(
+            member,
+            wide(nodes[at + NAME_PLACE]),
+            wide(nodes[at + NAME_LENGTH]),
+        )
     } else {
         &member[..0]
     }

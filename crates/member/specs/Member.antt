@@ -11,7 +11,7 @@ use Rattle.sections.specs.Sections.{Front}
 use Rattle.once.specs.Once.{OnceEach}
 use Rattle.index.specs.Index.{product}
 use Rattle.table.specs.Table.{Dimension, Dimensions, Axes, Cell, Cells}
-use Rattle.table.specs.Records.{size, dimNodes, dimLeaves, LeavesOnce, dimsWords, dimsEntries, entryIndex, cellIndex, cellWords, mapAll, rowsWords, sum}
+use Rattle.table.specs.Records.{size, dimNodes, dimLeaves, LeavesOnce, dimsWords, dimsEntries, entryIndex, cellIndex, cellWords, mapAll, rowsWords, sum, dimsOf, axisLayers, axisRows, axisColumns, axisEntries, cellsOf}
 
 -- ---- the grammar
 
@@ -26,24 +26,37 @@ final false = []
 
 -- ---- what a derivation says
 
+-- its sections
+abbrev pub frontSection : Tree Member → Tree Front
+frontSection t = t .0 .0 .0
+
+abbrev pub dimensionsSection : Tree Member → Tree Dimensions
+dimensionsSection t = t .0 .0 .1
+
+abbrev pub axesSection : Tree Member → Tree Axes
+axesSection t = t .0 .1
+
+abbrev pub cellsSection : Tree Member → Tree Cells
+cellsSection t = t .1
+
 abbrev pub dimensions : Tree Member → List (Tree Dimension)
-dimensions t = t .0 .0 .1 .1
+dimensions t = dimsOf (dimensionsSection t)
 
 abbrev pub layers : Tree Member → ℕ
-layers t = t .0 .1 .0
+layers t = axisLayers (axesSection t)
 
 abbrev pub rows : Tree Member → ℕ
-rows t = t .0 .1 .1 .0
+rows t = axisRows (axesSection t)
 
 abbrev pub columns : Tree Member → ℕ
-columns t = t .0 .1 .1 .1 .0
+columns t = axisColumns (axesSection t)
 
 -- the axis entries: layers, then rows, then columns
 abbrev pub order : Tree Member → List ℕ
-order t = let e = t .0 .1 .1 .1 .1 in mapAll entryIndex (e .0 .0 ++ e .0 .1 ++ e .1)
+order t = mapAll entryIndex (axisEntries (axesSection t))
 
 abbrev pub cells : Tree Member → List (Tree Cell)
-cells t = t .1 .1
+cells t = cellsOf (cellsSection t)
 
 -- the number of category nodes
 abbrev pub nodes : Tree Member → ℕ
@@ -58,7 +71,7 @@ places t = product (ns t)
 
 -- where the first dimension and the first cell start
 abbrev pub dimensionsAt : Tree Member → ℕ
-dimensionsAt t = size Front (t .0 .0 .0) + 4
+dimensionsAt t = size Front (frontSection t) + 4
 
 abbrev pub cellsStart : Tree Member → ℕ
 cellsStart t = size (Front ▸ Dimensions ▸ Axes) (t .0) + 4

@@ -10,6 +10,7 @@ use Rattle.layout.specs.Rule.{Rule, plain, _▸▸_, Kept, Breaks}
 use Rattle.sections.specs.Sections.{Front}
 use Rattle.table.specs.Rules.{dimensionsRule, placesOf, axesRule, cellsRule}
 use Rattle.member.specs.Member.{Member, nodes, cells, MemberDerivation, AsDemanded}
+use Rattle.table.specs.Records.{dimsOf}
 
 -- Where document 01's rows stand. `layout` is in layout/specs, `table` in table/specs:
 --
@@ -34,7 +35,7 @@ use Rattle.member.specs.Member.{Member, nodes, cells, MemberDerivation, 
 
 -- the member's sections in their order, each with its tests: `Front` is Header to Formats, which the layout tests alone
 unfoldable pub memberRule : Rule Member
-memberRule = plain Front ▸▸ (λ _. dimensionsRule) ▸▸ (λ t. axesRule (t .1 .1)) ▸▸ (λ t. cellsRule (placesOf (t .0 .1 .1)))
+memberRule = plain Front ▸▸ (λ _. dimensionsRule) ▸▸ (λ t. axesRule (dimsOf (t .1))) ▸▸ (λ t. cellsRule (placesOf (dimsOf (t .0 .1))))
 
 -- Refused bs n p: the bytes get refusal n, at the place p. "Order: 1, then the file from front to back, ... then 11"
 pub data Refused (bs : List ℕ) : ℕ → ℕ → Type 0 where

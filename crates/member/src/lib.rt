@@ -8,7 +8,7 @@ ghost use Rattle.layout.specs.Keeps.{Keeps};
 ghost use Rattle.layout.specs.Check.{check};
 ghost use Rattle.table.specs.Rules.{cellsRule};
 ghost use Rattle.table.specs.Laws.Within.{needed};
-ghost use Rattle.cells.specs.Laws.Cells.{AllCells, cellsOf, cell-records};
+ghost use Rattle.cells.specs.Laws.Cells.{AllCells, cellsOut, cell-records};
 ghost use Rattle.member.specs.Answer as spec;
 ghost use Rattle.member.specs.Answer.{Delivered};
 ghost use Rattle.member.specs.Demand3.{Demand3};
@@ -89,7 +89,7 @@ fn ending(s: &[u8], at: usize) -> Step
 // The cells of a table of so many places, and the end.
 fn cells_and_end(s: &[u8], at: usize, places: u32, words: &mut [u32]) -> Walk
     requires { ⌜ (length (now s) ≤ member-bytes) × (needed cell-records (length (now s)) ≤ length (now words)) ⌝ }
-    ensures { λ r. ⌜ Keeps (now (s .entry)) (AllCells at (now (words .entry))) (ended (check (cellsRule places) (drop at (now (s .entry))) at)) (cellsOf r (now (words .exit))) ⌝ }
+    ensures { λ r. ⌜ Keeps (now (s .entry)) (AllCells at (now (words .entry))) (ended (check (cellsRule places) (drop at (now (s .entry))) at)) (cellsOut r (now (words .exit))) ⌝ }
 {
     match cells_section(s, at, places, words) {
         Walk::Refused(r, p) => Walk::Refused(r, p),
@@ -232,7 +232,7 @@ fn read_with_lists(
     nodes: &mut [u32],
     cells: &mut [u32],
 ) -> Answer
-    requires { ⌜ whole.Roomy (now member) (now «node_list») (now «cell_list») ⌝ }
+    requires { ⌜ whole.ReadyLists (now member) (now «node_list») (now «cell_list») ⌝ }
     ensures { λ r. ⌜ Delivered (checked (now (member .entry))) (now (nodes .entry)) (now (cells .entry)) r (now (nodes .exit)) (now (cells .exit)) ⌝ }
 {
     let mut dims = [0u32; DIMENSION_AREA];

@@ -12,8 +12,7 @@ ghost use Rattle.layout.specs.Keeps.{Keeps, Each};
 ghost use Rattle.table.specs.Table as grammar;
 ghost use Rattle.table.specs.Rules.{dimensionRule, dimensionsRule};
 ghost use Rattle.table.specs.Laws.Dims as spec;
-ghost use Rattle.table.specs.Laws.Dims.{NodeRoom};
-ghost use Rattle.table.specs.Laws.Within.{needed, within};
+ghost use Rattle.table.specs.Laws.Within.{Room, Scratch, needed, within};
 ghost use Rattle.table.specs.Laws.LeastBytes.{least-category};
 use crate::LEAST_CATEGORY;
 use crate::Section;
@@ -119,8 +118,8 @@ fn dimension(
     nodes: &mut [u32],
     dims: &mut [u32; DIMENSION_AREA],
 ) -> Walk
-    requires { ⌜ (i < most-dimensions) × (length (now s) ≤ member-bytes) × (used ≤ most-nodes) × (least-category * used ≤ at) × NodeRoom (length (now nodes)) (now s) ⌝ }
-    ensures { λ r. ⌜ Keeps (now (s .entry)) (spec.Dim at (spec.kept i used (now (nodes .entry)) (now (dims .entry)))) (check (dimensionRule used) (drop at (now (s .entry))) at) (spec.dimsOf (i + 1) r (now (nodes .exit)) (now (dims .exit))) ⌝ }
+    requires { ⌜ (i < most-dimensions) × (length (now s) ≤ member-bytes) × (used ≤ most-nodes) × (least-category * used ≤ at) × Room spec.node-records (length (now nodes)) (now s) ⌝ }
+    ensures { λ r. ⌜ Keeps (now (s .entry)) (spec.Dim at (spec.kept i used (now (nodes .entry)) (now (dims .entry)))) (check (dimensionRule used) (drop at (now (s .entry))) at) (spec.dimsOut (i + 1) r (now (nodes .exit)) (now (dims .exit))) ⌝ }
 {
     let name = value(s, Step::Next(at));
     let before = properties(s, name);
@@ -145,8 +144,8 @@ fn dimension(
 
 // n dimensions.
 fn all(s: &[u8], at: usize, n: usize, nodes: &mut [u32], dims: &mut [u32; DIMENSION_AREA]) -> Walk
-    requires { ⌜ (n ≤ most-dimensions) × (length (now s) ≤ member-bytes) × NodeRoom (length (now nodes)) (now s) ⌝ }
-    ensures { λ r. ⌜ Keeps (now (s .entry)) (Each spec.Dim at (spec.kept 0 0 (now (nodes .entry)) (now (dims .entry)))) (check (items {n = n} spec.nextDim) (drop at (now (s .entry))) at) (spec.dimsOf n r (now (nodes .exit)) (now (dims .exit))) ⌝ }
+    requires { ⌜ (n ≤ most-dimensions) × (length (now s) ≤ member-bytes) × Room spec.node-records (length (now nodes)) (now s) ⌝ }
+    ensures { λ r. ⌜ Keeps (now (s .entry)) (Each spec.Dim at (spec.kept 0 0 (now (nodes .entry)) (now (dims .entry)))) (check (items {n = n} spec.nextDim) (drop at (now (s .entry))) at) (spec.dimsOut n r (now (nodes .exit)) (now (dims .exit))) ⌝ }
 {
     let mut at = at;
     let mut used = 0;
@@ -168,8 +167,8 @@ fn all(s: &[u8], at: usize, n: usize, nodes: &mut [u32], dims: &mut [u32; DIMENS
 
 // The section, in a member that is no longer than members are, with room for its records.
 fn section(s: &[u8], at: usize, nodes: &mut [u32], dims: &mut [u32; DIMENSION_AREA]) -> Section
-    requires { ⌜ (length (now s) ≤ member-bytes) × NodeRoom (length (now nodes)) (now s) ⌝ }
-    ensures { λ r. ⌜ Keeps (now (s .entry)) (spec.AllDims at (now (nodes .entry)) (now (dims .entry))) (check dimensionsRule (drop at (now (s .entry))) at) (spec.sectionOf r (now (nodes .exit)) (now (dims .exit))) ⌝ }
+    requires { ⌜ (length (now s) ≤ member-bytes) × Room spec.node-records (length (now nodes)) (now s) ⌝ }
+    ensures { λ r. ⌜ Keeps (now (s .entry)) (spec.AllDims at (now (nodes .entry)) (now (dims .entry))) (check dimensionsRule (drop at (now (s .entry))) at) (spec.sectionOut r (now (nodes .exit)) (now (dims .exit))) ⌝ }
 {
     let n = peek(s, Step::Next(at), LITTLE, 4);
     match count(s, Step::Next(at), LIMIT) {
@@ -201,7 +200,8 @@ pub fn dimensions(
     nodes: &mut [u32],
     dims: &mut [u32; DIMENSION_AREA],
 ) -> Section
-    ensures { λ r. ⌜ Keeps (now (s .entry)) (spec.AllDims at (now (nodes .entry)) (now (dims .entry))) (within spec.node-records (now (s .entry)) (length (now (nodes .entry))) (check dimensionsRule (drop at (now (s .entry))) at)) (spec.sectionOf r (now (nodes .exit)) (now (dims .exit))) ⌝ }
+    ensures dimensions { λ r. ⌜ Keeps (now (s .entry)) (spec.AllDims at (now (nodes .entry)) (now (dims .entry))) (within spec.node-records (now (s .entry)) (length (now (nodes .entry))) (check dimensionsRule (drop at (now (s .entry))) at)) (spec.sectionOut r (now (nodes .exit)) (now (dims .exit))) ⌝ }
+    ensures scratch { λ _. ⌜ Scratch (now (nodes .entry)) (now (nodes .exit)) ⌝ }
 {
     if MEMBER_BYTES < s.len() {
         return Section::Refused(1, 0);

@@ -25,9 +25,9 @@ use Rattle.layout.specs.Steps.Chain.{_◂_}
 use Rattle.layout.specs.Steps.Keeping.{kept-on}
 use Rattle.once.specs.Once.{fresh, firsts}
 use Rattle.table.specs.Table.{Axes}
-use Rattle.table.specs.Records.{size, entryIndex, mapAll, rowsWords, sum}
+use Rattle.table.specs.Records.{size, entryIndex, mapAll, rowsWords, sum, axisLayers, axisRows, axisColumns, axisEntries}
 use Rattle.table.specs.Rules.{entryRule, threeRule, countsRule}
-use Rattle.table.specs.Laws.Spelt.{found-first, Read, read-on, read-off, NumberAt, number-at, peeked, bind-assoc, bind-pick}
+use Rattle.table.specs.Laws.Spelt.{found-first, Read, read-on, read-off, number-at, peeked, bind-assoc, bind-pick, read-number, ReadNumber}
 use Rattle.table.specs.Laws.Words.{word32, kept-word}
 use Rattle.cells.specs.declared.AxisCounts.{AxisCounts}
 use Rattle.cells.specs.declared.AxisCounts.the-variants as counts
@@ -52,29 +52,23 @@ module _ (s : List ℕ) (b : Bytes s) (at d j : ℕ) (ws : List ℕ) {st : Step}
   no-entry e = rw (read-off r e) keeps-off
 
   module _ {p x : ℕ} (e : st ≡ Next p) (pk : x ≡ peek little 4 s (Next at)) where
-    found : Read int32 s at p
-    found = read-on b r e
-
-    read-at : NumberAt 4 any-number s at (found .tree .0) p
-    read-at = number-at 4 any-number s at (found .tree .0) (drop p s) p (found .there)
-
-    x-is : found .tree .0 ≡ x
-    x-is = sym (pk ∙ read-at .peeked)
+    num : ReadNumber 4 any-number s at p x
+    num = read-number b r e pk
 
     pub fresh-entry : fresh d (firsts 1 ws j) x ≡ true → Entry (on p (j + 1, set ws j (word32 x)))
     unfolding check bind judge pick
     fresh-entry f =
-        let f′ : fresh d (firsts 1 ws j) (found .tree .0) ≡ true = rw x-is f in
+        let f′ : fresh d (firsts 1 ws j) (num .found .tree .0) ≡ true = rw (num .is) f in
         let one : 1 * j ≡ j = omega arith in
-        let w : word32 x ≡ found .tree .0 = rw x-is (kept-word x (rw x-is at (read-at .small))) in
-        let kept : Row entry-kind at (j, ws) (found .tree) p (j + 1, set ws j (word32 x)) = record { place = found .there .place; count = refl; stored = rw (one, w) } in
-        rw (found .is, f′) (keeps-on refl kept)
+        let w : word32 x ≡ num .found .tree .0 = kept-word x (num .says .small) ∙ sym (num .is) in
+        let kept : Row entry-kind at (j, ws) (num .found .tree) p (j + 1, set ws j (word32 x)) = record { place = num .found .there .place; count = refl; stored = rw (one, w) } in
+        rw (num .found .is, f′) (keeps-on refl kept)
 
     pub stale-entry : fresh d (firsts 1 ws j) x ≡ false → Entry (off 9 at)
     unfolding check bind judge pick
     stale-entry f =
-        let f′ : fresh d (firsts 1 ws j) (found .tree .0) ≡ false = rw x-is f in
-        rw (found .is, f′, add-zero) keeps-off
+        let f′ : fresh d (firsts 1 ws j) (num .found .tree .0) ≡ false = rw (num .is) f in
+        rw (num .found .is, f′, add-zero) keeps-off
 
 -- ---- the axes
 
@@ -86,20 +80,21 @@ pub record Order : Type 0 where
   pub order : List ℕ
 
 -- an answer of the code
-abbrev pub axesOf : AxisCounts → List ℕ → Out Order
-axesOf (counts.Of l r c p) os = on p record { layers = l; rows = r; columns = c; order = os }
-axesOf (counts.Refused r p) os = off r p
+abbrev pub axesOut : AxisCounts → List ℕ → Out Order
+axesOut (counts.Of l r c p) os = on p record { layers = l; rows = r; columns = c; order = os }
+axesOut (counts.Refused r p) os = off r p
 
--- the dimension numbers of the axes: layers, then rows, then columns
-abbrev pub entriesOf : Tree Axes → List (Tree int32)
-entriesOf t = let e = t .1 .1 .1 in e .0 .0 ++ e .0 .1 ++ e .1
+-- after a refusal the order is cleared
+abbrev pub Cleared : AxisCounts → List ℕ → Type 0
+Cleared (counts.Of l r c p) os = Unit {0}
+Cleared (counts.Refused r p) os = os ≡ replicate most-dimensions 0
 
 pub record AllAxes (t : Tree Axes) (p : ℕ) (y : Order) : Type 0 where
-  pub layers : y .layers ≡ t .0
-  pub rows : y .rows ≡ t .1 .0
-  pub columns : y .columns ≡ t .1 .1 .0
-  pub order : y .order ≡ sets (replicate most-dimensions 0) 0 (mapAll entryIndex (entriesOf t))
-  pub few : length (entriesOf t) ≤ most-dimensions
+  pub layers : y .layers ≡ axisLayers t
+  pub rows : y .rows ≡ axisRows t
+  pub columns : y .columns ≡ axisColumns t
+  pub order : y .order ≡ sets (replicate most-dimensions 0) 0 (mapAll entryIndex (axisEntries t))
+  pub few : length (axisEntries t) ≤ most-dimensions
 
 -- ---- the entries of the three groups, read as one run
 

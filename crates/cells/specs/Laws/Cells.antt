@@ -27,11 +27,11 @@ use Rattle.once.specs.Laws.{is-fresh}
 use Rattle.table.specs.declared.Walk.{Walk}
 use Rattle.table.specs.declared.Walk.the-variants as walk
 use Rattle.table.specs.Table.{Cell, Cells}
-use Rattle.table.specs.Records.{size, cellIndex, cellWords, rowsWords}
-use Rattle.table.specs.Laws.Spelt.{found-by, Read, read-on, read-off, ends-inside, stays-inside, NumberAt, number-at}
+use Rattle.table.specs.Records.{size, cellIndex, cellWords, rowsWords, cellValue, cellsOf}
+use Rattle.table.specs.Laws.Spelt.{found-by, Read, read-on, read-off, ends-inside, stays-inside, read-number, ReadNumber}
 use Rattle.table.specs.Laws.Words.{word32, kept-word}
 use Rattle.table.specs.Laws.LeastBytes.{cell-bytes, least-cell}
-use Rattle.table.specs.Laws.Within.{Records, needed}
+use Rattle.table.specs.Laws.Within.{Records, needed, Room}
 use Rattle.cells.specs.Laws.Rows.{Kind, words, Row, Rows, all-rows, rowOf, after, firsts-before}
 
 -- ---- a cell
@@ -42,7 +42,7 @@ cell-kind = record {
   width = cell-words;
   size = size Cell;
   number = cellIndex;
-  others = λ at t. (at + 8) ∷ size Value (t .1) ∷ [];
+  others = λ at t. (at + 8) ∷ size Value (cellValue t) ∷ [];
   some = omega arith;
   all = λ at t. refl;
 }
@@ -56,7 +56,7 @@ pub data Recorded (s : List ℕ) (p j x : ℕ) (ws : List ℕ) : Step → List �
   recorded : {q : ℕ} {vs : List ℕ} → Reads Value s (Next p) (Next q) → vs ≡ sets ws (cell-words * j) (word32 x ∷ word32 p ∷ word32 (q - p) ∷ []) → Recorded s p j x ws (Next q) vs
   not-recorded : {n q : ℕ} {vs : List ℕ} → Reads Value s (Next p) (Refused n q) → Recorded s p j x ws (Refused n q) vs
 
-size-cell : (t : Tree Cell) → size Cell t ≡ 8 + size Value (t .1)
+size-cell : (t : Tree Cell) → size Cell t ≡ 8 + size Value (cellValue t)
 unfolding size spell
 size-cell t = simp (length-append, digits-length) (omega arith)
 
@@ -69,52 +69,46 @@ module _ (s : List ℕ) (b : Bytes s) (short : length s ≤ member-bytes) (at pl
   no-index e = rw (read-off r e) keeps-off
 
   module _ {p x : ℕ} (e : st ≡ Next p) (pk : x ≡ peek little 8 s (Next at)) where
-    found : Read int64 s at p
-    found = read-on b r e
-
-    read-at : NumberAt 8 any-number s at (found .tree .0) p
-    read-at = number-at 8 any-number s at (found .tree .0) (drop p s) p (found .there)
-
-    x-is : found .tree .0 ≡ x
-    x-is = sym (pk ∙ read-at .peeked)
+    num : ReadNumber 8 any-number s at p x
+    num = read-number b r e pk
 
     pub stale-cell : fresh places (firsts cell-words ws j) x ≡ false → One (off 10 at)
     unfolding check bind judge pick
     stale-cell f =
-        let f′ : fresh places (firsts cell-words ws j) (found .tree .0) ≡ false = rw x-is f in
-        rw (found .is, f′, add-zero) keeps-off
+        let f′ : fresh places (firsts cell-words ws j) (num .found .tree .0) ≡ false = rw (num .is) f in
+        rw (num .found .is, f′, add-zero) keeps-off
 
     pub fresh-cell : fresh places (firsts cell-words ws j) x ≡ true → {w : Step} {vs : List ℕ} → Recorded s p j x ws w vs → One (rowOf (j + 1) w vs)
     unfolding check bind judge pick
     fresh-cell f (recorded {q = q} {vs = vs} v h) =
-        let f′ : fresh places (firsts cell-words ws j) (found .tree .0) ≡ true = rw x-is f in
+        let f′ : fresh places (firsts cell-words ws j) (num .found .tree .0) ≡ true = rw (num .is) f in
         let val : Read Value s p q = read-on b v refl in
-        let t : Tree Cell = (found .tree, val .tree) in
+        let t : Tree Cell = (num .found .tree, val .tree) in
         let z = size Value (val .tree) in
         let q-is : q ≡ p + z = val .there .place in
-        let long : q ≤ length s = stays-inside (val .there) (read-at .inside (omega arith)) in
+        let long : q ≤ length s = stays-inside (val .there) (num .says .inside (omega arith)) in
         let below : x < places = is-fresh places (firsts cell-words ws j) x .0 f .0 in
         let e₁ : q - p ≡ z = omega arith in
-        let index : word32 x ≡ found .tree .0 = kept-word x (omega arith) ∙ sym x-is in
-        let place : word32 p ≡ at + 8 = kept-word p (omega arith) ∙ read-at .place in
+        let index : word32 x ≡ num .found .tree .0 = kept-word x (omega arith) ∙ sym (num .is) in
+        let place : word32 p ≡ at + 8 = kept-word p (omega arith) ∙ num .says .place in
         let length-is : word32 (q - p) ≡ z = ap word32 e₁ ∙ kept-word z (omega arith) in
-        let same : word32 x ∷ word32 p ∷ word32 (q - p) ∷ [] ≡ found .tree .0 ∷ (at + 8) ∷ z ∷ [] =
+        let same : word32 x ∷ word32 p ∷ word32 (q - p) ∷ [] ≡ num .found .tree .0 ∷ (at + 8) ∷ z ∷ [] =
         rw (index, place, length-is) in
         let kept : Row cell-kind at (j, ws) t q (j + 1, vs) = record {
-          place = omega (arith, read-at .place, size-cell t);
+          place = omega (arith, num .says .place, size-cell t);
           count = refl;
           stored = h ∙ ap (sets ws (cell-words * j)) same;
         } in
-        rw (found .is, f′, val .is) (keeps-on {t = t} refl kept)
+        rw (num .found .is, f′, val .is) (keeps-on {t = t} refl kept)
     fresh-cell f (not-recorded v) =
-        let f′ : fresh places (firsts cell-words ws j) (found .tree .0) ≡ true = rw x-is f in
-        rw (found .is, f′, read-off v refl) keeps-off
+        let f′ : fresh places (firsts cell-words ws j) (num .found .tree .0) ≡ true = rw (num .is) f in
+        rw (num .found .is, f′, read-off v refl) keeps-off
 
 -- ---- cells that follow each other
 
--- a list of n words holds the records of all cells that the bytes of s can have
-abbrev pub CellRoom : ℕ → List ℕ → Type 0
-CellRoom n s = (u : ℕ) → u ≤ most-cells → least-cell * u ≤ length s → cell-words * u ≤ n
+-- the cell records
+abbrev pub cell-records : Records
+cell-records = record { width = cell-words; least = least-cell; most = most-cells; number = 13 }
 
 abbrev pub AllRead : List ℕ → ℕ → ℕ → ℕ → List ℕ → Step → List ℕ → Type 0
 AllRead s at places n ws r vs =
@@ -127,7 +121,7 @@ pub record Added (s : List ℕ) (j q : ℕ) (ws vs : List ℕ) : Type 0 where
   pub indexes : firsts cell-words vs (j + 1) ≡ word vs (cell-words * j) ∷ firsts cell-words ws j
   pub same-length : length vs ≡ length ws
 
-pub added : (places : ℕ) {s : List ℕ} → Bytes s → {at j n : ℕ} {ws : List ℕ} → length ws ≡ n → CellRoom n s → j < most-cells → least-cell * j ≤ at → {q : ℕ} {vs : List ℕ}
+pub added : (places : ℕ) {s : List ℕ} → Bytes s → {at j n : ℕ} {ws : List ℕ} → length ws ≡ n → Room cell-records n s → j < most-cells → least-cell * j ≤ at → {q : ℕ} {vs : List ℕ}
     → Keeps s (Row cell-kind at (j, ws)) (check (cellOf places (firsts cell-words ws j)) (drop at s) at) (on q (j + 1, vs)) → Added s j q ws vs
 unfolding firsts
 added places {s} b {at} {j} {n} {ws} l room few before {q} {vs} k =
@@ -147,22 +141,18 @@ added places {s} b {at} {j} {n} {ws} l room few before {q} {vs} k =
 
 -- ---- the section
 
--- the cell records
-abbrev pub cell-records : Records
-cell-records = record { width = cell-words; least = least-cell; most = most-cells; number = 13 }
-
-pub cell-room : (s : List ℕ) (n : ℕ) → needed cell-records (length s) ≤ n → CellRoom n s
+pub cell-room : (s : List ℕ) (n : ℕ) → needed cell-records (length s) ≤ n → Room cell-records n s
 cell-room s n h u few k = omega arith
 
 -- an answer of the code, and the words with it
-abbrev pub cellsOf : Walk → List ℕ → Out (ℕ × List ℕ)
-cellsOf (walk.On p n) ws = on p (n, ws)
-cellsOf (walk.Refused r p) ws = off r p
+abbrev pub cellsOut : Walk → List ℕ → Out (ℕ × List ℕ)
+cellsOut (walk.On p n) ws = on p (n, ws)
+cellsOut (walk.Refused r p) ws = off r p
 
 -- the cells whose number stands at the place `at`
 pub record AllCells (at : ℕ) (ws : List ℕ) (t : Tree Cells) (p : ℕ) (y : ℕ × List ℕ) : Type 0 where
-  pub count : y .0 ≡ length (t .1)
-  pub stored : y .1 ≡ sets ws 0 (rowsWords (size Cell) cellWords (at + 4) (t .1))
+  pub count : y .0 ≡ length (cellsOf t)
+  pub stored : y .1 ≡ sets ws 0 (rowsWords (size Cell) cellWords (at + 4) (cellsOf t))
 
 pub the-cells : {at p n : ℕ} {ws : List ℕ} {ts : List (Tree Cell)} {q : ℕ} {vs : List ℕ} → p ≡ at + 4
     → Each (Row cell-kind) p (0, ws) ts q (n, vs) → AllCells at ws (n, ts) q (n, vs)

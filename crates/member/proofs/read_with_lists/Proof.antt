@@ -18,7 +18,7 @@ read-with-lists-spec =
     let a = z .before .args in
     let b = bytes-of _ (z .shared-slice-known .given) in
     let f = c .before .before .before .before .before .before .before .before .before .before .before .before .before .before .before .before .before .before .before .before .before .before .before .before .before .front .ensures in
-    told-room (with-tail (a .member .now) b (a .node-list .now) (a .cell-list .now) (z .before .pre) f (c .before .before .before .before .before .before .before .before .before .before .before .before .before .before .before .before .before .before .before .before .before .before .before .at .given .1) (rw (c .before .before .before .before .before .before .before .before .before .before .before .before .before .before .before .next .given .1) at (c .before .before .before .before .before .before .before .before .before .before .before .before .before .before .before .before .before .before .before .dimensions .ensures)) (c .before .before .before .before .before .before .before .before .before .before .before .after-dims .ensures) (c .before .before .before .before .before .before .axes2 .given .1)))
+    told-room (with-tail (a .member .now) b (a .node-list .now) (a .cell-list .now) (z .before .pre) f (c .before .before .before .before .before .before .before .before .before .before .before .before .before .before .before .before .before .before .before .before .before .before .before .at .given .1) (rw (c .before .before .before .before .before .before .before .before .before .before .before .before .before .before .before .next .given .1) at (c .before .before .before .before .before .before .before .before .before .before .before .before .before .before .before .before .before .before .before .dimensions .ensures .0)) (c .before .before .before .before .before .before .before .before .before .before .before .after-dims .ensures) (c .before .before .before .before .before .before .axes2 .given .1)))
     (λ c.
     let z = c .before .before .before .before .before .before .before .before .before in
     let a = z .before .args in
@@ -31,24 +31,24 @@ read-with-lists-spec =
     let a = z .before .args in
     let b = bytes-of _ (z .shared-slice-known .given) in
     let f = c .before .before .before .before .before .before .before .before .before .before .before .before .front .ensures in
-    rw (c .refused2 .ensures) (not-delivered (a .member .now) (no-dims (a .member .now) b (a .node-list .now) (a .cell-list .now) (z .before .pre) f (c .before .before .before .before .before .before .before .before .before .before .at .given .1) (rw (c .before .before .r2 .given .1) at (c .before .before .before .before .before .before .dimensions .ensures)))))
+    rw (c .refused2 .ensures) (not-delivered (a .member .now) (no-dims (a .member .now) b (a .node-list .now) (a .cell-list .now) (z .before .pre) f (c .before .before .before .before .before .before .before .before .before .before .at .given .1) (rw (c .before .before .r2 .given .1) at (c .before .before .before .before .before .before .dimensions .ensures .0)))))
     (λ c. search needs) (λ c. search needs)
     (λ c.
     let z = c .before .before .before .before .before .before .before .before .before .before .before .before .before .before .before .before .before .before .before .before .before .before .before .before .before .before in
     let a = z .before .args in
     let b = bytes-of _ (z .shared-slice-known .given) in
     let f = c .before .before .before .before .before .before .before .before .before .before .before .before .before .before .before .before .before .before .before .before .before .front .ensures in
-    rw (c .refused3 .ensures) (not-delivered (a .member .now) (no-tail (a .member .now) b (a .node-list .now) (a .cell-list .now) (z .before .pre) f (c .before .before .before .before .before .before .before .before .before .before .before .before .before .before .before .before .before .before .before .at .given .1) (rw (c .before .before .before .before .before .before .before .before .before .before .before .next .given .1) at (c .before .before .before .before .before .before .before .before .before .before .before .before .before .before .before .dimensions .ensures)) (c .before .before .before .before .before .before .before .after-dims .ensures) (c .before .before .axes .given .1))))
+    rw (c .refused3 .ensures) (not-delivered (a .member .now) (no-tail (a .member .now) b (a .node-list .now) (a .cell-list .now) (z .before .pre) f (c .before .before .before .before .before .before .before .before .before .before .before .before .before .before .before .before .before .before .before .at .given .1) (rw (c .before .before .before .before .before .before .before .before .before .before .before .next .given .1) at (c .before .before .before .before .before .before .before .before .before .before .before .before .before .before .before .dimensions .ensures .0)) (c .before .before .before .before .before .before .before .after-dims .ensures) (c .before .before .axes .given .1))))
     (λ c.
     let z = c .before .before .before .before .before .before .before .before .before .before .before .before .before .before .before .before .before .before .before .before .before .before .before .before .before .before .before .before .before .before .before .before .before .before .before in
     let a = z .before .args in
     let b = bytes-of _ (z .shared-slice-known .given) in
     let f = c .before .before .before .before .before .before .before .before .before .before .before .before .before .before .before .before .before .before .before .before .before .before .before .before .before .before .before .before .before .before .front .ensures in
-    same-length (a .member .now) b (a .node-list .now) (a .cell-list .now) (z .before .pre) f (c .before .before .before .before .before .before .before .before .before .before .before .before .before .before .before .before .before .before .before .before .before .before .before .before .before .before .before .before .at .given .1) (rw (c .before .before .before .before .before .before .before .before .before .before .before .before .before .before .before .before .before .before .before .before .next .given .1) at (c .before .before .before .before .before .before .before .before .before .before .before .before .before .before .before .before .before .before .before .before .before .before .before .before .dimensions .ensures)))
+    same-length (a .member .now) b (a .node-list .now) (a .cell-list .now) (z .before .pre) f (c .before .before .before .before .before .before .before .before .before .before .before .before .before .before .before .before .before .before .before .before .before .before .before .before .before .before .before .before .at .given .1) (rw (c .before .before .before .before .before .before .before .before .before .before .before .before .before .before .before .before .before .before .before .before .next .given .1) at (c .before .before .before .before .before .before .before .before .before .before .before .before .before .before .before .before .before .before .before .before .before .before .before .before .dimensions .ensures .0)))
     (λ c. search needs) (λ c. search needs) (λ c. search needs)
     (λ c.
     let z = c .before .before .before .before .before .before .before .before .before .before .before .before .before .before .before .before .before .before .before .before .before .before .before .before .before .before .before .before .before .before .before .before .before .before .before in
     let a = z .before .args in
     let b = bytes-of _ (z .shared-slice-known .given) in
     let f = c .before .before .before .before .before .before .before .before .before .before .before .before .before .before .before .before .before .before .before .before .before .before .before .before .before .before .before .before .before .before .front .ensures in
-    delivered (with-tail (a .member .now) b (a .node-list .now) (a .cell-list .now) (z .before .pre) f (c .before .before .before .before .before .before .before .before .before .before .before .before .before .before .before .before .before .before .before .before .before .before .before .before .before .before .before .before .at .given .1) (rw (c .before .before .before .before .before .before .before .before .before .before .before .before .before .before .before .before .before .before .before .before .next .given .1) at (c .before .before .before .before .before .before .before .before .before .before .before .before .before .before .before .before .before .before .before .before .before .before .before .before .dimensions .ensures)) (c .before .before .before .before .before .before .before .before .before .before .before .before .before .before .before .before .after-dims .ensures) (c .before .before .before .before .before .before .before .before .before .before .before .axes2 .given .1)) (c .before .before .before .before .deliver .ensures)))
+    delivered (with-tail (a .member .now) b (a .node-list .now) (a .cell-list .now) (z .before .pre) f (c .before .before .before .before .before .before .before .before .before .before .before .before .before .before .before .before .before .before .before .before .before .before .before .before .before .before .before .before .at .given .1) (rw (c .before .before .before .before .before .before .before .before .before .before .before .before .before .before .before .before .before .before .before .before .next .given .1) at (c .before .before .before .before .before .before .before .before .before .before .before .before .before .before .before .before .before .before .before .before .before .before .before .before .dimensions .ensures .0)) (c .before .before .before .before .before .before .before .before .before .before .before .before .before .before .before .before .after-dims .ensures) (c .before .before .before .before .before .before .before .before .before .before .before .axes2 .given .1)) (c .before .before .before .before .deliver .ensures)))

@@ -18,7 +18,7 @@ use Rattle.layout.specs.Read.{Got, got, no, lead, read}
 use Rattle.layout.specs.Check.{check}
 use Rattle.layout.specs.Laws.{complete, passes-exactly}
 use Rattle.table.specs.Laws.KeptTable.{dimensions-kept, axes-kept, cells-kept}
-use Rattle.member.specs.Member.{Member, final, dimensions, nodes, places, MemberDerivation, AsDemanded}
+use Rattle.member.specs.Member.{Member, final, dimensions, nodes, places, MemberDerivation, AsDemanded, dimensionsSection, axesSection, cellsSection}
 use Rattle.member.specs.Refused.{memberRule}
 use Rattle.member.specs.Checked.{ended, checked}
 
@@ -28,9 +28,9 @@ use Rattle.member.specs.Checked.{ended, checked}
 pub kept-demanded : (t : Tree Member) → Kept memberRule t ↔ (AsDemanded t × (nodes t ≤ most-nodes) × (places t ≤ most-places))
 unfolding memberRule
 kept-demanded t =
-    let d = dimensions-kept (t .0 .0 .1) in
-    let a = axes-kept (dimensions t) (t .0 .1) in
-    let c = cells-kept (places t) (t .1) in (
+    let d = dimensions-kept (dimensionsSection t) in
+    let a = axes-kept (dimensions t) (axesSection t) in
+    let c = cells-kept (places t) (cellsSection t) in (
       λ k.
           let x = d .0 (k .0 .0 .1) in
           let y = a .0 (k .0 .1) in

@@ -7,20 +7,22 @@ use mathlib.Core.List.{List, [], _∷_, _++_, append-assoc, map, flatMap}
 use Prim.Native.Nat.{ℕ, suc, _+_, _*_, _-_}
 use native.Mathlib.Nat.{add-zero}
 use native.Mathlib.Omega.{arith}
-use lib.ListN.{length, take, drop, getElem?, length-append, length-drop, length-map}
+use lib.ListN.{length, take, drop, getElem?, length-append, length-drop}
 use lib.Seq.{take-at, drop-at}
 use lib.Dec.{leb}
 use borrow.Author.Tests.{le-leb}
-use Rattle.sizes.specs.Sizes.{node-words, cell-words, dimension-words}
+use Rattle.sizes.specs.Sizes.{node-words, cell-words, dimension-words, name-place, name-length}
 use Rattle.layout.specs.Layout.{little, _▸_, Tree, digits, spellAll, spell, pick}
 use Rattle.value.specs.Value.{Value}
 use Rattle.sections.specs.Sections.{Front}
 use Rattle.once.specs.Once.{word}
 use Rattle.table.specs.Table.{Dimension, Dimensions, Axes, Cell, Cells}
-use Rattle.table.specs.Records.{size}
-use Rattle.table.specs.Laws.RecordsPoint.{categoryNames, dimName, cellValue, all-names, Points, Pointing, words-of, record-of, after-digits, dims-point, entries-point, cells-point}
-use Rattle.member.specs.Member.{Member, final, dimensions, cells, nodes, dimensionsAt, cellsStart, nodeRecords, dimensionEntries, cellRecords, MemberDerivation}
+use Rattle.table.specs.Records.{size, cellWords, dimName, cellValue}
+use Rattle.table.specs.Laws.RecordsPoint.{categoryNames, all-names, Points, Pointing, record-of, after-digits, dims-point, entries-point, cells-point}
+use Rattle.member.specs.Member.{Member, final, dimensions, cells, nodes, dimensionsAt, cellsStart, nodeRecords, dimensionEntries, cellRecords, MemberDerivation, frontSection, axesSection, cellsSection}
 use Rattle.member.specs.Part.{partOf}
+use Rattle.table.specs.Laws.Dims.{width-entries, width-dims}
+use Rattle.table.specs.Laws.Words.{width-rows}
 
 -- ---- the Values of a derivation, in file order
 
@@ -50,7 +52,7 @@ regroup a b c d = simp append-assoc
 module _ {bs : List ℕ} (d : MemberDerivation bs) where
   -- after the dimensions
   abbrev rest : List ℕ
-  rest = let t = d .tree in spell Axes (t .0 .1) ++ (spell Cells (t .1) ++ final (d .ends))
+  rest = let t = d .tree in spell Axes (axesSection t) ++ (spell Cells (cellsSection t) ++ final (d .ends))
 
   dimensions-there : drop (dimensionsAt (d .tree)) bs ≡ spellAll (spell Dimension) (dimensions (d .tree)) ++ rest
   unfolding spell size
@@ -59,9 +61,9 @@ module _ {bs : List ℕ} (d : MemberDerivation bs) where
       let all = spellAll (spell Dimension) (dimensions t) in
       let front = spell (Front ▸ Dimensions) (t .0 .0) in
       let joined : spell Member t ++ final (d .ends) ≡ front ++ rest =
-      append-assoc (front ++ spell Axes (t .0 .1)) (spell Cells (t .1)) (final (d .ends)) ∙ append-assoc front (spell Axes (t .0 .1)) (spell Cells (t .1) ++ final (d .ends)) in
-      after-count bs (spell Front (t .0 .0 .0)) (t .0 .0 .1 .0) (all ++ rest)
-      (sym (d .spells) ∙ (joined ∙ regroup (spell Front (t .0 .0 .0)) (digits little 4 (t .0 .0 .1 .0)) all rest))
+      append-assoc (front ++ spell Axes (axesSection t)) (spell Cells (cellsSection t)) (final (d .ends)) ∙ append-assoc front (spell Axes (axesSection t)) (spell Cells (cellsSection t) ++ final (d .ends)) in
+      after-count bs (spell Front (frontSection t)) (t .0 .0 .1 .0) (all ++ rest)
+      (sym (d .spells) ∙ (joined ∙ regroup (spell Front (frontSection t)) (digits little 4 (t .0 .0 .1 .0)) all rest))
 
   cells-there : drop (cellsStart (d .tree)) bs ≡ spellAll (spell Cell) (cells (d .tree)) ++ final (d .ends)
   unfolding spell size
@@ -71,7 +73,7 @@ module _ {bs : List ℕ} (d : MemberDerivation bs) where
       let all = spellAll (spell Cell) (cells t) in
       after-count bs before (t .1 .0) (all ++ final (d .ends)) (sym (d .spells) ∙ regroup before (digits little 4 (t .1 .0)) all (final (d .ends)))
 
-  nodes-point : Pointing bs node-words 3 4 (nodeRecords (d .tree)) (nodeNames (d .tree))
+  nodes-point : Pointing bs node-words name-place name-length (nodeRecords (d .tree)) (nodeNames (d .tree))
   nodes-point = dims-point bs 0 0 (dimensionsAt (d .tree)) (dimensions (d .tree)) rest dimensions-there
 
   dimensions-point : Pointing bs dimension-words 0 1 (dimensionEntries (d .tree)) (dimensionNames (d .tree))
@@ -98,9 +100,9 @@ part-of : {s : List ℕ} {place long : ℕ} {v : Tree Value} → Points s place 
 unfolding size
 part-of {s} {place} {long} {v} p = rw (p .length-of) (part-there s place (spell Value v) (p .rest) (p .there))
 
--- Node: the words 3 and 4 of its record
+-- Node: two words of its record
 pub node-name : {bs : List ℕ} (d : MemberDerivation bs) (i : ℕ) (v : Tree Value) → getElem? (nodeNames (d .tree)) i ≡ some v
-    → let ws = nodeRecords (d .tree) in partOf bs (word ws (node-words * i + 3)) (word ws (node-words * i + 4)) ≡ spell Value v
+    → let ws = nodeRecords (d .tree) in partOf bs (word ws (node-words * i + name-place)) (word ws (node-words * i + name-length)) ≡ spell Value v
 unfolding word
 node-name d i v e = part-of (record-of (omega arith) (omega arith) (nodes-point d) i v e)
 
@@ -118,10 +120,10 @@ cell-value d i v e = part-of (record-of (omega arith) (omega arith) (values-poin
 
 -- and there are no other records
 pub node-width : {bs : List ℕ} (d : MemberDerivation bs) → length (nodeRecords (d .tree)) ≡ node-words * nodes (d .tree)
-node-width d = words-of (nodes-point d) ∙ ap (λ (n : ℕ). node-words * n) (names-of-nodes (d .tree))
+node-width d = width-dims 0 0 (dimensionsAt (d .tree)) (dimensions (d .tree))
 
 pub dimension-width : {bs : List ℕ} (d : MemberDerivation bs) → length (dimensionEntries (d .tree)) ≡ dimension-words * length (dimensions (d .tree))
-dimension-width d = words-of (dimensions-point d) ∙ ap (λ (n : ℕ). 4 * n) (length-map (dimensions (d .tree)) dimName)
+dimension-width d = width-entries 0 (dimensionsAt (d .tree)) (dimensions (d .tree))
 
 pub cell-width : {bs : List ℕ} (d : MemberDerivation bs) → length (cellRecords (d .tree)) ≡ cell-words * length (cells (d .tree))
-cell-width d = words-of (values-point d) ∙ ap (λ (n : ℕ). cell-words * n) (length-map (cells (d .tree)) cellValue)
+cell-width d = width-rows cell-words (size Cell) cellWords (λ _ _. refl) (cellsStart (d .tree)) (cells (d .tree))

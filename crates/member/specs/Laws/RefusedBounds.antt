@@ -11,14 +11,15 @@ use Rattle.layout.specs.Laws.Bounds.{allAmong, is-among, Numbered, PlacesInside
 use Rattle.table.specs.Laws.RuleBounds.{numbers, dimensions-numbered, axes-numbered, cells-numbered, dimensions-inside, axes-inside, cells-inside}
 use Rattle.member.specs.Refused.{memberRule, Refused, too-long, inside, left}
 use Rattle.member.specs.Laws.NoColor as no-color
+use Rattle.table.specs.Records.{dimsOf}
 
 member-numbered : Numbered numbers memberRule
 unfolding memberRule
-member-numbered = (((tt, λ _. dimensions-numbered), λ t. axes-numbered (t .1 .1)), λ t. cells-numbered _)
+member-numbered = (((tt, λ _. dimensions-numbered), λ t. axes-numbered (dimsOf (t .1))), λ t. cells-numbered _)
 
 member-inside : PlacesInside memberRule
 unfolding memberRule
-member-inside = (((tt, λ _. dimensions-inside), λ t. axes-inside (t .1 .1)), λ t. cells-inside _)
+member-inside = (((tt, λ _. dimensions-inside), λ t. axes-inside (dimsOf (t .1))), λ t. cells-inside _)
 
 -- 1 for the length, 11 for bytes left; 12 and 13 tell of the lent areas, 14 to 16 of looks
 abbrev pub memberNumbers : List ℕ

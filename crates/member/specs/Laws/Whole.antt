@@ -9,7 +9,7 @@ use lib.ListN.{length, take, drop, getD, replicate, length-append, length-drop, 
 use lib.Seq.{sets, length-sets, sets-eq, take-at, drop-drop, getD-drop}
 use lib.Dec.{leb}
 use borrow.Author.Tests.{leb-true, leb-false, le-leb, lt-leb}
-use Rattle.sizes.specs.Sizes.{member-bytes, most-dimensions, most-nodes, most-cells, most-places, node-words, cell-words, dimension-words, node-area, cell-area, dimension-area}
+use Rattle.sizes.specs.Sizes.{member-bytes, most-dimensions, most-nodes, most-cells, most-places, node-words, cell-words, dimension-words, node-area, cell-area, dimension-area, dimension-n}
 use Rattle.layout.specs.declared.Step.{Step}
 use Rattle.layout.specs.declared.Step.the-variants.{Next, Refused}
 use Rattle.layout.specs.Layout.{Tree, spell, passes, Bytes, Valid, pick}
@@ -22,20 +22,20 @@ use Rattle.sections.specs.Sections.{Front}
 use Rattle.once.specs.Once.{word}
 use Rattle.index.specs.Index.{sizes, product}
 use Rattle.table.specs.Table.{Dimension, Dimensions, Axes, Cell, Cells}
-use Rattle.table.specs.Records.{size, dimNodes, dimLeaves, dimEntry, dimsWords, dimsEntries, entryIndex, cellWords, mapAll, rowsWords}
+use Rattle.table.specs.Records.{size, dimNodes, dimLeaves, dimEntry, dimsWords, dimsEntries, entryIndex, cellWords, mapAll, rowsWords, axisEntries, dimsOf, axisLayers, axisRows, axisColumns, cellsOf}
 use Rattle.table.specs.Rules.{dimensionsRule, placesOf, countsRule, axesRule, cellsRule}
 use Rattle.table.specs.Laws.Spelt.{Found, found-by, Read, read-on, read-off, stays-inside, bind-assoc}
 use Rattle.table.specs.Laws.Lengths.{size-all}
 use Rattle.table.specs.Laws.LeastBytes.{cells-bytes, least-cell}
-use Rattle.table.specs.Laws.Words.{word32, kept-word}
+use Rattle.table.specs.Laws.Words.{word32, kept-word, width-rows}
 use Rattle.table.specs.Laws.Within.{needed, within, is-within}
-use Rattle.table.specs.Laws.Dims.{Kept, kept, AllDims, width-dims, node-records, node-room}
+use Rattle.table.specs.Laws.Dims.{Kept, kept, AllDims, width-dims, node-records, node-room, width-entries}
 use Rattle.cells.specs.declared.AxisCounts.the-variants as counts
-use Rattle.cells.specs.Laws.Axes.{Order, AllAxes, entriesOf}
+use Rattle.cells.specs.Laws.Axes.{Order, AllAxes}
 use Rattle.cells.specs.Laws.Cells.{AllCells, cell-records, cell-room}
 use Rattle.member.specs.declared.Answer.{Answer}
 use Rattle.member.specs.declared.Tail.{Tail}
-use Rattle.member.specs.Member.{Member, order, cells, nodes, cellsStart, nodeRecords, dimensionEntries, cellRecords}
+use Rattle.member.specs.Member.{Member, order, cells, nodes, cellsStart, nodeRecords, dimensionEntries, cellRecords, frontSection, dimensionsSection, axesSection}
 use Rattle.member.specs.Refused.{memberRule}
 use Rattle.member.specs.Checked.{ended, checked}
 use Rattle.member.specs.Answer.{zeros, refusal, accepted, answerOf, nodesAfter, cellsAfter, Delivered, Filled}
@@ -97,15 +97,15 @@ afterDims ts s at = bind (check (axesRule ts) s at) (λ a s₁ at₁. bind (ende
 
 -- what is kept of them, from the place `at` on
 pub record Kept-tail (s : List ℕ) (at : ℕ) (ws : List ℕ) (a : Tree Axes) (c : Tree Cells) (layers rows columns : ℕ) (t : Tail) (vs : List ℕ) : Type 0 where
-  pub on-layers : layers ≡ a .0
-  pub on-rows : rows ≡ a .1 .0
-  pub on-columns : columns ≡ a .1 .1 .0
-  pub order : t .order ≡ sets (replicate most-dimensions 0) 0 (mapAll entryIndex (entriesOf a))
-  pub few-entries : length (entriesOf a) ≤ most-dimensions
-  pub count : t .cells ≡ length (c .1)
-  pub stored : vs ≡ sets ws 0 (rowsWords (size Cell) cellWords (at + size Axes a + 4) (c .1))
-  pub few : length (c .1) ≤ most-cells
-  pub bytes : least-cell * length (c .1) ≤ length s
+  pub on-layers : layers ≡ axisLayers a
+  pub on-rows : rows ≡ axisRows a
+  pub on-columns : columns ≡ axisColumns a
+  pub order : t .order ≡ sets (replicate most-dimensions 0) 0 (mapAll entryIndex (axisEntries a))
+  pub few-entries : length (axisEntries a) ≤ most-dimensions
+  pub count : t .cells ≡ length (cellsOf c)
+  pub stored : vs ≡ sets ws 0 (rowsWords (size Cell) cellWords (at + size Axes a + 4) (cellsOf c))
+  pub few : length (cellsOf c) ≤ most-cells
+  pub bytes : least-cell * length (cellsOf c) ≤ length s
 
 pub data TailIs (s : List ℕ) (at : ℕ) (ws : List ℕ) : Got (Tree Axes × Tree Cells) → Tail → List ℕ → Type 0 where
   tail-on : {a : Tree Axes} {c : Tree Cells} {r : List ℕ} {p : ℕ} {t : Tail} {vs : List ℕ} (l rs cs q : ℕ) → t .axes ≡ counts.Of l rs cs q
@@ -122,11 +122,11 @@ ended-is (got u s q) {t} {r} {p} h = go (leb (length s) (lead 0x01 1 s)) h
     go true e = e
     go false e = absurd (let z : _≡_ {A = ℕ} 0 1 = cc in omega arith)
 
-few-cells : (c : Tree Cells) → Valid Cells c → length (c .1) ≤ most-cells
+few-cells : (c : Tree Cells) → Valid Cells c → length (cellsOf c) ≤ most-cells
 unfolding passes
 few-cells c v = omega (arith, v .2 .0, leb-true (c .0) most-cells (v .1))
 
-many-bytes : {s : List ℕ} {at : ℕ} (c : Tree Cells) → Valid Cells c → {r : List ℕ} {p : ℕ} → Found Cells s at c r p → at ≤ length s → least-cell * length (c .1) ≤ length s
+many-bytes : {s : List ℕ} {at : ℕ} (c : Tree Cells) → Valid Cells c → {r : List ℕ} {p : ℕ} → Found Cells s at c r p → at ≤ length s → least-cell * length (cellsOf c) ≤ length s
 unfolding size spell
 many-bytes c v f h =
     let l = simp length-append at (f .place) in
@@ -191,7 +191,7 @@ module _ (s : List ℕ) (b : Bytes s) (at d : ℕ) (ds : List ℕ) {places : ℕ
           let is = ended-is (check (cellsRule places) (drop next s) next) (k .is) in
           let f = found-by (cellsRule places) s b next c (drop q s) q is in
           let v = f .valid in
-          let n-is : length (c .1) ≡ c .0 = v .2 .0 in
+          let n-is : length (cellsOf c) ≡ c .0 = v .2 .0 in
           let kept-all : Kept-tail s at ws (axes-read .tree) c (x .layers) (x .rows) (x .columns) t vs = record {
             on-layers = axes-read .keeps .layers;
             on-rows = axes-read .keeps .rows;
@@ -199,7 +199,7 @@ module _ (s : List ℕ) (b : Bytes s) (at d : ℕ) (ds : List ℕ) {places : ℕ
             order = h₃ ∙ axes-read .keeps .order;
             few-entries = axes-read .keeps .few;
             count = h₂ ∙ k .keeps .count;
-            stored = k .keeps .stored ∙ ap (λ (a : ℕ). sets ws 0 (rowsWords (size Cell) cellWords (a + 4) (c .1))) (axes-found .place);
+            stored = k .keeps .stored ∙ ap (λ (a : ℕ). sets ws 0 (rowsWords (size Cell) cellWords (a + 4) (cellsOf c))) (axes-found .place);
             few = few-cells c v;
             bytes = many-bytes c v f (stays-inside axes-found inside);
           } in
@@ -211,7 +211,7 @@ module _ (s : List ℕ) (b : Bytes s) (at d : ℕ) (ds : List ℕ) {places : ℕ
 -- the n of k dimensions, from their words
 sizesOf : ℕ → List ℕ → List ℕ
 sizesOf zero W = []
-sizesOf (suc k) W = getD W 2 0 ∷ sizesOf k (drop dimension-words W)
+sizesOf (suc k) W = getD W dimension-n 0 ∷ sizesOf k (drop dimension-words W)
 
 sizes-drop : (ws : List ℕ) (k i : ℕ) → sizes ws i k ≡ sizesOf k (drop (dimension-words * i) ws)
 unfolding sizes sizesOf word
@@ -219,7 +219,7 @@ sizes-drop ws zero i = refl
 sizes-drop ws (suc k) i =
     let next : dimension-words * i + dimension-words ≡ dimension-words * (i + 1) = omega arith in
     let e : drop dimension-words (drop (dimension-words * i) ws) ≡ drop (dimension-words * (i + 1)) ws = drop-drop dimension-words (dimension-words * i) ws ∙ ap (λ (m : ℕ). drop m ws) next in
-    rw (e, getD-drop (dimension-words * i) ws 2 0) (ap (λ (l : List ℕ). getD ws (dimension-words * i + 2) 0 ∷ l) (sizes-drop ws k (i + 1)))
+    rw (e, getD-drop (dimension-words * i) ws dimension-n 0) (ap (λ (l : List ℕ). getD ws (dimension-words * i + dimension-n) 0 ∷ l) (sizes-drop ws k (i + 1)))
 
 sizes-entries : (used at : ℕ) (ts : List (Tree Dimension)) (R : List ℕ)
     → sizesOf (length ts) (dimsEntries used at ts ++ R) ≡ mapAll (λ d. length (dimLeaves d)) ts
@@ -228,16 +228,11 @@ sizes-entries used at [] R = refl
 sizes-entries used at (t ∷ ts) R =
     ap (λ (l : List ℕ). length (dimLeaves t) ∷ l) (sizes-entries (used + dimNodes t) (at + size Dimension t) ts R)
 
-pub four-entries : (used at : ℕ) (ts : List (Tree Dimension)) → length (dimsEntries used at ts) ≡ dimension-words * length ts
-unfolding dimsEntries dimEntry
-four-entries used at [] = refl
-four-entries used at (t ∷ ts) = rw (four-entries (used + dimNodes t) (at + size Dimension t) ts) (omega arith)
-
 sizes-there : (at : ℕ) (ts : List (Tree Dimension)) → length ts ≤ most-dimensions
     → sizes (sets (replicate dimension-area 0) 0 (dimsEntries 0 at ts)) 0 (length ts) ≡ mapAll (λ d. length (dimLeaves d)) ts
 sizes-there at ts h =
     let W = dimsEntries 0 at ts in
-    let fit : 0 + length W ≤ length (replicate {A = ℕ} dimension-area 0) = rw length-replicate (omega (arith, four-entries 0 at ts)) in
+    let fit : 0 + length W ≤ length (replicate {A = ℕ} dimension-area 0) = rw length-replicate (omega (arith, width-entries 0 at ts)) in
     sizes-drop (sets (replicate dimension-area 0) 0 W) (length ts) 0
     ∙ rw (sets-eq W (replicate dimension-area 0) 0 fit) (sizes-entries 0 at ts (drop (0 + length W) (replicate dimension-area 0)))
 
@@ -248,7 +243,7 @@ abbrev pub short-member : ℕ
 short-member = 4608
 
 -- two lists of zeros, with room for the records of a member that is no longer than members are
-pub record Roomy (s ns cs : List ℕ) : Type 0 where
+pub record ReadyLists (s ns cs : List ℕ) : Type 0 where
   pub short : length s ≤ member-bytes
   pub clear-nodes : ns ≡ replicate (length ns) 0
   pub for-nodes : needed node-records (length s) ≤ length ns
@@ -300,13 +295,8 @@ unfolding mapAll
 length-mapAll f [] = refl
 length-mapAll f (t ∷ ts) = ap suc (length-mapAll f ts)
 
-three-cells : (at : ℕ) (ts : List (Tree Cell)) → length (rowsWords (size Cell) cellWords at ts) ≡ cell-words * length ts
-unfolding rowsWords
-three-cells at [] = refl
-three-cells at (t ∷ ts) = rw (three-cells (at + size Cell t) ts) (omega arith)
-
 -- where the cells start
-cells-start : (t : Tree Member) → cellsStart t ≡ size Front (t .0 .0 .0) + size Dimensions (t .0 .0 .1) + size Axes (t .0 .1) + 4
+cells-start : (t : Tree Member) → cellsStart t ≡ size Front (frontSection t) + size Dimensions (dimensionsSection t) + size Axes (axesSection t) + 4
 unfolding size spell
 cells-start t = simp length-append (omega arith)
 
@@ -334,7 +324,7 @@ same-answer : {d d′ n n′ c c′ l l′ r r′ k k′ : ℕ} {es es′ os os�
     record { refusal = 0; place = 0; dims = d′; nodes = n′; cells = c′; dimensions = es′; layers = l′; rows = r′; columns = k′; order = os′ }
 same-answer e₁ e₂ e₃ e₄ e₅ e₆ e₇ e₈ = rw (e₁, e₂, e₃, e₄, e₅, e₆, e₇, e₈)
 
-module _ (s : List ℕ) (b : Bytes s) (ns cs : List ℕ) (room : Roomy s ns cs) {st : Step} (fr : Reads Front s (Next 0) st) where
+module _ (s : List ℕ) (b : Bytes s) (ns cs : List ℕ) (room : ReadyLists s ns cs) {st : Step} (fr : Reads Front s (Next 0) st) where
   pub no-front : {n p : ℕ} → st ≡ Refused n p → checked s ≡ no n p
   unfolding bind
   no-front e = rw (in-sections s (room .short), read-off fr e)
@@ -357,10 +347,10 @@ module _ (s : List ℕ) (b : Bytes s) (ns cs : List ℕ) (room : Roomy s ns cs) 
       dims = kept-on (rw (is-within node-records s (length ns) (check dimensionsRule (drop at s) at) (room .short) (room .for-nodes)) at k)
 
       pub same-length : length ms ≡ length ns
-      same-length = ap length (dims .keeps .words) ∙ length-sets ns 0 (dimsWords 0 0 (at + 4) (dims .tree .1))
+      same-length = ap length (dims .keeps .words) ∙ length-sets ns 0 (dimsWords 0 0 (at + 4) (dimsOf (dims .tree)))
 
       ts : List (Tree Dimension)
-      ts = dims .tree .1
+      ts = dimsOf (dims .tree)
 
       there : Found Dimensions s at (dims .tree) (drop next s) next
       there = found-by dimensionsRule s b at (dims .tree) (drop next s) next (dims .is)
@@ -406,14 +396,14 @@ module _ (s : List ℕ) (b : Bytes s) (ns cs : List ℕ) (room : Roomy s ns cs) 
               let used-is = dims .keeps .count in
               let few = few-dims in
               let used-few = dims .keeps .few in
-              let four = four-entries 0 (at + 4) ts in
+              let all = width-entries 0 (at + 4) ts in
               let bytes = dims .keeps .bytes in
               let more = inside in
               let entries-is : es ≡ dimensionEntries tree ++ zeros (dimension-area - length (dimensionEntries tree)) =
-              dims .keeps .entries ∙ in-front dimension-area (dimsEntries 0 (at + 4) ts) (omega (arith, four))
+              dims .keeps .entries ∙ in-front dimension-area (dimsEntries 0 (at + 4) ts) (omega (arith, all))
               ∙ ap (λ (n : ℕ). dimsEntries 0 (n + 4) ts ++ zeros (dimension-area - length (dimsEntries 0 (n + 4) ts))) at-is in
               let order-is : t .order ≡ order tree ++ zeros (most-dimensions - length (order tree)) =
-              k .order ∙ in-front most-dimensions (mapAll entryIndex (entriesOf a)) (omega (arith, length-mapAll entryIndex (entriesOf a), k .few-entries)) in
+              k .order ∙ in-front most-dimensions (mapAll entryIndex (axisEntries a)) (omega (arith, length-mapAll entryIndex (axisEntries a), k .few-entries)) in
               let node-fit : node-words * nodes tree ≤ length ns = node-room s (length ns) (room .for-nodes) (nodes tree) (omega arith) (omega arith) in
               let cell-fit : cell-words * length (cells tree) ≤ length cs = cell-room s (length cs) (room .for-cells) (length (cells tree)) (k .few) (k .bytes) in
               record {
@@ -430,12 +420,12 @@ module _ (s : List ℕ) (b : Bytes s) (ns cs : List ℕ) (room : Roomy s ns cs) 
                     ∙ ap (λ (n : ℕ). dimsWords 0 0 (n + 4) ts) at-is;
                 cells-stored =
                     ap (take (cell-words * length (cells tree))) (k .stored)
-                    ∙ taken cs (rowsWords (size Cell) cellWords (next + size Axes a + 4) (x .1)) (cell-words * length (cells tree)) (room .clear-cells) (three-cells (next + size Axes a + 4) (x .1)) cell-fit
-                    ∙ ap (λ (n : ℕ). rowsWords (size Cell) cellWords n (x .1)) cells-at;
+                    ∙ taken cs (rowsWords (size Cell) cellWords (next + size Axes a + 4) (cellsOf x)) (cell-words * length (cells tree)) (room .clear-cells) (width-rows cell-words (size Cell) cellWords (λ _ _. refl) (next + size Axes a + 4) (cellsOf x)) cell-fit
+                    ∙ ap (λ (n : ℕ). rowsWords (size Cell) cellWords n (cellsOf x)) cells-at;
                 few-nodes = omega arith;
                 few-cells = k .few;
                 node-room = omega (arith, node-fit, ap length (dims .keeps .words), length-sets ns 0 (dimsWords 0 0 (at + 4) ts));
-                cell-room = omega (arith, cell-fit, ap length (k .stored), length-sets cs 0 (rowsWords (size Cell) cellWords (next + size Axes a + 4) (x .1)));
+                cell-room = omega (arith, cell-fit, ap length (k .stored), length-sets cs 0 (rowsWords (size Cell) cellWords (next + size Axes a + 4) (cellsOf x)));
               }
           go (tail-off x) f g = absurd (let z : _≡_ {A = ℕ} 0 1 = cc in omega arith)
 

@@ -1,5 +1,5 @@
 -- A section that is a number, with a limit of document 01, and as many items: what is kept of it is what is kept of the items.
-use mathlib.Core.Path.{_≡_, refl, sym, _∙_}
+use mathlib.Core.Path.{_≡_, refl}
 use mathlib.Core.List.{List}
 use Prim.Native.Nat.{ℕ, _+_, _≤_}
 use lib.ListN.{drop}
@@ -13,7 +13,7 @@ use Rattle.layout.specs.Read.{got, no, bind}
 use Rattle.layout.specs.Check.{check}
 use Rattle.layout.specs.Reads.{Reads, peek}
 use Rattle.layout.specs.Keeps.{Out, on, off, Keeps, keeps-on, keeps-off}
-use Rattle.table.specs.Laws.Spelt.{Read, read-on, read-off, NumberAt, number-at, number-check}
+use Rattle.table.specs.Laws.Spelt.{read-off, number-check, read-number, ReadNumber}
 
 module _ {a : Layout} {X : Type 0} (limit : ℕ) (k : List (Tree a) → Rule a) (s : List ℕ) (b : Bytes s) (at : ℕ) (Q : Tree (at-most-many limit a) → ℕ → X → Type 0)
     {st : Step} (r : Reads (field little 4 (at-most limit)) s (Next at) st) where
@@ -28,31 +28,25 @@ module _ {a : Layout} {X : Type 0} (limit : ℕ) (k : List (Tree a) → Rule a) 
   no-number e = rw (number-check little 4 (at-most limit) (λ n. times n a) (λ n. items {n = n} k) (drop at s) at, read-off r e) keeps-off
 
   module _ {p n : ℕ} (e : st ≡ Next p) (pk : n ≡ peek little 4 s (Next at)) where
-    found : Read (field little 4 (at-most limit)) s at p
-    found = read-on b r e
+    num : ReadNumber 4 (at-most limit) s at p n
+    num = read-number b r e pk
 
-    read-at : NumberAt 4 (at-most limit) s at (found .tree .0) p
-    read-at = number-at 4 (at-most limit) s at (found .tree .0) (drop p s) p (found .there)
-
-    n-is : found .tree .0 ≡ n
-    n-is = sym (pk ∙ read-at .peeked)
-
-    pub few : n ≤ limit
+    pub in-limit : n ≤ limit
     unfolding passes
-    few = leb-true n limit (rw n-is at (read-at .passed))
+    in-limit = leb-true n limit (num .says .passed)
 
     pub ends-at : p ≡ at + 4
-    ends-at = read-at .place
+    ends-at = num .says .place
 
     pub no-items : {m q : ℕ} → check (items {n = n} k) (drop p s) p ≡ no m q → Section (off m q)
     unfolding bind
     no-items {m} {q} h =
-        let h′ : check (items {n = found .tree .0} k) (drop p s) p ≡ no m q = rw n-is h in
-        rw (number-check little 4 (at-most limit) (λ n. times n a) (λ n. items {n = n} k) (drop at s) at, found .is, h′) keeps-off
+        let h′ : check (items {n = num .found .tree .0} k) (drop p s) p ≡ no m q = rw (num .is) h in
+        rw (number-check little 4 (at-most limit) (λ n. times n a) (λ n. items {n = n} k) (drop at s) at, num .found .is, h′) keeps-off
 
     pub the-items : {q : ℕ} {x : X} (ts : List (Tree a)) → check (items {n = n} k) (drop p s) p ≡ got ts (drop q s) q → Q (n, ts) q x → Section (on q x)
     unfolding bind
     the-items {q} {x} ts h k₁ =
-        let h′ : check (items {n = found .tree .0} k) (drop p s) p ≡ got ts (drop q s) q = rw n-is h in
-        let k₂ : Q (found .tree .0, ts) q x = rw n-is k₁ in
-        rw (number-check little 4 (at-most limit) (λ n. times n a) (λ n. items {n = n} k) (drop at s) at, found .is, h′) (keeps-on refl k₂)
+        let h′ : check (items {n = num .found .tree .0} k) (drop p s) p ≡ got ts (drop q s) q = rw (num .is) h in
+        let k₂ : Q (num .found .tree .0, ts) q x = rw (num .is) k₁ in
+        rw (number-check little 4 (at-most limit) (λ n. times n a) (λ n. items {n = n} k) (drop at s) at, num .found .is, h′) (keeps-on refl k₂)

@@ -27,10 +27,10 @@ use Rattle.table.specs.declared.Walk.the-variants as walk
 use Rattle.table.specs.declared.Section.{Section}
 use Rattle.table.specs.declared.Section.the-variants as section
 use Rattle.table.specs.Table.{DimProperties, Dimension, Dimensions, Category}
-use Rattle.table.specs.Records.{sum, nodes, size, treeWords, dimNodes, dimWords, dimEntry, dimsWords, dimsEntries}
+use Rattle.table.specs.Records.{sum, nodes, size, treeWords, dimNodes, dimWords, dimEntry, dimsWords, dimsEntries, dimOwn, dimCategories, dimsOf}
 use Rattle.table.specs.Rules.{categoriesRule, leavesOf, placeOf, dimensionRule}
 use Rattle.table.specs.Laws.Spelt.{step-spelt, Found, found-by, Read, read-on, read-off, ends-inside, stays-inside, peeked, bind-assoc}
-use Rattle.table.specs.Laws.Within.{Records, needed}
+use Rattle.table.specs.Laws.Within.{Records, needed, Room}
 use Rattle.table.specs.Laws.Words.{word32, kept-word, sets-append, width-all, width-tree}
 use Rattle.table.specs.Laws.Lengths.{size-dimension}
 use Rattle.table.specs.Laws.LeastBytes.{categories-bytes, least-category}
@@ -50,9 +50,9 @@ abbrev pub kept : ℕ → ℕ → List ℕ → List ℕ → Kept
 kept i used ns ds = record { number = i; used = used; words = ns; entries = ds }
 
 -- an answer of the code, and the words with it
-abbrev pub dimsOf : ℕ → Walk → List ℕ → List ℕ → Out Kept
-dimsOf i (walk.On at used) ns ds = on at (kept i used ns ds)
-dimsOf i (walk.Refused r p) ns ds = off r p
+abbrev pub dimsOut : ℕ → Walk → List ℕ → List ℕ → Out Kept
+dimsOut i (walk.On at used) ns ds = on at (kept i used ns ds)
+dimsOut i (walk.Refused r p) ns ds = off r p
 
 -- a dimension at the place `at`: its nodes and its entry come after those in x
 pub record Dim (at : ℕ) (x : Kept) (t : Tree Dimension) (p : ℕ) (y : Kept) : Type 0 where
@@ -64,9 +64,9 @@ pub record Dim (at : ℕ) (x : Kept) (t : Tree Dimension) (p : ℕ) (y : Kept) :
   pub words : y .words ≡ sets (x .words) (node-words * x .used) (dimWords (x .number) (x .used) at t)
   pub entries : y .entries ≡ sets (x .entries) (dimension-words * x .number) (dimEntry (x .used) at t)
 
--- a list of n words holds the records of all nodes that the bytes of s can have
-abbrev pub NodeRoom : ℕ → List ℕ → Type 0
-NodeRoom n s = (u : ℕ) → u ≤ most-nodes → least-category * u ≤ length s → node-words * u ≤ n
+-- the node records
+abbrev pub node-records : Records
+node-records = record { width = node-words; least = least-category; most = most-nodes; number = 12 }
 
 -- ---- a dimension ends
 
@@ -127,7 +127,7 @@ module _ (s : List ℕ) (b : Bytes s) (short : length s ≤ member-bytes) (at : 
   unfolding bind
   no-start r e = rw (check-parts (x .used) (drop at s) at, read-off r e) keeps-off
 
-  module _ (few : x .used ≤ most-nodes) (so-far : least-category * x .used ≤ at) (room : NodeRoom (length (x .words)) s)
+  module _ (few : x .used ≤ most-nodes) (so-far : least-category * x .used ≤ at) (room : Room node-records (length (x .words)) s)
       {name before st : Step} {n f : ℕ} (v : Reads Value s (Next at) name) (r : Reads (Value ▸ DimProperties) s (Next at) before) (g : Reads int32 s before st)
       (pk : n ≡ peek little 4 s before) (e : st ≡ Next f) where
     start : Read Start s at f
@@ -207,14 +207,14 @@ module _ (s : List ℕ) (b : Bytes s) (short : length s ≤ member-bytes) (at : 
           rw (named, kept-word at (omega arith), kept-word (length ls) (omega (arith, most-leaves)), kept-word (x .used) (omega arith), n-leaves, leaf-count tree)
 
       pub close-dim : {w : Walk} {es : List ℕ} → Closed (x .number) at (nameLength at name) (x .used) q u ms (x .entries) w es
-          → Keeps s One reading (dimsOf (x .number + 1) w ms es)
+          → Keeps s One reading (dimsOut (x .number + 1) w ms es)
       unfolding bind judge ls dimNodes dimWords
       close-dim h =
           let c′ : check (categoriesRule category-depth (x .used) (start .tree .1 .0)) (drop f s) f ≡ got ts (drop q s) q = rw n-is c in
           rw (check-parts (x .used) (drop at s) at, start .is, c′) (go (verdict tree) judged h)
         where
           go : (v : Verdict) → verdictOf ls ≡ later at v → {w : Walk} {es : List ℕ} → Closed (x .number) at (nameLength at name) (x .used) q u ms (x .entries) w es
-              → Keeps s One (judge 8 at (placeOf v) tree (drop q s) q) (dimsOf (x .number + 1) w ms es)
+              → Keeps s One (judge 8 at (placeOf v) tree (drop q s) q) (dimsOut (x .number + 1) w ms es)
           go Fine e (closed g es) =
               let f-is′ : f ≡ at + size (Value ▸ DimProperties) (start .tree .0) + 4 = omega (arith, f-is) in
               let end : q ≡ at + size Dimension tree = omega (arith, size-dimension tree, size-start (start .tree), all .place, start .there .place) in
@@ -245,13 +245,18 @@ pub record Dims (at : ℕ) (x : Kept) (ts : List (Tree Dimension)) (p : ℕ) (y 
 width-dim : (i used at : ℕ) (t : Tree Dimension) → length (dimWords i used at t) ≡ node-words * dimNodes t
 unfolding dimWords dimNodes
 width-dim i used at t =
-    width-all (nodes category-depth) (size Category) (treeWords category-depth i no-parent) (width-tree category-depth i no-parent) used (at + size (Value ▸ DimProperties) (t .0) + 4) (t .1 .1)
+    width-all (nodes category-depth) (size Category) (treeWords category-depth i no-parent) (width-tree category-depth i no-parent) used (at + size (Value ▸ DimProperties) (dimOwn t) + 4) (dimCategories t)
 
 pub width-dims : (i used at : ℕ) (ts : List (Tree Dimension)) → length (dimsWords i used at ts) ≡ node-words * sum dimNodes ts
 unfolding dimsWords sum
 width-dims i used at [] = refl
 width-dims i used at (t ∷ ts) =
     rw (length-append, width-dim i used at t, width-dims (i + 1) (used + dimNodes t) (at + size Dimension t) ts) (omega arith)
+
+pub width-entries : (used at : ℕ) (ts : List (Tree Dimension)) → length (dimsEntries used at ts) ≡ dimension-words * length ts
+unfolding dimsEntries dimEntry
+width-entries used at [] = refl
+width-entries used at (t ∷ ts) = rw (length-append (dimEntry used at t), width-entries (used + dimNodes t) (at + size Dimension t) ts) (omega arith)
 
 pub all-dims : {at : ℕ} {x : Kept} {ts : List (Tree Dimension)} {p : ℕ} {y : Kept} → Each Dim at x ts p y → Dims at x ts p y
 unfolding sum dimsWords dimsEntries dimEntry
@@ -315,26 +320,22 @@ module _ (s : List ℕ) (n at : ℕ) (ns ds : List ℕ) where
 
 -- ---- the section
 
--- the node records
-abbrev pub node-records : Records
-node-records = record { width = node-words; least = least-category; most = most-nodes; number = 12 }
-
-pub node-room : (s : List ℕ) (n : ℕ) → needed node-records (length s) ≤ n → NodeRoom n s
+pub node-room : (s : List ℕ) (n : ℕ) → needed node-records (length s) ≤ n → Room node-records n s
 node-room s n h u few k = omega arith
 
 -- an answer of the code, and the words with it
-abbrev pub sectionOf : Section → List ℕ → List ℕ → Out Kept
-sectionOf (section.Of p d used) ns ds = on p (kept d used ns ds)
-sectionOf (section.Refused r p) ns ds = off r p
+abbrev pub sectionOut : Section → List ℕ → List ℕ → Out Kept
+sectionOut (section.Of p d used) ns ds = on p (kept d used ns ds)
+sectionOut (section.Refused r p) ns ds = off r p
 
 -- the dimensions whose number stands at the place `at`
 pub record AllDims (at : ℕ) (ns ds : List ℕ) (t : Tree Dimensions) (p : ℕ) (y : Kept) : Type 0 where
-  pub number : y .number ≡ length (t .1)
-  pub count : y .used ≡ sum dimNodes (t .1)
+  pub number : y .number ≡ length (dimsOf t)
+  pub count : y .used ≡ sum dimNodes (dimsOf t)
   pub few : y .used ≤ most-nodes
   pub bytes : least-category * y .used ≤ p
-  pub words : y .words ≡ sets ns 0 (dimsWords 0 0 (at + 4) (t .1))
-  pub entries : y .entries ≡ sets ds 0 (dimsEntries 0 (at + 4) (t .1))
+  pub words : y .words ≡ sets ns 0 (dimsWords 0 0 (at + 4) (dimsOf t))
+  pub entries : y .entries ≡ sets ds 0 (dimsEntries 0 (at + 4) (dimsOf t))
 
 pub the-dims : {at p n : ℕ} {ns ds : List ℕ} {ts : List (Tree Dimension)} {q u : ℕ} {ms es : List ℕ} → p ≡ at + 4
     → Each Dim p (kept 0 0 ns ds) ts q (kept n u ms es) → AllDims at ns ds (n, ts) q (kept n u ms es)

@@ -121,9 +121,9 @@ module _ {s : List ℕ} {at : ℕ} {name st : Step} (b : Bytes s) (small : lengt
       let name-is : name ≡ Next at₁ = v .is ∙ step-spelt Value m (v′ .0) s at (rest ++ r) a₁ in
       let b₁ = first s at₁ (digits little 3 k) (spell (KindOf none k) t) r a₂ in
       let kind : peek little 3 s name ≡ k = rw name-is (peek-spelt little 3 k (v′ .1 .0) s at₁ (spell (KindOf none k) t ++ r) b₁) in
-      let mark = field-spelt little 3 (one-of kinds) k (v′ .1 .0) (v′ .1 .1) s at₁ (spell (KindOf none k) t ++ r) b₁ in
-      let st-is : st ≡ Next (at₁ + 3) = f .is ∙ rw name-is (mark .0) in
-      let word = word-spelt m k t (v′ .1 .2) s (at₁ + 3) r (mark .1) in
+      let three = field-spelt little 3 (one-of kinds) k (v′ .1 .0) (v′ .1 .1) s at₁ (spell (KindOf none k) t ++ r) b₁ in
+      let st-is : st ≡ Next (at₁ + 3) = f .is ∙ rw name-is (three .0) in
+      let word = word-spelt m k t (v′ .1 .2) s (at₁ + 3) r (three .1) in
       let a-is : a ≡ step (beforeWord k) s (at₁ + 3) = rw (st-is, kind) at (g .is) in
       let short : size Value m < 2 ^ 32 = omega (arith, length-drop at s, simp length-append at (ap length a₁)) in
       let w-is : w ≡ wordOf (m, (k, t)) = c ∙ rw a-is (word .0) in

@@ -19,7 +19,7 @@ use Rattle.once.specs.Once.{OnceEach, AllFresh, Leaf, indexes, fresh, firstBad}
 use Rattle.once.specs.Laws.{all-fresh, none-bad}
 use Rattle.value.specs.Value.{Value}
 use Rattle.table.specs.Table.{CategoryIn, DimProperties, Dimension, Dimensions, Axes, Cell, Cells, Category}
-use Rattle.table.specs.Records.{Head, sum, nodes, size, leafIndexes, dimNodes, dimLeaves, LeavesOnce, entryIndex, cellIndex, mapAll}
+use Rattle.table.specs.Records.{Head, sum, nodes, size, leafIndexes, dimNodes, dimLeaves, LeavesOnce, entryIndex, cellIndex, mapAll, leafIndex, dimOwn, dimCategories, dimsOf, axisLayers, axisRows, axisColumns, axisEntries, cellsOf}
 use Rattle.table.specs.Rules.{categoryRule, leavesAll, treeLeaves, leavesOf, placeOf, dimensionRule, dimensionsRule, placesOf, entryRule, axesRule, cellRule, cellsRule}
 
 -- ---- the number of nodes
@@ -80,7 +80,7 @@ indexes-tree : (d at : ℕ) (t : Tree (CategoryIn d)) → indexes (treeLeaves d 
 unfolding treeLeaves leafIndexes
 indexes-tree zero at t = refl
 indexes-tree (suc d) at (m, (zero, t)) =
-    ap (λ (l : List ℕ). t .0 .1 .0 ∷ l)
+    ap (λ (l : List ℕ). leafIndex t ∷ l)
     (indexes-all (size (CategoryIn d)) (treeLeaves d) (leafIndexes d) (indexes-tree d) (at + size Head (m, (zero, t))) [])
 indexes-tree (suc d) at (m, (suc k, (t, (n, ts)))) =
     indexes-all (size (CategoryIn d)) (treeLeaves d) (leafIndexes d) (indexes-tree d) (at + size Head (m, (suc k, (t, (n, tt))))) ts
@@ -88,7 +88,7 @@ indexes-tree (suc d) at (m, (suc k, (t, (n, ts)))) =
 -- the leaves that are tested are the dimension's
 indexes-are : (t : Tree Dimension) → indexes (leavesOf t) ≡ dimLeaves t
 unfolding leavesOf dimLeaves
-indexes-are t = indexes-all (size Category) (treeLeaves category-depth) (leafIndexes category-depth) (indexes-tree category-depth) (size (Value ▸ DimProperties) (t .0) + 4) (t .1 .1)
+indexes-are t = indexes-all (size Category) (treeLeaves category-depth) (leafIndexes category-depth) (indexes-tree category-depth) (size (Value ▸ DimProperties) (dimOwn t) + 4) (dimCategories t)
 
 -- n of a dimension is their number
 pub leaf-count : (t : Tree Dimension) → length (leavesOf t) ≡ length (dimLeaves t)
@@ -116,13 +116,13 @@ dimension-kept used t l =
     let one : (done : List (Tree Category)) (c : Tree Category) → used + sum (nodes category-depth) done ≤ most-nodes
     → P done c ↔ ((used + sum (nodes category-depth) done + nodes category-depth c ≤ most-nodes) × Unit {0}) =
     λ done c _. let h = category-kept category-depth (used + sum (nodes category-depth) done) c in (λ k. (h .0 k, tt), λ m. h .1 (m .0)) in (
-      λ k. (omega (arith, few (nodes category-depth) (λ _. Unit {0}) P used one [] (t .1 .1) (omega arith) (k .0 .1) .0), leaves-once t .0 (k .1)),
+      λ k. (omega (arith, few (nodes category-depth) (λ _. Unit {0}) P used one [] (dimCategories t) (omega arith) (k .0 .1) .0), leaves-once t .0 (k .1)),
       λ m. let n = m .0 in
-          ((tt, so-few (nodes category-depth) (λ _. Unit {0}) P used one [] (t .1 .1) (omega arith) (anything (t .1 .1))), leaves-once t .1 (m .1)),
+          ((tt, so-few (nodes category-depth) (λ _. Unit {0}) P used one [] (dimCategories t) (omega arith) (anything (dimCategories t))), leaves-once t .1 (m .1)),
     )
 
 -- Dimensions: at most 4,096 nodes in all, and the leaf indexes of each once each
-pub dimensions-kept : (t : Tree Dimensions) → Kept dimensionsRule t ↔ ((sum dimNodes (t .1) ≤ most-nodes) × All LeavesOnce (t .1))
+pub dimensions-kept : (t : Tree Dimensions) → Kept dimensionsRule t ↔ ((sum dimNodes (dimsOf t) ≤ most-nodes) × All LeavesOnce (dimsOf t))
 unfolding dimensionsRule sum
 dimensions-kept t =
     let P : List (Tree Dimension) → Tree Dimension → Type 0 = λ done d. Kept (dimensionRule (sum dimNodes done)) d in
@@ -130,8 +130,8 @@ dimensions-kept t =
     → P done d ↔ ((0 + sum dimNodes done + dimNodes d ≤ most-nodes) × LeavesOnce d) =
     λ done d l. let h = dimension-kept (sum dimNodes done) d (omega arith) in
     (λ k. let m = h .0 k in (omega (arith, m .0), m .1), λ m. h .1 (omega (arith, m .0), m .1)) in (
-      λ k. let m = few dimNodes LeavesOnce P 0 one [] (t .1) (omega arith) k in (omega (arith, m .0), m .1),
-      λ m. so-few dimNodes LeavesOnce P 0 one [] (t .1) (omega (arith, m .0)) (m .1),
+      λ k. let m = few dimNodes LeavesOnce P 0 one [] (dimsOf t) (omega arith) k in (omega (arith, m .0), m .1),
+      λ m. so-few dimNodes LeavesOnce P 0 one [] (dimsOf t) (omega (arith, m .0)) (m .1),
     )
 
 -- ---- numbers that stand once each
@@ -184,7 +184,7 @@ EntryKept d done t = Kept (entryRule d done) t
 entry-kept : (d : ℕ) (done : List (Tree int32)) (t : Tree int32) → EntryKept d done t ↔ (fresh d (mapAll entryIndex done) (entryIndex t) ≡ true)
 unfolding entryRule
 entry-kept d done t =
-    let h = by-test (fresh d (mapAll entryIndex done) (t .0)) 0 in
+    let h = by-test (fresh d (mapAll entryIndex done) (entryIndex t)) 0 in
     (λ k. h .0 (k .1), λ e. (tt, h .1 e))
 
 -- the three groups are one list of entries
@@ -210,14 +210,14 @@ three-kept d ls rs cs =
 pub axes-kept : (ts : List (Tree Dimension)) (t : Tree Axes)
     → Kept (axesRule ts) t
     ↔ ((placesOf ts ≤ most-places)
-    × (t .0 + t .1 .0 + t .1 .1 .0 ≡ length ts)
-    × OnceEach (length ts) (mapAll entryIndex (t .1 .1 .1 .0 .0 ++ t .1 .1 .1 .0 .1 ++ t .1 .1 .1 .1)))
+    × (axisLayers t + axisRows t + axisColumns t ≡ length ts)
+    × OnceEach (length ts) (mapAll entryIndex (axisEntries t)))
 unfolding axesRule
 axes-kept ts t =
     let e = t .1 .1 .1 in
     let h = three-kept (length ts) (e .0 .0) (e .0 .1) (e .1) in (
-      λ k. (leb-true (placesOf ts) most-places (k .0), eqb-true (t .0 + t .1 .0 + t .1 .1 .0) (length ts) (k .1 .0), h .0 (k .1 .1)),
-      λ m. (le-leb (placesOf ts) most-places (m .0), (eq-eqb (t .0 + t .1 .0 + t .1 .1 .0) (length ts) (m .1), h .1 (m .2))),
+      λ k. (leb-true (placesOf ts) most-places (k .0), eqb-true (axisLayers t + axisRows t + axisColumns t) (length ts) (k .1 .0), h .0 (k .1 .1)),
+      λ m. (le-leb (placesOf ts) most-places (m .0), (eq-eqb (axisLayers t + axisRows t + axisColumns t) (length ts) (m .1), h .1 (m .2))),
     )
 
 -- ---- cells
@@ -225,10 +225,10 @@ axes-kept ts t =
 cell-kept : (n : ℕ) (done : List (Tree Cell)) (t : Tree Cell) → Kept (cellRule n done) t ↔ (fresh n (mapAll cellIndex done) (cellIndex t) ≡ true)
 unfolding cellRule
 cell-kept n done t =
-    let h = by-test (fresh n (mapAll cellIndex done) (t .0 .0)) 0 in
+    let h = by-test (fresh n (mapAll cellIndex done) (cellIndex t)) 0 in
     (λ k. h .0 (k .0 .1), λ e. ((tt, h .1 e), tt))
 
 -- Cells: each is inside the table of n places, and no index stands twice
-pub cells-kept : (n : ℕ) (t : Tree Cells) → Kept (cellsRule n) t ↔ OnceEach n (mapAll cellIndex (t .1))
+pub cells-kept : (n : ℕ) (t : Tree Cells) → Kept (cellsRule n) t ↔ OnceEach n (mapAll cellIndex (cellsOf t))
 unfolding cellsRule
-cells-kept n t = once-kept (λ done c. Kept (cellRule n done) c) n cellIndex (cell-kept n) (t .1)
+cells-kept n t = once-kept (λ done c. Kept (cellRule n done) c) n cellIndex (cell-kept n) (cellsOf t)

@@ -5,13 +5,12 @@ use Prim.Native.Nat.{ℕ, zero, suc, _+_, _*_, _≤_}
 use native.Mathlib.Nat.{mul-zero, mul-add}
 use native.Mathlib.Omega.{arith}
 use lib.ListN.{length, length-append}
-use Rattle.sizes.specs.Sizes.{category-depth}
 use Rattle.layout.specs.Layout.{Tree, spell, All, all-none, all-more, Valid}
 use Rattle.layout.specs.Laws.{digits-length}
 use Rattle.layout.specs.Steps.Least.{least, least-spelt}
 use Rattle.value.specs.Value.{Value, ValueIn}
-use Rattle.table.specs.Table.{Leaf, CategoryIn, Dimension, Cell, Category}
-use Rattle.table.specs.Records.{sum, nodes, size, dimNodes}
+use Rattle.table.specs.Table.{Leaf, CategoryIn, Cell}
+use Rattle.table.specs.Records.{sum, nodes, size}
 use Rattle.table.specs.Laws.Lengths.{size-all}
 
 -- a category node: a Value of a byte, three bytes, and what a leaf has after them
@@ -52,17 +51,6 @@ category-bytes (suc d) (m, (suc k, (t, (n, ts)))) v =
 
 pub categories-bytes : (d : ℕ) {ts : List (Tree (CategoryIn d))} → All (Valid (CategoryIn d)) ts → least-category * sum (nodes d) ts ≤ sum (size (CategoryIn d)) ts
 categories-bytes d vs = sum-least least-category (nodes d) (size (CategoryIn d)) (category-bytes d) vs
-
--- ---- dimensions
-
-pub dimension-bytes : (t : Tree Dimension) → Valid Dimension t → least-category * dimNodes t ≤ size Dimension t
-unfolding dimNodes size spell
-dimension-bytes t v =
-    let rest = categories-bytes category-depth (v .1 .2 .1) in
-    simp (length-append, digits-length) (omega (arith, size-all Category (t .1 .1)))
-
-pub dimensions-bytes : {ts : List (Tree Dimension)} → All (Valid Dimension) ts → least-category * sum dimNodes ts ≤ sum (size Dimension) ts
-dimensions-bytes vs = sum-least least-category dimNodes (size Dimension) dimension-bytes vs
 
 -- ---- cells
 

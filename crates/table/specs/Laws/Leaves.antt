@@ -7,7 +7,7 @@ use native.Mathlib.Omega.{arith}
 use lib.ListN.{length, drop, getD}
 use lib.Seq.{getD-drop, drop-drop, sets}
 use lib.Dec.{eqb}
-use Rattle.sizes.specs.Sizes.{most-nodes, category-depth, node-words}
+use Rattle.sizes.specs.Sizes.{most-nodes, category-depth, node-words, name-place, name-length, leaf-index, name-to-index}
 use Rattle.layout.specs.Layout.{Tree, pick}
 use Rattle.once.specs.declared.Verdict.{Verdict}
 use Rattle.once.specs.declared.Verdict.the-variants.{Fine, Bad}
@@ -23,16 +23,16 @@ use Rattle.table.specs.Laws.Words.{drop-sets, width-all, width-tree}
 unfoldable leavesFrom : ℕ → List ℕ → List Leaf
 leavesFrom zero ws = []
 leavesFrom (suc k) ws =
-    pick (eqb (getD ws 0 0) 0) ((getD ws 5 0, getD ws 3 0 + getD ws 4 0 + 7) ∷ leavesFrom k (drop node-words ws)) (leavesFrom k (drop node-words ws))
+    pick (eqb (getD ws 0 0) 0) ((getD ws leaf-index 0, getD ws name-place 0 + getD ws name-length 0 + name-to-index) ∷ leavesFrom k (drop node-words ws)) (leavesFrom k (drop node-words ws))
 
 leaves-from : (ms : List ℕ) (i k : ℕ) → leaves ms i k ≡ leavesFrom k (drop (node-words * i) ms)
 unfolding leaves leavesFrom leaf isLeaf word
 leaves-from ms i zero = refl
 leaves-from ms i (suc k) =
     let e₀ : getD ms (node-words * i) 0 ≡ getD (drop (node-words * i) ms) 0 0 = let z : node-words * i + 0 ≡ node-words * i = omega arith in ap (λ (n : ℕ). getD ms n 0) (sym z) ∙ sym (getD-drop (node-words * i) ms 0 0) in
-    let e₃ : getD ms (node-words * i + 3) 0 ≡ getD (drop (node-words * i) ms) 3 0 = sym (getD-drop (node-words * i) ms 3 0) in
-    let e₄ : getD ms (node-words * i + 4) 0 ≡ getD (drop (node-words * i) ms) 4 0 = sym (getD-drop (node-words * i) ms 4 0) in
-    let e₅ : getD ms (node-words * i + 5) 0 ≡ getD (drop (node-words * i) ms) 5 0 = sym (getD-drop (node-words * i) ms 5 0) in
+    let e₃ : getD ms (node-words * i + name-place) 0 ≡ getD (drop (node-words * i) ms) name-place 0 = sym (getD-drop (node-words * i) ms name-place 0) in
+    let e₄ : getD ms (node-words * i + name-length) 0 ≡ getD (drop (node-words * i) ms) name-length 0 = sym (getD-drop (node-words * i) ms name-length 0) in
+    let e₅ : getD ms (node-words * i + leaf-index) 0 ≡ getD (drop (node-words * i) ms) leaf-index 0 = sym (getD-drop (node-words * i) ms leaf-index 0) in
     let next : node-words * (i + 1) ≡ node-words * i + node-words = omega arith in
     let e₆ : drop (node-words * (i + 1)) ms ≡ drop node-words (drop (node-words * i) ms) = ap (λ (n : ℕ). drop n ms) next ∙ sym (drop-drop node-words (node-words * i) ms) in
     let ih : leaves ms (i + 1) k ≡ leavesFrom k (drop node-words (drop (node-words * i) ms)) = leaves-from ms (i + 1) k ∙ ap (λ (l : List ℕ). leavesFrom k l) e₆ in
@@ -109,7 +109,7 @@ unfolding treeLeaves further
 further-tree zero a at t = refl
 further-tree (suc d) a at (m, (zero, t)) =
     let e : a + at + size Head (m, (zero, t)) ≡ a + (at + size Head (m, (zero, t))) = omega arith in
-    let p : a + at + size Value m + 7 ≡ a + (at + size Value m + 7) = omega arith in
+    let p : a + at + size Value m + name-to-index ≡ a + (at + size Value m + name-to-index) = omega arith in
     rw (e, p, further-all (size (CategoryIn d)) (treeLeaves d) a (further-tree d a) (at + size Head (m, (zero, t))) [])
 further-tree (suc d) a at (m, (suc k, (t, (n, ts)))) =
     let h : Tree Head = (m, (suc k, (t, (n, tt)))) in

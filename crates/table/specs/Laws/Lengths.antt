@@ -7,7 +7,7 @@ use Rattle.layout.specs.Layout.{little, Layout, _▸_, Tree, digits, spellAll, 
 use Rattle.layout.specs.Laws.{digits-length}
 use Rattle.value.specs.Value.{Value}
 use Rattle.table.specs.Table.{CategoryIn, DimProperties, Dimension, Category}
-use Rattle.table.specs.Records.{Head, front, children, sum, size}
+use Rattle.table.specs.Records.{Head, front, children, sum, size, dimOwn, dimCategories}
 
 -- ---- what they spell
 
@@ -17,9 +17,9 @@ spell-category d (m, (zero, t)) = sym (append-nil (spell Head (m, (zero, t))))
 spell-category d (m, (suc k, (t, (n, ts)))) = simp (append-nil, append-assoc)
 
 pub spell-dimension : (t : Tree Dimension)
-    → spell Dimension t ≡ spell (Value ▸ DimProperties) (t .0) ++ digits little 4 (t .1 .0) ++ spellAll (spell Category) (t .1 .1)
+    → spell Dimension t ≡ spell (Value ▸ DimProperties) (dimOwn t) ++ digits little 4 (t .1 .0) ++ spellAll (spell Category) (dimCategories t)
 unfolding spell
-spell-dimension t = sym (append-assoc (spell (Value ▸ DimProperties) (t .0)) (digits little 4 (t .1 .0)) (spellAll (spell Category) (t .1 .1)))
+spell-dimension t = sym (append-assoc (spell (Value ▸ DimProperties) (dimOwn t)) (digits little 4 (t .1 .0)) (spellAll (spell Category) (dimCategories t)))
 
 -- ---- sizes
 
@@ -33,6 +33,6 @@ pub size-category : (d : ℕ) (t : Tree (CategoryIn (suc d))) → size (Category
 unfolding size
 size-category d t = rw (spell-category d t, length-append, size-all (CategoryIn d) (children d t))
 
-pub size-dimension : (t : Tree Dimension) → size Dimension t ≡ size (Value ▸ DimProperties) (t .0) + 4 + sum (size Category) (t .1 .1)
+pub size-dimension : (t : Tree Dimension) → size Dimension t ≡ size (Value ▸ DimProperties) (dimOwn t) + 4 + sum (size Category) (dimCategories t)
 unfolding size
-size-dimension t = rw (spell-dimension t, length-append, length-append, digits-length, size-all Category (t .1 .1))
+size-dimension t = rw (spell-dimension t, length-append, length-append, digits-length, size-all Category (dimCategories t))

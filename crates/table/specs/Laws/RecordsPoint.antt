@@ -7,12 +7,12 @@ use native.Mathlib.Nat.{mul-zero, mul-suc}
 use native.Mathlib.Omega.{arith}
 use lib.ListN.{length, drop, getD, getElem?, length-append, List·getD-append}
 use lib.Seq.{getD-append-add}
-use Rattle.sizes.specs.Sizes.{category-depth, node-words, cell-words, dimension-words, no-parent}
+use Rattle.sizes.specs.Sizes.{category-depth, node-words, cell-words, dimension-words, no-parent, name-place, name-length}
 use Rattle.layout.specs.Layout.{Order, little, one-of, Layout, empty, number, _▸_, Tree, digits, spellAll, spell}
 use Rattle.layout.specs.Laws.{digits-length}
 use Rattle.value.specs.Value.{Value}
 use Rattle.table.specs.Table.{kinds, KindOf, CategoryIn, DimProperties, Dimension, Cell, Category}
-use Rattle.table.specs.Records.{Head, front, children, sum, nodes, size, wordsAll, nodeWords, treeWords, dimNodes, dimWords, dimEntry, dimsWords, dimsEntries, cellWords, rowsWords}
+use Rattle.table.specs.Records.{Head, front, children, sum, nodes, size, wordsAll, nodeWords, treeWords, dimNodes, dimWords, dimEntry, dimsWords, dimsEntries, cellWords, rowsWords, headName, dimOwn, dimName, dimCategories, cellValue}
 use Rattle.table.specs.Laws.Spelt.{after}
 use Rattle.table.specs.Laws.Lengths.{spell-category, spell-dimension}
 
@@ -21,18 +21,11 @@ use Rattle.table.specs.Laws.Lengths.{spell-category, spell-dimension}
 -- the names of a category and of those below it
 unfoldable pub treeNames : (d : ℕ) → Tree (CategoryIn d) → List (Tree Value)
 treeNames zero t = []
-treeNames (suc d) t = front d t .0 ∷ flatMap (treeNames d) (children d t)
+treeNames (suc d) t = headName (front d t) ∷ flatMap (treeNames d) (children d t)
 
 -- the names of a dimension's categories
 unfoldable pub categoryNames : Tree Dimension → List (Tree Value)
-categoryNames t = flatMap (treeNames category-depth) (t .1 .1)
-
--- a dimension's own name
-abbrev pub dimName : Tree Dimension → Tree Value
-dimName t = t .0 .0
-
-abbrev pub cellValue : Tree Cell → Tree Value
-cellValue t = t .1
+categoryNames t = flatMap (treeNames category-depth) (dimCategories t)
 
 -- there are as many names as nodes
 length-flat : {A : Type 0} (f : A → List (Tree Value)) (count : A → ℕ) → ((t : A) → length (f t) ≡ count t) → (ts : List A) → length (flatMap f ts) ≡ sum count ts
@@ -47,7 +40,7 @@ names-nodes (suc d) t = rw (length-flat (treeNames d) (nodes d) (names-nodes d) 
 
 pub all-names : (ts : List (Tree Dimension)) → length (flatMap categoryNames ts) ≡ sum dimNodes ts
 unfolding categoryNames dimNodes
-all-names ts = length-flat categoryNames dimNodes (λ t. length-flat (treeNames category-depth) (nodes category-depth) (names-nodes category-depth) (t .1 .1)) ts
+all-names ts = length-flat categoryNames dimNodes (λ t. length-flat (treeNames category-depth) (nodes category-depth) (names-nodes category-depth) (dimCategories t)) ts
 
 -- ---- records that point to Values
 
@@ -77,10 +70,6 @@ module _ {s : List ℕ} {n j k : ℕ} where
   joined : {ws ws′ : List ℕ} {vs vs′ : List (Tree Value)} → Pointing s n j k ws vs → Pointing s n j k ws′ vs′ → Pointing s n j k (ws ++ ws′) (vs ++ vs′)
   joined no-records q = q
   joined (one-record ws l p ps) q = rw append-assoc (one-record ws l p (joined ps q))
-
-  pub words-of : {ws : List ℕ} {vs : List (Tree Value)} → Pointing s n j k ws vs → length ws ≡ n * length vs
-  words-of no-records = sym (mul-zero n)
-  words-of (one-record ws {vs = vs} l p ps) = rw (length-append, mul-suc n (length vs), l, words-of ps) (omega arith)
 
   -- record i is that of the i-th of them
   pub record-of : {ws : List ℕ} {vs : List (Tree Value)} → j < n → k < n → Pointing s n j k ws vs → (i : ℕ) (v : Tree Value) → getElem? vs i ≡ some v
@@ -117,9 +106,9 @@ rest-of g s at t ts r e = after s at (spell g t) (spellAll (spell g) ts ++ r) (f
 -- ---- nodes
 
 module _ (s : List ℕ) (g : Layout) (names : Tree g → List (Tree Value)) (count : Tree g → ℕ) (words : ℕ → ℕ → Tree g → List ℕ)
-    (each : (used at : ℕ) (t : Tree g) (r : List ℕ) → drop at s ≡ spell g t ++ r → Pointing s node-words 3 4 (words used at t) (names t)) where
+    (each : (used at : ℕ) (t : Tree g) (r : List ℕ) → drop at s ≡ spell g t ++ r → Pointing s node-words name-place name-length (words used at t) (names t)) where
   all-point : (used at : ℕ) (ts : List (Tree g)) (r : List ℕ) → drop at s ≡ spellAll (spell g) ts ++ r
-      → Pointing s node-words 3 4 (wordsAll count (size g) words used at ts) (flatMap names ts)
+      → Pointing s node-words name-place name-length (wordsAll count (size g) words used at ts) (flatMap names ts)
   unfolding wordsAll flatMap
   all-point used at [] r e = no-records
   all-point used at (t ∷ ts) r e =
@@ -129,7 +118,7 @@ node-point : (s : List ℕ) (at : ℕ) (h : Tree Head) (r : List ℕ) → drop a
 node-point s at h r e = first-points s at (number little 3 (one-of kinds) (KindOf (λ _. empty))) h r e
 
 tree-point : (s : List ℕ) (d dim par used at : ℕ) (t : Tree (CategoryIn d)) (r : List ℕ) → drop at s ≡ spell (CategoryIn d) t ++ r
-    → Pointing s node-words 3 4 (treeWords d dim par used at t) (treeNames d t)
+    → Pointing s node-words name-place name-length (treeWords d dim par used at t) (treeNames d t)
 unfolding treeWords treeNames size
 tree-point s zero dim par used at t r e = no-records
 tree-point s (suc d) dim par used at t r e =
@@ -143,21 +132,21 @@ tree-point s (suc d) dim par used at t r e =
 
 -- a dimension's own part stands first
 own-part : (s : List ℕ) (at : ℕ) (t : Tree Dimension) (r : List ℕ) → drop at s ≡ spell Dimension t ++ r
-    → drop at s ≡ spell (Value ▸ DimProperties) (t .0) ++ (digits little 4 (t .1 .0) ++ (spellAll (spell Category) (t .1 .1) ++ r))
+    → drop at s ≡ spell (Value ▸ DimProperties) (dimOwn t) ++ (digits little 4 (t .1 .0) ++ (spellAll (spell Category) (dimCategories t) ++ r))
 own-part s at t r e = e ∙ (ap (λ (xs : List ℕ). xs ++ r) (spell-dimension t) ∙ simp append-assoc)
 
-dim-point : (s : List ℕ) (i used at : ℕ) (t : Tree Dimension) (r : List ℕ) → drop at s ≡ spell Dimension t ++ r → Pointing s node-words 3 4 (dimWords i used at t) (categoryNames t)
+dim-point : (s : List ℕ) (i used at : ℕ) (t : Tree Dimension) (r : List ℕ) → drop at s ≡ spell Dimension t ++ r → Pointing s node-words name-place name-length (dimWords i used at t) (categoryNames t)
 unfolding dimWords categoryNames size
 dim-point s i used at t r e =
-    let own = spell (Value ▸ DimProperties) (t .0) in
-    let below = spellAll (spell Category) (t .1 .1) in
+    let own = spell (Value ▸ DimProperties) (dimOwn t) in
+    let below = spellAll (spell Category) (dimCategories t) in
     all-point s Category (treeNames category-depth) (nodes category-depth) (treeWords category-depth i no-parent) (λ u a x q k. tree-point s category-depth i no-parent u a x q k)
-    used (at + size (Value ▸ DimProperties) (t .0) + 4) (t .1 .1) r
+    used (at + size (Value ▸ DimProperties) (dimOwn t) + 4) (dimCategories t) r
     (after-digits s (at + length own) little 4 (t .1 .0) (below ++ r) (after s at own (digits little 4 (t .1 .0) ++ (below ++ r)) (own-part s at t r e)))
 
 -- the node records of dimensions that follow each other
 pub dims-point : (s : List ℕ) (i used at : ℕ) (ts : List (Tree Dimension)) (r : List ℕ) → drop at s ≡ spellAll (spell Dimension) ts ++ r
-    → Pointing s node-words 3 4 (dimsWords i used at ts) (flatMap categoryNames ts)
+    → Pointing s node-words name-place name-length (dimsWords i used at ts) (flatMap categoryNames ts)
 unfolding dimsWords flatMap
 dims-point s i used at [] r e = no-records
 dims-point s i used at (t ∷ ts) r e =

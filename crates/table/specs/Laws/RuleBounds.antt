@@ -6,7 +6,7 @@ use mathlib.Core.List.{List, [], _∷_, _++_}
 use Prim.Native.Nat.{ℕ, zero, suc, _+_, _≤_}
 use native.Mathlib.Omega.{arith}
 use lib.ListN.{length-append}
-use Rattle.sizes.specs.Sizes.{category-depth}
+use Rattle.sizes.specs.Sizes.{category-depth, name-to-index}
 use Rattle.layout.specs.Layout.{_▸_, Tree, spell, among, All, all-none, all-more, pick}
 use Rattle.layout.specs.Conventions.{int32}
 use Rattle.layout.specs.Rule.{Rule}
@@ -17,7 +17,7 @@ use Rattle.once.specs.declared.Verdict.the-variants.{Bad}
 use Rattle.once.specs.Once.{fresh, firstBad}
 use Rattle.once.specs.Once as once
 use Rattle.table.specs.Table.{CategoryIn, DimProperties, Dimension, Category}
-use Rattle.table.specs.Records.{Head, sum, size}
+use Rattle.table.specs.Records.{Head, sum, size, dimOwn, dimCategories}
 use Rattle.table.specs.Rules.{kindRule, categoryRule, leavesAll, treeLeaves, leavesOf, placeOf, dimensionRule, dimensionsRule, entryRule, axesRule, cellRule, cellsRule}
 use Rattle.table.specs.Laws.Lengths.{size-category, size-dimension}
 
@@ -69,7 +69,7 @@ tree-up-to : (m d at : ℕ) (t : Tree (CategoryIn d)) → at + size (CategoryIn 
 unfolding treeLeaves leavesAll size spell
 tree-up-to m zero at t l = all-none
 tree-up-to m (suc d) at (x, (zero, t)) l =
-    let h : at + size Value x + 7 ≤ m = omega (arith, simp (length-append, digits-length) at l) in all-more h all-none
+    let h : at + size Value x + name-to-index ≤ m = omega (arith, simp (length-append, digits-length) at l) in all-more h all-none
 tree-up-to m (suc d) at (x, (suc k, (t, (n, ts)))) l =
     all-up-to m (size (CategoryIn d)) (treeLeaves d) (tree-up-to m d) (at + size Head (x, (suc k, (t, (n, tt))))) ts
     (omega (arith, size-category d (x, (suc k, (t, (n, ts))))))
@@ -77,7 +77,7 @@ tree-up-to m (suc d) at (x, (suc k, (t, (n, ts)))) l =
 leaves-up-to : (t : Tree Dimension) → UpTo (size Dimension t) (leavesOf t)
 unfolding leavesOf
 leaves-up-to t =
-    all-up-to (size Dimension t) (size Category) (treeLeaves category-depth) (tree-up-to (size Dimension t) category-depth) (size (Value ▸ DimProperties) (t .0) + 4) (t .1 .1)
+    all-up-to (size Dimension t) (size Category) (treeLeaves category-depth) (tree-up-to (size Dimension t) category-depth) (size (Value ▸ DimProperties) (dimOwn t) + 4) (dimCategories t)
     (omega (arith, size-dimension t))
 
 -- the place of a bad leaf is that of one of them

@@ -16,11 +16,11 @@ data Line : Type 0 where
   read-to : ℕ → Line
 
 line : {g : Layout} → Rule g → List ℕ → Line
-line {g} u bs = said (check u bs 100)
+line {g} u bs = lineOf (check u bs 100)
   where
-    said : {A : Type 0} → Got A → Line
-    said (got t r p) = read-to p
-    said (no n p) = refused-at n p
+    lineOf : {A : Type 0} → Got A → Line
+    lineOf (got t r p) = read-to p
+    lineOf (no n p) = refused-at n p
 
 int : ℕ → List ℕ
 int n = n ∷ 0 ∷ 0 ∷ 0 ∷ []

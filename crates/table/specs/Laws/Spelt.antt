@@ -152,6 +152,20 @@ number-at w test s at n r p f =
       inside = λ h. omega (arith, length-drop at s, long, q);
     }
 
+-- a number that was read, where x was peeked at
+pub record ReadNumber (w : ℕ) (test : Test) (s : List ℕ) (at p x : ℕ) : Type 0 where
+  pub found : Read (field little w test) s at p
+  pub is : found .tree .0 ≡ x
+  pub says : NumberAt w test s at x p
+
+pub read-number : {w : ℕ} {test : Test} {s : List ℕ} {at : ℕ} {st : Step} {p x : ℕ} → Bytes s → Reads (field little w test) s (Next at) st → st ≡ Next p
+    → x ≡ peek little w s (Next at) → ReadNumber w test s at p x
+read-number {w} {test} {s} {at} {p = p} b r e pk =
+    let f = read-on b r e in
+    let n = number-at w test s at (f .tree .0) (drop p s) p (f .there) in
+    let i = sym (pk ∙ n .peeked) in
+    record { found = f; is = i; says = rw i at n }
+
 -- ---- reading in parts
 
 pub bind-assoc : {A B C : Type 0} (x : Got A) (f : A → List ℕ → ℕ → Got B) (g : B → List ℕ → ℕ → Got C)

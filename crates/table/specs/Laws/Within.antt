@@ -22,6 +22,15 @@ pub record Records : Type 0 where
 abbrev pub needed : Records → ℕ → ℕ
 needed r n = r .width * min (n / r .least) (r .most)
 
+-- a list of n words holds the records of all that the bytes of s can have
+abbrev pub Room : Records → ℕ → List ℕ → Type 0
+Room r n s = (u : ℕ) → u ≤ r .most → r .least * u ≤ length s → r .width * u ≤ n
+
+-- What is known of scratch words after a call: their number. They are lists of the reader of members, and no area that a caller of it lent;
+-- after a refusal they may hold anything, and `read_member` copies nothing of them.
+abbrev pub Scratch : List ℕ → List ℕ → Type 0
+Scratch before after = length after ≡ length before
+
 unfoldable pub within : {A : Type 0} → Records → List ℕ → ℕ → Got A → Got A
 within r s room y = pick (leb (length s) member-bytes) (pick (leb (needed r (length s)) room) y (no (r .number) 0)) (no 1 0)
 

@@ -2,14 +2,14 @@
 use mathlib.Core.Path.{_≡_, refl, sym, ap, _∙_}
 use mathlib.Core.List.{List, [], _∷_, _++_, append-assoc}
 use Prim.Native.Nat.{ℕ, zero, suc, _+_, _*_, _%_, _^_, _≤_, _<_}
-use native.Mathlib.Nat.{mod-eq-of-lt}
+use native.Mathlib.Nat.{mod-eq-of-lt, mul-zero, mul-suc, add-comm}
 use native.Mathlib.Omega.{arith}
 use lib.ListN.{length, drop, take, set, length-append}
 use lib.Seq.{sets, sets-eq, drop-at, length-take-le}
 use Rattle.sizes.specs.Sizes.{node-words}
 use Rattle.layout.specs.Layout.{Tree}
 use Rattle.table.specs.Table.{CategoryIn}
-use Rattle.table.specs.Records.{Head, front, children, sum, nodes, size, wordsAll, treeWords}
+use Rattle.table.specs.Records.{Head, front, children, sum, nodes, size, wordsAll, treeWords, rowsWords}
 
 -- ---- words
 
@@ -54,7 +54,13 @@ drop-sets ns ws i h =
     let l : length (take i ns) ≡ i = length-take-le i ns (omega arith) in
     rw (sets-eq ws ns i h, append-assoc) (drop-at (take i ns) (ws ++ drop (i + length ws) ns) i l)
 
--- ---- as many words for each node
+-- ---- as many words for each record
+
+module _ {A : Type 0} (w : ℕ) (size : A → ℕ) (words : ℕ → A → List ℕ) (width : (at : ℕ) (t : A) → length (words at t) ≡ w) where
+  pub width-rows : (at : ℕ) (ts : List A) → length (rowsWords size words at ts) ≡ w * length ts
+  unfolding rowsWords
+  width-rows at [] = sym (mul-zero w)
+  width-rows at (t ∷ ts) = rw (length-append, width, width-rows (at + size t) ts, mul-suc w (length ts)) (add-comm w (w * length ts))
 
 module _ {A : Type 0} (count size : A → ℕ) (words : ℕ → ℕ → A → List ℕ) (width : (used at : ℕ) (t : A) → length (words used at t) ≡ node-words * count t) where
   pub width-all : (used at : ℕ) (ts : List A) → length (wordsAll count size words used at ts) ≡ node-words * sum count ts

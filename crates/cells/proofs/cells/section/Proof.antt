@@ -3,7 +3,7 @@ use Rattle.sizes.specs.Sizes.{most-cells}
 use Rattle.layout.specs.Steps.Keeping.{kept-on, kept-off}
 use Rattle.layout.specs.Steps.Slices.{bytes-of}
 use Rattle.table.specs.Rules.{cellRule, cellsRule}
-use Rattle.table.specs.Laws.Counted.{few, ends-at, no-number, no-items, the-items}
+use Rattle.table.specs.Laws.Counted.{in-limit, ends-at, no-number, no-items, the-items}
 use Rattle.cells.specs.Laws.Rows.{after}
 use Rattle.cells.specs.Laws.Cells.{cell-kind, cellOf, AllCells, the-cells}
 use Rattle.cells.proofs.cells.section.Statement.{statement}
@@ -20,7 +20,7 @@ section-spec =
     let st = k .before .before .before in
     let a = st .before .args in
     let b = bytes-of _ (st .shared-slice-known .given) in
-    (few most-cells (after cell-kind (cellOf (a .places))) (a .s .now) b (a .at) (AllCells (a .at) (a .words .now)) (k .count .ensures) (c .before .before .p .given .1) (k .before .peek .ensures), st .before .pre .0, st .before .pre .1))
+    (in-limit most-cells (after cell-kind (cellOf (a .places))) (a .s .now) b (a .at) (AllCells (a .at) (a .words .now)) (k .count .ensures) (c .before .before .p .given .1) (k .before .peek .ensures), st .before .pre .0, st .before .pre .1))
     (λ c. search needs) (λ c. search needs)
     (λ c.
     let k = c .before .before .before in
