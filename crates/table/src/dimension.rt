@@ -1,7 +1,7 @@
 // Dimensions: a name, properties and categories; when one ends, its n is known and its leaf indexes are tested.
 ghost use mathlib.Core.Path.{_≡_};
 ghost use mathlib.Core.List.{[], _∷_};
-ghost use Prim.Native.Nat.{_<_, _≤_, _+_, _-_, _*_};
+ghost use Prim.Native.Nat.{_<_, _≤_, _+_, _*_};
 ghost use lib.ListN.{length, drop};
 ghost use lib.Seq.{sets};
 ghost use Rattle.sizes.specs.Sizes.{member-bytes, most-dimensions, most-nodes, dimension-words};
@@ -17,12 +17,12 @@ ghost use Rattle.table.specs.Laws.LeastBytes.{least-category};
 use crate::LEAST_CATEGORY;
 use crate::Section;
 use crate::Walk;
-use crate::between;
 use crate::categories;
 use crate::length;
 use layout::LITTLE;
 use layout::Step;
 use layout::number::any;
+use layout::number::between;
 use layout::number::boolean;
 use layout::number::count;
 use layout::number::fixed;
