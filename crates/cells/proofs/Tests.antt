@@ -7,7 +7,7 @@ use native.Mathlib.Omega.{arith}
 use lib.Dec.{ltb, eqb}
 use borrow.Author.Tests.{eq-eqb, ne-eqb, eqb-true, eqb-false}
 use Rattle.layout.specs.Layout.{among}
-use Rattle.checks.specs.Checks.{fresh}
+use Rattle.once.specs.Once.{fresh}
 
 -- ---- the test of a number
 

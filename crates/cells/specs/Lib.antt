@@ -1,4 +1,1 @@
-pub mod Rows
-pub mod Axes
-pub mod Seen
-pub mod Cells
+pub mod Laws

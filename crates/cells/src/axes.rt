@@ -3,26 +3,28 @@ ghost use mathlib.Core.Path.{_≡_};
 ghost use Prim.Native.Nat.{_<_, _≤_, _+_, min};
 ghost use lib.Dec.{eqb};
 ghost use lib.ListN.{drop, replicate};
+ghost use Rattle.sizes.specs.Sizes.{most-dimensions};
 ghost use Rattle.layout.specs.Rule.{items};
 ghost use Rattle.layout.specs.Check.{check};
 ghost use Rattle.layout.specs.Keeps.{Keeps, Each};
-ghost use Rattle.checks.specs.Checks.{fresh, firsts};
+ghost use Rattle.once.specs.Once.{fresh, firsts};
 ghost use Rattle.table.specs.Rules.{countsRule};
-ghost use Rattle.cells.specs.Rows.{Row, rowOf, after};
-ghost use Rattle.cells.specs.Axes as spec;
+ghost use Rattle.cells.specs.Laws.Rows.{Row, rowOf, after};
+ghost use Rattle.cells.specs.Laws.Axes as spec;
 use crate::AxesRead;
 use crate::AxisCounts;
 use crate::Entries;
-use crate::at_most;
-use checks::seen_before;
 use layout::LITTLE;
 use layout::Step;
 use layout::number::any;
 use layout::number::peek;
+use once::at_most;
+use once::seen_before;
+use sizes::MOST_DIMENSIONS;
 
 // x is a dimension number that was not named among the first j entries.
-fn is_fresh(order: &[u32; 16], d: u64, j: usize, x: u64) -> bool
-    requires { ⌜ j ≤ 16 ⌝ }
+fn is_fresh(order: &[u32; MOST_DIMENSIONS], d: u64, j: usize, x: u64) -> bool
+    requires { ⌜ j ≤ most-dimensions ⌝ }
     ensures { λ r. ⌜ r ≡ fresh d (firsts 1 (now (order .entry)) j) x ⌝ }
 {
     let below = x < d;
@@ -31,8 +33,8 @@ fn is_fresh(order: &[u32; 16], d: u64, j: usize, x: u64) -> bool
 }
 
 // Entry j.
-fn entry(s: &[u8], at: usize, d: u64, j: usize, order: &mut [u32; 16]) -> Step
-    requires { ⌜ j < 16 ⌝ }
+fn entry(s: &[u8], at: usize, d: u64, j: usize, order: &mut [u32; MOST_DIMENSIONS]) -> Step
+    requires { ⌜ j < most-dimensions ⌝ }
     ensures { λ r. ⌜ Keeps (now (s .entry)) (Row spec.entry-kind at (j, now (order .entry))) (check (spec.entryOf d (firsts 1 (now (order .entry)) j)) (drop at (now (s .entry))) at) (rowOf (j + 1) r (now (order .exit))) ⌝ }
 {
     let x = peek(s, Step::Next(at), LITTLE, 4);
@@ -52,10 +54,10 @@ fn entry(s: &[u8], at: usize, d: u64, j: usize, order: &mut [u32; 16]) -> Step
 
 // n entries, of dimension numbers below d.
 fn entries(s: &[u8], at: usize, d: u64, n: usize) -> Entries
-    requires { ⌜ n ≤ 16 ⌝ }
-    ensures { λ r. ⌜ Keeps (now (s .entry)) (Each (Row spec.entry-kind) at (0, replicate 16 0)) (check (items {n = n} (after spec.entry-kind (spec.entryOf d))) (drop at (now (s .entry))) at) (rowOf n (r .end) (r .order)) ⌝ }
+    requires { ⌜ n ≤ most-dimensions ⌝ }
+    ensures { λ r. ⌜ Keeps (now (s .entry)) (Each (Row spec.entry-kind) at (0, replicate most-dimensions 0)) (check (items {n = n} (after spec.entry-kind (spec.entryOf d))) (drop at (now (s .entry))) at) (rowOf n (r .end) (r .order)) ⌝ }
 {
-    let mut order = [0u32; 16];
+    let mut order = [0u32; MOST_DIMENSIONS];
     let mut at = at;
     let mut j = 0;
     while j < n {
@@ -92,11 +94,12 @@ fn adds_up(layers: u64, rows: u64, columns: u64, d: u64) -> bool
     rest - rows == columns
 }
 
-// The axes of a table of d dimensions; a number above 16 counts as 16.
+// The axes of a table of d dimensions; a larger number counts as `MOST_DIMENSIONS`.
 pub fn axes(s: &[u8], at: usize, d: usize) -> AxesRead
-    ensures { λ r. ⌜ Keeps (now (s .entry)) spec.AllAxes (check (countsRule (min d 16)) (drop at (now (s .entry))) at) (spec.axesOf (r .counts) (r .order)) ⌝ }
+    ensures axes { λ r. ⌜ Keeps (now (s .entry)) spec.AllAxes (check (countsRule (min d most-dimensions)) (drop at (now (s .entry))) at) (spec.axesOut (r .counts) (r .order)) ⌝ }
+    ensures refused { λ r. ⌜ spec.Cleared (r .counts) (r .order) ⌝ }
 {
-    let d = at_most(d, 16);
+    let d = at_most(d, MOST_DIMENSIONS);
     let layers = peek(s, Step::Next(at), LITTLE, 4);
     let a = any(s, Step::Next(at), 4);
     let rows = peek(s, a, LITTLE, 4);
@@ -104,8 +107,8 @@ pub fn axes(s: &[u8], at: usize, d: usize) -> AxesRead
     let columns = peek(s, b, LITTLE, 4);
     match any(s, b, 4) {
         Step::Refused(r, p) => AxesRead {
-            counts: AxisCounts::Not(r, p),
-            order: [0u32; 16],
+            counts: AxisCounts::Refused(r, p),
+            order: [0u32; MOST_DIMENSIONS],
         },
         Step::Next(f) => {
             let good = adds_up(layers, rows, columns, d as u64);
@@ -115,8 +118,8 @@ pub fn axes(s: &[u8], at: usize, d: usize) -> AxesRead
                 let end = e.end;
                 match end {
                     Step::Refused(r, p) => AxesRead {
-                        counts: AxisCounts::Not(r, p),
-                        order,
+                        counts: AxisCounts::Refused(r, p),
+                        order: [0u32; MOST_DIMENSIONS],
                     },
                     Step::Next(p) => AxesRead {
                         counts: AxisCounts::Of(
@@ -130,8 +133,8 @@ pub fn axes(s: &[u8], at: usize, d: usize) -> AxesRead
                 }
             } else {
                 AxesRead {
-                    counts: AxisCounts::Not(9, at),
-                    order: [0u32; 16],
+                    counts: AxisCounts::Refused(9, at),
+                    order: [0u32; MOST_DIMENSIONS],
                 }
             }
         }

@@ -1,32 +1,27 @@
 // Axes and cells, and their records.
-ghost use mathlib.Core.Path.{_≡_};
-ghost use Prim.Native.Nat.{min};
 use layout::Step;
+use sizes::MOST_DIMENSIONS;
 
 pub mod axes; // axis entries
 pub mod cells; // cells
 
+// The bytes that a cell takes at least.
+pub const LEAST_CELL: usize = 9;
+
 // What the axes give: the number of layers, rows and columns and the next position; or the refusal.
 pub enum AxisCounts {
     Of(u32, u32, u32, usize),
-    Not(u32, usize),
+    Refused(u32, usize),
 }
 
 // The same, and the dimension numbers on the axes, in the order of the file. Unused ones are 0.
 pub struct AxesRead {
     pub counts: AxisCounts,
-    pub order: [u32; 16],
+    pub order: [u32; MOST_DIMENSIONS],
 }
 
 // Where axis entries end, or the refusal, and the entries.
 pub struct Entries {
     pub end: Step,
-    pub order: [u32; 16],
-}
-
-// n, and no more than `most`.
-fn at_most(n: usize, most: usize) -> usize
-    ensures { λ r. ⌜ r ≡ min n most ⌝ }
-{
-    if n <= most { n } else { most }
+    pub order: [u32; MOST_DIMENSIONS],
 }

@@ -4,23 +4,24 @@ use mathlib.Core.List.{List, []}
 use Prim.Native.Nat.{ℕ, _+_, _*_, _≤_, _<_}
 use lib.ListN.{length, take, getD}
 use borrow.Author.Tests.{le-leb, lt-leb}
+use Rattle.sizes.specs.Sizes.{node-words, name-place, name-length}
 use Rattle.layout.specs.Layout.{pick}
 use Rattle.member.specs.Part.{partOf}
 use Rattle.desk.specs.Desk.{filledOf, nameOf}
 
-pub enough : (area : List ℕ) (count : ℕ) → 6 * count ≤ length area → take (6 * count) area ≡ filledOf area count
+pub enough : (area : List ℕ) (count : ℕ) → node-words * count ≤ length area → take (node-words * count) area ≡ filledOf area count
 unfolding filledOf pick
-enough area count h = rw (le-leb (6 * count) (length area) h)
+enough area count h = rw (le-leb (node-words * count) (length area) h)
 
-pub too-few : (area : List ℕ) (count : ℕ) → length area < 6 * count → [] ≡ filledOf area count
+pub too-few : (area : List ℕ) (count : ℕ) → length area < node-words * count → [] ≡ filledOf area count
 unfolding filledOf pick
-too-few area count h = rw (lt-leb (6 * count) (length area) h)
+too-few area count h = rw (lt-leb (node-words * count) (length area) h)
 
-pub points-to : (member nodes : List ℕ) (i : ℕ) {place n : ℕ} → 6 * (i + 1) ≤ length nodes → place ≡ getD nodes (6 * i + 3) 0
-    → n ≡ getD nodes (6 * i + 4) 0 → partOf member place n ≡ nameOf member nodes i
+pub points-to : (member nodes : List ℕ) (i : ℕ) {place n : ℕ} → node-words * (i + 1) ≤ length nodes → place ≡ getD nodes (node-words * i + name-place) 0
+    → n ≡ getD nodes (node-words * i + name-length) 0 → partOf member place n ≡ nameOf member nodes i
 unfolding nameOf pick
-points-to member nodes i h p q = rw (le-leb (6 * (i + 1)) (length nodes) h, p, q)
+points-to member nodes i h p q = rw (le-leb (node-words * (i + 1)) (length nodes) h, p, q)
 
-pub no-whole-record : (member nodes : List ℕ) (i : ℕ) → length nodes < 6 * (i + 1) → [] ≡ nameOf member nodes i
+pub no-whole-record : (member nodes : List ℕ) (i : ℕ) → length nodes < node-words * (i + 1) → [] ≡ nameOf member nodes i
 unfolding nameOf pick
-no-whole-record member nodes i h = rw (lt-leb (6 * (i + 1)) (length nodes) h)
+no-whole-record member nodes i h = rw (lt-leb (node-words * (i + 1)) (length nodes) h)

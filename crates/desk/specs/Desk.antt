@@ -4,14 +4,15 @@ use mathlib.Core.List.{List, []}
 use Prim.Native.Nat.{ℕ, _+_, _*_}
 use lib.ListN.{length, take, getD}
 use lib.Dec.{leb}
+use Rattle.sizes.specs.Sizes.{node-words, name-place, name-length}
 use Rattle.layout.specs.Layout.{pick}
 use Rattle.member.specs.Part.{partOf}
 
--- the words of the first `count` records of an area, six each; none where the area has fewer
+-- the words of the first `count` records of an area; none where the area has fewer
 unfoldable pub filledOf : List ℕ → ℕ → List ℕ
-filledOf area count = pick (leb (6 * count) (length area)) (take (6 * count) area) []
+filledOf area count = pick (leb (node-words * count) (length area)) (take (node-words * count) area) []
 
--- words 3 and 4 of record i are the place and length of its name (document 01, "What the caller gets")
+-- record i has the place and the length of its name (document 01, "What the caller gets")
 unfoldable pub nameOf : List ℕ → List ℕ → ℕ → List ℕ
 nameOf member nodes i =
-    pick (leb (6 * (i + 1)) (length nodes)) (partOf member (getD nodes (6 * i + 3) 0) (getD nodes (6 * i + 4) 0)) []
+    pick (leb (node-words * (i + 1)) (length nodes)) (partOf member (getD nodes (node-words * i + name-place) 0) (getD nodes (node-words * i + name-length) 0)) []

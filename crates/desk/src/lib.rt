@@ -3,6 +3,9 @@
 ghost use mathlib.Core.Path.{_≡_};
 ghost use Rattle.desk.specs.Desk.{filledOf, nameOf};
 use member::part;
+use sizes::NAME_LENGTH;
+use sizes::NAME_PLACE;
+use sizes::NODE_WORDS;
 
 // The lent member, and of the node area only the words filled.
 pub struct Desk<'a, 'b> {
@@ -16,14 +19,14 @@ fn wide(x: u32) -> usize
     x as usize
 }
 
-// The words of that many node records, six each. An area that has fewer was not filled with so many: the empty part. The test divides,
-// since 6 * count need not fit.
+// The words of that many node records. An area that has fewer was not filled with so many: the empty part. The test divides,
+// since the product need not fit.
 pub fn filled(area: &[u32], count: usize) -> &[u32]
     ensures { λ r. ⌜ now r ≡ filledOf (now (area .entry)) count ⌝ }
 {
-    let records = area.len() / 6;
+    let records = area.len() / NODE_WORDS;
     if count <= records {
-        let end = 6 * count;
+        let end = NODE_WORDS * count;
         &area[..end]
     } else {
         &area[..0]
@@ -34,9 +37,13 @@ pub fn filled(area: &[u32], count: usize) -> &[u32]
 fn name_of<'a, 'b>(member: &'a [u8], nodes: &'b [u32], i: usize) -> &'a [u8]
     ensures { λ r. ⌜ now r ≡ nameOf (now (member .entry)) (now (nodes .entry)) i ⌝ }
 {
-    if i < nodes.len() / 6 {
-        let at = 6 * i;
-        part(member, wide(nodes[at + 3]), wide(nodes[at + 4]))
+    if i < nodes.len() / NODE_WORDS {
+        let at = NODE_WORDS * i;
+        part(
+            member,
+            wide(nodes[at + NAME_PLACE]),
+            wide(nodes[at + NAME_LENGTH]),
+        )
     } else {
         &member[..0]
     }

@@ -9,11 +9,18 @@ ghost use Rattle.layout.specs.Reads as spec;
 ghost use Rattle.layout.specs.Reads.{Reads, order, verdict};
 use crate::Step;
 
+// From a to e; 0 where e lies before a.
+pub fn between(a: usize, e: usize) -> usize
+    ensures { λ r. ⌜ r ≡ e - a ⌝ }
+{
+    if a <= e { e - a } else { 0 }
+}
+
 // How many bytes there are from a position on.
 pub fn left(s: &[u8], at: usize) -> usize
     ensures { λ r. ⌜ r ≡ length (now (s .entry)) - at ⌝ }
 {
-    if at <= s.len() { s.len() - at } else { 0 }
+    between(at, s.len())
 }
 
 // The number that w bytes spell, the lowest first.
@@ -98,14 +105,14 @@ pub fn field(s: &[u8], st: Step, w: usize, c: u32) -> Step
 
 // ---- verdicts
 
-pub fn only(v: u64, n: u64) -> u32
+fn only(v: u64, n: u64) -> u32
     ensures { λ c. ⌜ c ≡ verdict (the-number n) v ⌝ }
 {
     let same = v == n;
     if same { 0 } else { 3 }
 }
 
-pub fn flag(v: u64) -> u32
+fn flag(v: u64) -> u32
     ensures { λ c. ⌜ c ≡ verdict a-bool v ⌝ }
 {
     let small = v <= 1;
@@ -119,7 +126,7 @@ pub fn limit(v: u64, n: u64) -> u32
     if small { 0 } else { 7 }
 }
 
-pub fn known(v: u64, n: u64) -> u32
+fn known(v: u64, n: u64) -> u32
     ensures { λ c. ⌜ c ≡ verdict (a-version (n ∷ [])) v ⌝ }
 {
     let same = v == n;
@@ -141,7 +148,7 @@ pub fn unless_either(v: u64, a: u64, b: u64, refusal: u32) -> u32
     }
 }
 
-pub fn either(v: u64, a: u64, b: u64) -> u32
+fn either(v: u64, a: u64, b: u64) -> u32
     ensures { λ c. ⌜ c ≡ verdict (one-of (a ∷ b ∷ [])) v ⌝ }
 {
     unless_either(v, a, b, 3)

@@ -10,7 +10,7 @@ use Rattle.layout.specs.declared.Step.the-variants.{Next, Refused}
 use Rattle.layout.specs.Layout.{pick}
 use Rattle.layout.specs.Read.{lead}
 use Rattle.layout.specs.Reads.{skip}
-use Rattle.member.specs.Whole.{endAt, end-is}
+use Rattle.member.specs.Laws.Whole.{endAt, end-is}
 
 module _ (s : List ℕ) (at : ℕ) {st : Step} (e : st ≡ skip 0x01 1 s (Next at)) where
   pub end-never : {r p : ℕ} → st ≡ Refused r p → Refused r p ≡ endAt s at

@@ -6,6 +6,7 @@ use mathlib.Core.Path.{_≡_}
 use Prim.Native.Nat.{ℕ, _-_, _*_}
 use lib.ListN.{length, take, drop, replicate}
 use lib.Dec.{leb}
+use Rattle.sizes.specs.Sizes.{most-dimensions, node-words, cell-words, dimension-area}
 use Rattle.layout.specs.Layout.{Tree, pick}
 use Rattle.layout.specs.Read.{Got, got, no}
 use Rattle.member.specs.declared.Answer.{Answer}
@@ -18,7 +19,7 @@ zeros n = replicate n 0
 -- a refusal, with the counts of nodes and cells, which are 0 but for 12 and 13; "everything else returned is 0"
 unfoldable pub refusal : ℕ → ℕ → ℕ → ℕ → Answer
 refusal n p nodes cells =
-    record { refusal = n; place = p; dims = 0; nodes = nodes; cells = cells; dimensions = zeros 64; layers = 0; rows = 0; columns = 0; order = zeros 16 }
+    record { refusal = n; place = p; dims = 0; nodes = nodes; cells = cells; dimensions = zeros dimension-area; layers = 0; rows = 0; columns = 0; order = zeros most-dimensions }
 
 -- "the counts, and for each dimension the place and length of its name, its n and its first node ...; the axis order. Unused entries are 0."
 unfoldable pub accepted : Tree Member → Answer
@@ -29,37 +30,37 @@ accepted t =
       dims = length (dimensions t);
       nodes = nodes t;
       cells = length (cells t);
-      dimensions = dimensionEntries t ++ zeros (64 - length (dimensionEntries t));
+      dimensions = dimensionEntries t ++ zeros (dimension-area - length (dimensionEntries t));
       layers = layers t;
       rows = rows t;
       columns = columns t;
-      order = order t ++ zeros (16 - length (order t));
+      order = order t ++ zeros (most-dimensions - length (order t));
     }
 
 -- areas of those lengths are large enough for the records of t: 6 words a node, 3 words a cell
 abbrev pub wide : Tree Member → ℕ → Bool
-wide t node-words = leb (6 * nodes t) node-words
+wide t node-length = leb (node-words * nodes t) node-length
 
 abbrev pub long : Tree Member → ℕ → Bool
-long t cell-words = leb (3 * length (cells t)) cell-words
+long t cell-length = leb (cell-words * length (cells t)) cell-length
 
 -- the answer for areas of those lengths; 12 and 13 come last, in that order
 unfoldable pub answerOf : Got (Tree Member) → ℕ → ℕ → Answer
-answerOf (no n p) node-words cell-words = refusal n p 0 0
-answerOf (got t r p) node-words cell-words =
-    pick (wide t node-words)
-    (pick (long t cell-words) (accepted t) (refusal 13 0 (nodes t) (length (cells t))))
+answerOf (no n p) node-length cell-length = refusal n p 0 0
+answerOf (got t r p) node-length cell-length =
+    pick (wide t node-length)
+    (pick (long t cell-length) (accepted t) (refusal 13 0 (nodes t) (length (cells t))))
     (refusal 12 0 (nodes t) (length (cells t)))
 
 -- the node area then: on acceptance the records, and beyond them what was there
 unfoldable pub nodesAfter : Got (Tree Member) → List ℕ → ℕ → List ℕ
-nodesAfter (no n p) old cell-words = old
-nodesAfter (got t r p) old cell-words = pick (wide t (length old)) (pick (long t cell-words) (nodeRecords t ++ drop (6 * nodes t) old) old) old
+nodesAfter (no n p) old cell-length = old
+nodesAfter (got t r p) old cell-length = pick (wide t (length old)) (pick (long t cell-length) (nodeRecords t ++ drop (node-words * nodes t) old) old) old
 
 -- and the cell area
 unfoldable pub cellsAfter : Got (Tree Member) → ℕ → List ℕ → List ℕ
-cellsAfter (no n p) node-words old = old
-cellsAfter (got t r p) node-words old = pick (wide t node-words) (pick (long t (length old)) (cellRecords t ++ drop (3 * length (cells t)) old) old) old
+cellsAfter (no n p) node-length old = old
+cellsAfter (got t r p) node-length old = pick (wide t node-length) (pick (long t (length old)) (cellRecords t ++ drop (cell-words * length (cells t)) old) old) old
 
 -- what a call of `read_member` answers, and what the two areas hold then
 pub record Delivered (y : Got (Tree Member)) (nodes cells : List ℕ) (r : Answer) (nodes′ cells′ : List ℕ) : Type 0 where
@@ -68,7 +69,7 @@ pub record Delivered (y : Got (Tree Member)) (nodes cells : List ℕ) (r : Answe
   pub cell-area : cells′ ≡ cellsAfter y (length nodes) cells
 
 -- what is delivered of an answer a that accepts, with its records in front of two lists of words
-pub record Filled (a : Answer) (node-words cell-words nodes cells : List ℕ) (r : Answer) (nodes′ cells′ : List ℕ) : Type 0 where
-  pub answer : r ≡ pick (leb (6 * a .nodes) (length nodes)) (pick (leb (3 * a .cells) (length cells)) a (refusal 13 0 (a .nodes) (a .cells))) (refusal 12 0 (a .nodes) (a .cells))
-  pub node-area : nodes′ ≡ pick (leb (6 * a .nodes) (length nodes)) (pick (leb (3 * a .cells) (length cells)) (take (6 * a .nodes) node-words ++ drop (6 * a .nodes) nodes) nodes) nodes
-  pub cell-area : cells′ ≡ pick (leb (6 * a .nodes) (length nodes)) (pick (leb (3 * a .cells) (length cells)) (take (3 * a .cells) cell-words ++ drop (3 * a .cells) cells) cells) cells
+pub record Filled (a : Answer) (node-list cell-list nodes cells : List ℕ) (r : Answer) (nodes′ cells′ : List ℕ) : Type 0 where
+  pub answer : r ≡ pick (leb (node-words * a .nodes) (length nodes)) (pick (leb (cell-words * a .cells) (length cells)) a (refusal 13 0 (a .nodes) (a .cells))) (refusal 12 0 (a .nodes) (a .cells))
+  pub node-area : nodes′ ≡ pick (leb (node-words * a .nodes) (length nodes)) (pick (leb (cell-words * a .cells) (length cells)) (take (node-words * a .nodes) node-list ++ drop (node-words * a .nodes) nodes) nodes) nodes
+  pub cell-area : cells′ ≡ pick (leb (node-words * a .nodes) (length nodes)) (pick (leb (cell-words * a .cells) (length cells)) (take (cell-words * a .cells) cell-list ++ drop (cell-words * a .cells) cells) cells) cells

@@ -15,38 +15,38 @@ use mathlib.Core.Logic.{_↔_, _⊎_}
 use mathlib.Core.List.{List, _++_}
 use Prim.Native.Nat.{ℕ, _*_, _-_, _≤_}
 use lib.ListN.{length, drop}
+use Rattle.sizes.specs.Sizes.{member-bytes, most-dimensions, node-words, cell-words, dimension-area}
 use Rattle.layout.specs.Layout.{Tree}
-use Rattle.table.specs.Rules.{longest}
 use Rattle.member.specs.declared.Answer.{Answer}
 use Rattle.member.specs.Member.{Member, dimensions, layers, rows, columns, order, cells, nodes, nodeRecords, dimensionEntries, cellRecords, MemberDerivation, AsDemanded, LargeEnough}
 use Rattle.member.specs.Refused.{RefusedWith}
 use Rattle.member.specs.Answer.{zeros}
-use Rattle.member.specs.Demanded as demanded
+use Rattle.member.specs.Laws.Demanded as demanded
 
 -- a derivation that is as demanded, for which areas of these lengths are large enough
-pub record Accepted (bs : List ℕ) (node-words cell-words : ℕ) : Type 0 where
+pub record Accepted (bs : List ℕ) (node-length cell-length : ℕ) : Type 0 where
   pub derivation : MemberDerivation bs
   pub demanded : AsDemanded (derivation .tree)
-  pub large : LargeEnough (derivation .tree) node-words cell-words
+  pub large : LargeEnough (derivation .tree) node-length cell-length
 
 -- the answer r, and what the areas hold then, are those of a derivation
 pub record Yields (t : Tree Member) (nodes₀ cells₀ : List ℕ) (r : Answer) (nodes₁ cells₁ : List ℕ) : Type 0 where
   pub number-of-dimensions : r .dims ≡ length (dimensions t)
   pub number-of-nodes : r .nodes ≡ nodes t
   pub number-of-cells : r .cells ≡ length (cells t)
-  pub dimension-entries : r .dimensions ≡ dimensionEntries t ++ zeros (64 - length (dimensionEntries t))
+  pub dimension-entries : r .dimensions ≡ dimensionEntries t ++ zeros (dimension-area - length (dimensionEntries t))
   pub number-of-layers : r .layers ≡ layers t
   pub number-of-rows : r .rows ≡ rows t
   pub number-of-columns : r .columns ≡ columns t
-  pub axis-order : r .order ≡ order t ++ zeros (16 - length (order t))
-  pub node-area : nodes₁ ≡ nodeRecords t ++ drop (6 * nodes t) nodes₀
-  pub cell-area : cells₁ ≡ cellRecords t ++ drop (3 * length (cells t)) cells₀
+  pub axis-order : r .order ≡ order t ++ zeros (most-dimensions - length (order t))
+  pub node-area : nodes₁ ≡ nodeRecords t ++ drop (node-words * nodes t) nodes₀
+  pub cell-area : cells₁ ≡ cellRecords t ++ drop (cell-words * length (cells t)) cells₀
 
 -- "All refusals return the number, the place and no records; 12 and 13 also return the counts of nodes and cells; everything else returned
 -- is 0. No lent area changes."
 pub record NoRecords (nodes₀ cells₀ : List ℕ) (r : Answer) (nodes₁ cells₁ : List ℕ) : Type 0 where
-  pub no-dimensions : (r .dims ≡ 0) × (r .dimensions ≡ zeros 64)
-  pub no-axes : (r .layers ≡ 0) × (r .rows ≡ 0) × (r .columns ≡ 0) × (r .order ≡ zeros 16)
+  pub no-dimensions : (r .dims ≡ 0) × (r .dimensions ≡ zeros dimension-area)
+  pub no-axes : (r .layers ≡ 0) × (r .rows ≡ 0) × (r .columns ≡ 0) × (r .order ≡ zeros most-dimensions)
   pub same-nodes : nodes₁ ≡ nodes₀
   pub same-cells : cells₁ ≡ cells₀
 
@@ -64,7 +64,7 @@ pub record Demand3 (bs nodes₀ cells₀ : List ℕ) (r : Answer) (nodes₁ cell
   pub counts : (r .refusal ≡ 12) ⊎ (r .refusal ≡ 13) → (m : MemberDerivation bs) → (r .nodes ≡ nodes (m .tree)) × (r .cells ≡ length (cells (m .tree)))
   pub no-counts : (r .refusal ≡ 0 → ⊥) → (r .refusal ≡ 12 → ⊥) → (r .refusal ≡ 13 → ⊥) → (r .nodes ≡ 0) × (r .cells ≡ 0)
   -- The place is in the bytes, or right after them, and 0 where they are too many.
-  pub place : (r .place ≤ length bs) × (r .place ≤ longest)
+  pub place : (r .place ≤ length bs) × (r .place ≤ member-bytes)
 
 -- No run of bytes has two derivations, accepted or not.
 pub one-derivation : (bs : List ℕ) (m m′ : MemberDerivation bs) → (m .tree ≡ m′ .tree) × (m .ends ≡ m′ .ends)

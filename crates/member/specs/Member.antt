@@ -3,14 +3,15 @@
 use mathlib.Core.Path.{_≡_}
 use mathlib.Core.Bool.{Bool, true, false}
 use mathlib.Core.List.{List, [], _∷_, _++_}
-use Prim.Native.Nat.{ℕ, _+_, _*_, _-_, _^_, _≤_}
+use Prim.Native.Nat.{ℕ, _+_, _*_, _≤_}
 use lib.ListN.{length}
-use Rattle.layout.specs.Layout.{Layout, _▸_, Tree, spell, Valid, All}
+use Rattle.sizes.specs.Sizes.{member-bytes, most-nodes, most-places, node-words, cell-words}
+use Rattle.layout.specs.Layout.{Layout, _▸_, Tree, spell, Valid, All, size}
 use Rattle.sections.specs.Sections.{Front}
-use Rattle.checks.specs.Checks.{OnceEach, product}
+use Rattle.once.specs.Once.{OnceEach}
+use Rattle.index.specs.Index.{product}
 use Rattle.table.specs.Table.{Dimension, Dimensions, Axes, Cell, Cells}
-use Rattle.table.specs.Rules.{longest}
-use Rattle.table.specs.Records.{total, size, dimNodes, dimLeaves, LeavesOnce, dimsWords, dimsEntries, entryIndex, cellIndex, cellWords, mapAll, rowsWords}
+use Rattle.table.specs.Records.{dimNodes, dimLeaves, LeavesOnce, dimsWords, dimsEntries, entryIndex, cellIndex, cellWords, mapAll, rowsWords, sum, dimsOf, axisLayers, axisRows, axisColumns, axisEntries, cellsOf}
 
 -- ---- the grammar
 
@@ -25,28 +26,41 @@ final false = []
 
 -- ---- what a derivation says
 
+-- its sections
+abbrev pub frontSection : Tree Member → Tree Front
+frontSection t = t .0 .0 .0
+
+abbrev pub dimensionsSection : Tree Member → Tree Dimensions
+dimensionsSection t = t .0 .0 .1
+
+abbrev pub axesSection : Tree Member → Tree Axes
+axesSection t = t .0 .1
+
+abbrev pub cellsSection : Tree Member → Tree Cells
+cellsSection t = t .1
+
 abbrev pub dimensions : Tree Member → List (Tree Dimension)
-dimensions t = t .0 .0 .1 .1
+dimensions t = dimsOf (dimensionsSection t)
 
 abbrev pub layers : Tree Member → ℕ
-layers t = t .0 .1 .0
+layers t = axisLayers (axesSection t)
 
 abbrev pub rows : Tree Member → ℕ
-rows t = t .0 .1 .1 .0
+rows t = axisRows (axesSection t)
 
 abbrev pub columns : Tree Member → ℕ
-columns t = t .0 .1 .1 .1 .0
+columns t = axisColumns (axesSection t)
 
 -- the axis entries: layers, then rows, then columns
 abbrev pub order : Tree Member → List ℕ
-order t = let e = t .0 .1 .1 .1 .1 in mapAll entryIndex (e .0 .0 ++ e .0 .1 ++ e .1)
+order t = mapAll entryIndex (axisEntries (axesSection t))
 
 abbrev pub cells : Tree Member → List (Tree Cell)
-cells t = t .1 .1
+cells t = cellsOf (cellsSection t)
 
 -- the number of category nodes
 abbrev pub nodes : Tree Member → ℕ
-nodes t = total dimNodes (dimensions t)
+nodes t = sum dimNodes (dimensions t)
 
 -- n of each dimension, and their product
 abbrev pub ns : Tree Member → List ℕ
@@ -57,7 +71,7 @@ places t = product (ns t)
 
 -- where the first dimension and the first cell start
 abbrev pub dimensionsAt : Tree Member → ℕ
-dimensionsAt t = size Front (t .0 .0 .0) + 4
+dimensionsAt t = size Front (frontSection t) + 4
 
 abbrev pub cellsStart : Tree Member → ℕ
 cellsStart t = size (Front ▸ Dimensions ▸ Axes) (t .0) + 4
@@ -80,9 +94,9 @@ pub record MemberDerivation (bs : List ℕ) : Type 0 where
   pub ends : Bool
   pub valid : Valid Member tree
   pub spells : spell Member tree ++ final ends ≡ bs
-  pub short : length bs ≤ longest
-  pub few-nodes : nodes tree ≤ 4096
-  pub few-places : places tree ≤ 2 ^ 32 - 1
+  pub short : length bs ≤ member-bytes
+  pub few-nodes : nodes tree ≤ most-nodes
+  pub few-places : places tree ≤ most-places
 
 -- what demand 3 asks of a derivation beside the grammar
 pub record AsDemanded (t : Tree Member) : Type 0 where
@@ -96,6 +110,6 @@ pub record AsDemanded (t : Tree Member) : Type 0 where
   pub inside : OnceEach (places t) (mapAll cellIndex (cells t))
 
 -- the two lent areas are large enough
-pub record LargeEnough (t : Tree Member) (node-words cell-words : ℕ) : Type 0 where
-  pub for-nodes : 6 * nodes t ≤ node-words
-  pub for-cells : 3 * length (cells t) ≤ cell-words
+pub record LargeEnough (t : Tree Member) (node-length cell-length : ℕ) : Type 0 where
+  pub for-nodes : node-words * nodes t ≤ node-length
+  pub for-cells : cell-words * length (cells t) ≤ cell-length

@@ -3,12 +3,14 @@
 use mathlib.Core.List.{List, _∷_}
 use Prim.Native.Nat.{ℕ, _+_, _*_, _≤_, _<_}
 use lib.ListN.{length}
+use Rattle.sizes.specs.Sizes.{member-bytes, node-words, cell-words}
 use Rattle.layout.specs.Layout.{Tree, spell}
 use Rattle.layout.specs.Fails.{Spells, Runs}
 use Rattle.layout.specs.Rule.{Rule, plain, _▸▸_, Kept, Breaks}
 use Rattle.sections.specs.Sections.{Front}
-use Rattle.table.specs.Rules.{longest, dimensionsRule, placesOf, axesRule, cellsRule}
+use Rattle.table.specs.Rules.{dimensionsRule, placesOf, axesRule, cellsRule}
 use Rattle.member.specs.Member.{Member, nodes, cells, MemberDerivation, AsDemanded}
+use Rattle.table.specs.Records.{dimsOf}
 
 -- Where document 01's rows stand. `layout` is in layout/specs, `table` in table/specs:
 --
@@ -33,19 +35,19 @@ use Rattle.member.specs.Member.{Member, nodes, cells, MemberDerivation, 
 
 -- the member's sections in their order, each with its tests: `Front` is Header to Formats, which the layout tests alone
 unfoldable pub memberRule : Rule Member
-memberRule = plain Front ▸▸ (λ _. dimensionsRule) ▸▸ (λ t. axesRule (t .1 .1)) ▸▸ (λ t. cellsRule (placesOf (t .0 .1 .1)))
+memberRule = plain Front ▸▸ (λ _. dimensionsRule) ▸▸ (λ t. axesRule (dimsOf (t .1))) ▸▸ (λ t. cellsRule (placesOf (dimsOf (t .0 .1))))
 
 -- Refused bs n p: the bytes get refusal n, at the place p. "Order: 1, then the file from front to back, ... then 11"
 pub data Refused (bs : List ℕ) : ℕ → ℕ → Type 0 where
-  too-long : longest < length bs → Refused bs 1 0
-  inside : {n p : ℕ} → length bs ≤ longest → Breaks Member memberRule bs 0 n p → Refused bs n p
+  too-long : member-bytes < length bs → Refused bs 1 0
+  inside : {n p : ℕ} → length bs ≤ member-bytes → Breaks Member memberRule bs 0 n p → Refused bs n p
   -- after the last section an optional 01, and then a byte
-  left : {t : Tree Member} {r : List ℕ} {k b : ℕ} {r′ : List ℕ} → length bs ≤ longest → Spells Member bs t r → Kept memberRule t → Runs 0x01 1 r k (b ∷ r′)
+  left : {t : Tree Member} {r : List ℕ} {k b : ℕ} {r′ : List ℕ} → length bs ≤ member-bytes → Spells Member bs t r → Kept memberRule t → Runs 0x01 1 r k (b ∷ r′)
       → Refused bs 11 (length (spell Member t) + k)
 
--- RefusedWith bs node-words cell-words n p: the bytes, with lent areas of those lengths, get refusal n at the place p. ".. then 11, 12, 13"
-pub data RefusedWith (bs : List ℕ) (node-words cell-words : ℕ) : ℕ → ℕ → Type 0 where
-  by-bytes : {n p : ℕ} → Refused bs n p → RefusedWith bs node-words cell-words n p
-  few-node-words : (m : MemberDerivation bs) → AsDemanded (m .tree) → node-words < 6 * nodes (m .tree) → RefusedWith bs node-words cell-words 12 0
-  few-cell-words : (m : MemberDerivation bs) → AsDemanded (m .tree) → 6 * nodes (m .tree) ≤ node-words → cell-words < 3 * length (cells (m .tree))
-      → RefusedWith bs node-words cell-words 13 0
+-- RefusedWith bs node-length cell-length n p: the bytes, with lent areas of those lengths, get refusal n at the place p. ".. then 11, 12, 13"
+pub data RefusedWith (bs : List ℕ) (node-length cell-length : ℕ) : ℕ → ℕ → Type 0 where
+  by-bytes : {n p : ℕ} → Refused bs n p → RefusedWith bs node-length cell-length n p
+  few-node-words : (m : MemberDerivation bs) → AsDemanded (m .tree) → node-length < node-words * nodes (m .tree) → RefusedWith bs node-length cell-length 12 0
+  few-cell-words : (m : MemberDerivation bs) → AsDemanded (m .tree) → node-words * nodes (m .tree) ≤ node-length → cell-length < cell-words * length (cells (m .tree))
+      → RefusedWith bs node-length cell-length 13 0

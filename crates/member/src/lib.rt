@@ -3,33 +3,52 @@ ghost use mathlib.Core.Path.{_≡_};
 ghost use mathlib.Core.List.{_++_};
 ghost use Prim.Native.Nat.{_+_, _*_, _≤_};
 ghost use lib.ListN.{length, take, drop};
+ghost use Rattle.sizes.specs.Sizes.{member-bytes, most-nodes, most-cells, node-words, cell-words};
 ghost use Rattle.layout.specs.Keeps.{Keeps};
 ghost use Rattle.layout.specs.Check.{check};
-ghost use Rattle.table.specs.Rules.{longest, cellsRule};
-ghost use Rattle.table.specs.Within.{needed};
-ghost use Rattle.cells.specs.Cells.{AllCells, cellsOf, cell-records};
+ghost use Rattle.table.specs.Rules.{cellsRule};
+ghost use Rattle.table.specs.Laws.Within.{needed};
+ghost use Rattle.cells.specs.Laws.Cells.{AllCells, cellsOut, cell-records};
 ghost use Rattle.member.specs.Answer as spec;
 ghost use Rattle.member.specs.Answer.{Delivered};
 ghost use Rattle.member.specs.Demand3.{Demand3};
 ghost use Rattle.member.specs.Part.{partOf};
 ghost use Rattle.member.specs.Checked.{ended, checked};
-ghost use Rattle.member.specs.Whole as whole;
+ghost use Rattle.member.specs.Laws.Whole as whole;
+ghost use Rattle.member.specs.Laws.Whole.{short-member};
 use cells::AxisCounts;
+use cells::LEAST_CELL;
 use cells::axes::axes;
 use cells::cells::cells as cells_section;
-use checks::product_of;
+use index::product_of;
 use layout::Step;
 use layout::run::skip;
 use sections::front;
+use sizes::CELL_AREA;
+use sizes::CELL_WORDS;
+use sizes::DIMENSION_AREA;
+use sizes::MEMBER_BYTES;
+use sizes::MOST_DIMENSIONS;
+use sizes::MOST_PLACES;
+use sizes::NODE_AREA;
+use sizes::NODE_WORDS;
+use table::LEAST_CATEGORY;
 use table::Section;
 use table::Walk;
 use table::dimension::dimensions;
+
+// The bytes of a short member, and the words for the records that so many bytes hold at most.
+const SHORT_MEMBER: usize = 4608;
+
+const SHORT_NODE_LIST: usize = SHORT_MEMBER / LEAST_CATEGORY * NODE_WORDS;
+
+const SHORT_CELL_LIST: usize = SHORT_MEMBER / LEAST_CELL * CELL_WORDS;
 
 // What comes after the dimensions: the axes, or the refusal; how many cells there are; and the dimension numbers on the axes.
 pub struct Tail {
     pub axes: AxisCounts,
     pub cells: usize,
-    pub order: [u32; 16],
+    pub order: [u32; MOST_DIMENSIONS],
 }
 
 // What reading a member answers. Unused entries are 0.
@@ -41,13 +60,13 @@ pub struct Answer {
     pub dims: u32,
     pub nodes: u32,
     pub cells: u32,
-    // for each of 16 dimensions: the place and length of its name, its n and its first node
-    pub dimensions: [u32; 64],
+    // for each dimension: the place and length of its name, its n and its first node
+    pub dimensions: [u32; DIMENSION_AREA],
     // how many dimensions are on each axis, and the dimension numbers, in the order of the file
     pub layers: u32,
     pub rows: u32,
     pub columns: u32,
-    pub order: [u32; 16],
+    pub order: [u32; MOST_DIMENSIONS],
 }
 
 // The end of a member: an optional 01, and nothing after it.
@@ -67,45 +86,51 @@ fn ending(s: &[u8], at: usize) -> Step
     }
 }
 
-// The cells of a table of `total` places, and the end.
-fn to_the_end(s: &[u8], at: usize, total: u32, words: &mut [u32]) -> Walk
-    requires { ⌜ (length (now s) ≤ longest) × (needed cell-records (length (now s)) ≤ length (now words)) ⌝ }
-    ensures { λ r. ⌜ Keeps (now (s .entry)) (AllCells at (now (words .entry))) (ended (check (cellsRule total) (drop at (now (s .entry))) at)) (cellsOf r (now (words .exit))) ⌝ }
+// The cells of a table of so many places, and the end.
+fn cells_and_end(s: &[u8], at: usize, places: u32, words: &mut [u32]) -> Walk
+    requires { ⌜ (length (now s) ≤ member-bytes) × (needed cell-records (length (now s)) ≤ length (now words)) ⌝ }
+    ensures { λ r. ⌜ Keeps (now (s .entry)) (AllCells at (now (words .entry))) (ended (check (cellsRule places) (drop at (now (s .entry))) at)) (cellsOut r (now (words .exit))) ⌝ }
 {
-    match cells_section(s, at, total, words) {
-        Walk::Off(r, p) => Walk::Off(r, p),
+    match cells_section(s, at, places, words) {
+        Walk::Refused(r, p) => Walk::Refused(r, p),
         Walk::On(q, m) => match ending(s, q) {
-            Step::Refused(r, p) => Walk::Off(r, p),
+            Step::Refused(r, p) => Walk::Refused(r, p),
             Step::Next(_) => Walk::On(q, m),
         },
     }
 }
 
 // After the dimensions, of which there are d: the product, the axes and the cells.
-fn after_dims(s: &[u8], at: usize, d: usize, dims: &[u32; 64], words: &mut [u32]) -> Tail
-    requires { ⌜ (length (now s) ≤ longest) × (needed cell-records (length (now s)) ≤ length (now words)) ⌝ }
+fn after_dims(
+    s: &[u8],
+    at: usize,
+    d: usize,
+    dims: &[u32; DIMENSION_AREA],
+    words: &mut [u32],
+) -> Tail
+    requires { ⌜ (length (now s) ≤ member-bytes) × (needed cell-records (length (now s)) ≤ length (now words)) ⌝ }
     ensures { λ r. ⌜ whole.TailRead (now (s .entry)) at d (now (dims .entry)) (now (words .entry)) r (now (words .exit)) ⌝ }
 {
-    let total = product_of(dims, d);
-    let small = total <= 4294967295;
+    let places = product_of(dims, d);
+    let small = places <= MOST_PLACES;
     if small {
         let a = axes(s, at, d);
         let order = a.order;
         let counts = a.counts;
         match counts {
-            AxisCounts::Not(r, p) => Tail {
-                axes: AxisCounts::Not(r, p),
+            AxisCounts::Refused(r, p) => Tail {
+                axes: AxisCounts::Refused(r, p),
                 cells: 0,
                 order,
             },
-            AxisCounts::Of(layers, rows, columns, next) => match to_the_end(
+            AxisCounts::Of(layers, rows, columns, next) => match cells_and_end(
                 s,
                 next,
-                total as u32,
+                places as u32,
                 words,
             ) {
-                Walk::Off(r, p) => Tail {
-                    axes: AxisCounts::Not(r, p),
+                Walk::Refused(r, p) => Tail {
+                    axes: AxisCounts::Refused(r, p),
                     cells: 0,
                     order,
                 },
@@ -118,9 +143,9 @@ fn after_dims(s: &[u8], at: usize, d: usize, dims: &[u32; 64], words: &mut [u32]
         }
     } else {
         Tail {
-            axes: AxisCounts::Not(7, at),
+            axes: AxisCounts::Refused(7, at),
             cells: 0,
-            order: [0u32; 16],
+            order: [0u32; MOST_DIMENSIONS],
         }
     }
 }
@@ -135,11 +160,11 @@ fn refused(refusal: u32, place: usize, nodes: u32, cells: u32) -> Answer
         dims: 0,
         nodes,
         cells,
-        dimensions: [0u32; 64],
+        dimensions: [0u32; DIMENSION_AREA],
         layers: 0,
         rows: 0,
         columns: 0,
-        order: [0u32; 16],
+        order: [0u32; MOST_DIMENSIONS],
     }
 }
 
@@ -174,22 +199,22 @@ pub fn part(member: &[u8], place: usize, length: usize) -> &[u8]
 // The answer a, and its records into the lent areas, where these are large enough.
 fn deliver(
     a: Answer,
-    node_words: &[u32],
-    cell_words: &[u32],
+    node_list: &[u32],
+    cell_list: &[u32],
     nodes: &mut [u32],
     cells: &mut [u32],
 ) -> Answer
-    requires { ⌜ (6 * (a .nodes) ≤ length (now «node_words»)) × (3 * (a .cells) ≤ length (now «cell_words»)) × (a .nodes ≤ 4096) × (a .cells ≤ 4096) ⌝ }
-    ensures { λ r. ⌜ spec.Filled a (now («node_words» .entry)) (now («cell_words» .entry)) (now (nodes .entry)) (now (cells .entry)) r (now (nodes .exit)) (now (cells .exit)) ⌝ }
+    requires { ⌜ (node-words * (a .nodes) ≤ length (now «node_list»)) × (cell-words * (a .cells) ≤ length (now «cell_list»)) × (a .nodes ≤ most-nodes) × (a .cells ≤ most-cells) ⌝ }
+    ensures { λ r. ⌜ spec.Filled a (now («node_list» .entry)) (now («cell_list» .entry)) (now (nodes .entry)) (now (cells .entry)) r (now (nodes .exit)) (now (cells .exit)) ⌝ }
 {
     let used = a.nodes as usize;
     let m = a.cells as usize;
-    let wide = 6 * used <= nodes.len();
+    let wide = NODE_WORDS * used <= nodes.len();
     if wide {
-        let long = 3 * m <= cells.len();
+        let long = CELL_WORDS * m <= cells.len();
         if long {
-            copy(node_words, nodes, 6 * used);
-            copy(cell_words, cells, 3 * m);
+            copy(node_list, nodes, NODE_WORDS * used);
+            copy(cell_list, cells, CELL_WORDS * m);
             a
         } else {
             refused(13, 0, a.nodes, a.cells)
@@ -199,28 +224,28 @@ fn deliver(
     }
 }
 
-// Reads a member by way of two lists of words, zeros that have room for its records.
-fn by_way_of(
+// Reads a member, with two lists for the words of its records: zeros, and long enough.
+fn read_with_lists(
     member: &[u8],
-    node_words: &mut [u32],
-    cell_words: &mut [u32],
+    node_list: &mut [u32],
+    cell_list: &mut [u32],
     nodes: &mut [u32],
     cells: &mut [u32],
 ) -> Answer
-    requires { ⌜ whole.Roomy (now member) (now «node_words») (now «cell_words») ⌝ }
+    requires { ⌜ whole.ReadyLists (now member) (now «node_list») (now «cell_list») ⌝ }
     ensures { λ r. ⌜ Delivered (checked (now (member .entry))) (now (nodes .entry)) (now (cells .entry)) r (now (nodes .exit)) (now (cells .exit)) ⌝ }
 {
-    let mut dims = [0u32; 64];
+    let mut dims = [0u32; DIMENSION_AREA];
     match front(member, Step::Next(0)) {
         Step::Refused(r, p) => refused(r, p, 0, 0),
-        Step::Next(at) => match dimensions(member, at, node_words, &mut dims) {
-            Section::Not(r, p) => refused(r, p, 0, 0),
+        Step::Next(at) => match dimensions(member, at, node_list, &mut dims) {
+            Section::Refused(r, p) => refused(r, p, 0, 0),
             Section::Of(next, d, used) => {
-                let tail = after_dims(member, next, d, &dims, cell_words);
+                let tail = after_dims(member, next, d, &dims, cell_list);
                 let order = tail.order;
                 let axes = tail.axes;
                 match axes {
-                    AxisCounts::Not(r, p) => refused(r, p, 0, 0),
+                    AxisCounts::Refused(r, p) => refused(r, p, 0, 0),
                     AxisCounts::Of(layers, rows, columns, _) => deliver(
                         Answer {
                             refusal: 0,
@@ -234,8 +259,8 @@ fn by_way_of(
                             columns,
                             order,
                         },
-                        node_words,
-                        cell_words,
+                        node_list,
+                        cell_list,
                         nodes,
                         cells,
                     ),
@@ -245,24 +270,24 @@ fn by_way_of(
     }
 }
 
-// A member of at most 4,608 bytes: they hold at most 288 nodes and 512 cells, and shorter lists are sooner cleared.
+// A short member has few nodes and cells, and short lists are sooner cleared.
 fn read_short(member: &[u8], nodes: &mut [u32], cells: &mut [u32]) -> Answer
-    requires { ⌜ length (now member) ≤ 4608 ⌝ }
+    requires { ⌜ length (now member) ≤ short-member ⌝ }
     ensures { λ r. ⌜ Delivered (checked (now (member .entry))) (now (nodes .entry)) (now (cells .entry)) r (now (nodes .exit)) (now (cells .exit)) ⌝ }
 {
-    let mut node_words = [0u32; 1728];
-    let mut cell_words = [0u32; 1536];
-    by_way_of(member, &mut node_words, &mut cell_words, nodes, cells)
+    let mut node_list = [0u32; SHORT_NODE_LIST];
+    let mut cell_list = [0u32; SHORT_CELL_LIST];
+    read_with_lists(member, &mut node_list, &mut cell_list, nodes, cells)
 }
 
 // A member of any length that is accepted.
 fn read_long(member: &[u8], nodes: &mut [u32], cells: &mut [u32]) -> Answer
-    requires { ⌜ length (now member) ≤ longest ⌝ }
+    requires { ⌜ length (now member) ≤ member-bytes ⌝ }
     ensures { λ r. ⌜ Delivered (checked (now (member .entry))) (now (nodes .entry)) (now (cells .entry)) r (now (nodes .exit)) (now (cells .exit)) ⌝ }
 {
-    let mut node_words = [0u32; 24576];
-    let mut cell_words = [0u32; 12288];
-    by_way_of(member, &mut node_words, &mut cell_words, nodes, cells)
+    let mut node_list = [0u32; NODE_AREA];
+    let mut cell_list = [0u32; CELL_AREA];
+    read_with_lists(member, &mut node_list, &mut cell_list, nodes, cells)
 }
 
 // Reads a member. On a refusal both areas hold what they held; on acceptance the records, and beyond them what was there.
@@ -270,9 +295,9 @@ pub fn read_member(member: &[u8], nodes: &mut [u32], cells: &mut [u32]) -> Answe
     ensures checks { λ r. ⌜ Delivered (checked (now (member .entry))) (now (nodes .entry)) (now (cells .entry)) r (now (nodes .exit)) (now (cells .exit)) ⌝ }
     ensures demands { λ r. ⌜ Demand3 (now (member .entry)) (now (nodes .entry)) (now (cells .entry)) r (now (nodes .exit)) (now (cells .exit)) ⌝ }
 {
-    if member.len() <= 4608 {
+    if member.len() <= SHORT_MEMBER {
         read_short(member, nodes, cells)
-    } else if member.len() <= 1048576 {
+    } else if member.len() <= MEMBER_BYTES {
         read_long(member, nodes, cells)
     } else {
         refused(1, 0, 0, 0)

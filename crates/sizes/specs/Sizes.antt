@@ -49,9 +49,27 @@ cell-words = 3
 abbrev pub dimension-words : ℕ
 dimension-words = 4
 
+-- the words of a node record: "place and length of the name Value", "leaf index or number of direct children"
+abbrev pub name-place : ℕ
+name-place = 3
+
+abbrev pub name-length : ℕ
+name-length = 4
+
+abbrev pub leaf-index : ℕ
+leaf-index = 5
+
+-- the word of a dimension's entry that is its n
+abbrev pub dimension-n : ℕ
+dimension-n = 2
+
 -- "number of the parent node or 4,294,967,295"
 abbrev pub no-parent : ℕ
 no-parent = 2 ^ 32 - 1
+
+-- from the end of a leaf's name to its index: three bytes and the number 2 of four bytes (003, Categories)
+abbrev pub name-to-index : ℕ
+name-to-index = 7
 
 -- areas that suffice for the records of every member
 abbrev pub node-area : ℕ

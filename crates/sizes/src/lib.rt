@@ -26,8 +26,19 @@ pub const NODE_WORDS: usize = 6;
 pub const CELL_WORDS: usize = 3;
 // of a dimension: the place and length of its name, its n and its first node
 pub const DIMENSION_WORDS: usize = 4;
+// the words of a node record: of its name, of a leaf's index or the number of direct children
+pub const NAME_PLACE: usize = 3;
+
+pub const NAME_LENGTH: usize = 4;
+
+pub const LEAF_INDEX: usize = 5;
+// the word of a dimension's entry that is its n
+pub const DIMENSION_N: usize = 2;
 // the parent of a node that has none
 pub const NO_PARENT: u32 = 4294967295;
+
+// from the end of a leaf's name to its index: three bytes and the number 2 of four bytes (003, Categories)
+pub const NAME_TO_INDEX: usize = 7;
 
 // areas that suffice for the records of every member
 pub const NODE_AREA: usize = NODE_WORDS * MOST_NODES;

@@ -1,18 +1,68 @@
 -- What a derivation of a category says: its node records, in file order (document 01, "What the caller gets"), and its leaf indexes.
 use mathlib.Core.List.{List, [], _∷_, _++_}
-use Prim.Native.Nat.{ℕ, zero, suc, _+_, _-_, _^_}
+use Prim.Native.Nat.{ℕ, zero, suc, _+_}
 use lib.ListN.{length}
-use Rattle.layout.specs.Layout.{Layout, empty, _▸_, Tree, spell}
+use Rattle.sizes.specs.Sizes.{category-depth, no-parent}
+use Rattle.layout.specs.Layout.{Layout, empty, _▸_, Tree, spellAll, size}
 use Rattle.layout.specs.Conventions.{int32}
-use Rattle.checks.specs.Checks.{OnceEach}
+use Rattle.once.specs.Once.{OnceEach}
 use Rattle.value.specs.Value.{Value}
-use Rattle.table.specs.Table.{CategoryOf, CategoryIn, DimProperties, Dimension, Cell}
+use Rattle.table.specs.Table.{Leaf, GroupOf, CategoryOf, CategoryIn, DimProperties, Dimension, Dimensions, Axes, Cells, Cell, Category}
 
 -- a category without what is below it
 abbrev pub Head : Layout
 Head = CategoryOf (λ _. empty)
 
--- ---- a tree's own part, and what is below it
+-- ---- the parts of a tree, by name
+
+abbrev pub leafIndex : Tree Leaf → ℕ
+leafIndex t = t .0 .1 .0
+
+abbrev pub childCount : Tree (GroupOf (λ _. empty)) → ℕ
+childCount t = t .1 .0
+
+abbrev pub headName : Tree Head → Tree Value
+headName t = t .0
+
+-- a dimension's name and properties, its name, and its categories
+abbrev pub dimOwn : Tree Dimension → Tree (Value ▸ DimProperties)
+dimOwn t = t .0
+
+abbrev pub dimName : Tree Dimension → Tree Value
+dimName t = t .0 .0
+
+abbrev pub dimCategories : Tree Dimension → List (Tree Category)
+dimCategories t = t .1 .1
+
+abbrev pub dimsOf : Tree Dimensions → List (Tree Dimension)
+dimsOf t = t .1
+
+-- the axis counts, and the entries: layers, then rows, then columns
+abbrev pub axisLayers : Tree Axes → ℕ
+axisLayers t = t .0
+
+abbrev pub axisRows : Tree Axes → ℕ
+axisRows t = t .1 .0
+
+abbrev pub axisColumns : Tree Axes → ℕ
+axisColumns t = t .1 .1 .0
+
+abbrev pub axisEntries : Tree Axes → List (Tree int32)
+axisEntries t = let e = t .1 .1 .1 in e .0 .0 ++ e .0 .1 ++ e .1
+
+abbrev pub entryIndex : Tree int32 → ℕ
+entryIndex t = t .0
+
+abbrev pub cellIndex : Tree Cell → ℕ
+cellIndex t = t .0 .0
+
+abbrev pub cellValue : Tree Cell → Tree Value
+cellValue t = t .1
+
+abbrev pub cellsOf : Tree Cells → List (Tree Cell)
+cellsOf t = t .1
+
+-- ---- a category's own part, and what is below it
 
 abbrev pub front : (d : ℕ) → Tree (CategoryIn (suc d)) → Tree Head
 front d (m, (zero, t)) = (m, (zero, t))
@@ -29,37 +79,37 @@ kindOf (m, (suc k, t)) = 1
 
 -- the leaf's index, or the number of direct children
 abbrev pub wordOf : Tree Head → ℕ
-wordOf (m, (zero, t)) = t .0 .1 .0
-wordOf (m, (suc k, t)) = t .1 .0
+wordOf (m, (zero, t)) = leafIndex t
+wordOf (m, (suc k, t)) = childCount t
 
 -- how many categories are directly below
 abbrev pub belowOf : Tree Head → ℕ
 belowOf (m, (zero, t)) = 0
-belowOf (m, (suc k, t)) = t .1 .0
+belowOf (m, (suc k, t)) = childCount t
 
 -- ---- nodes
 
-unfoldable pub total : {A : Type 0} → (A → ℕ) → List A → ℕ
-total f [] = 0
-total f (t ∷ ts) = f t + total f ts
+unfoldable pub sum : {A : Type 0} → (A → ℕ) → List A → ℕ
+sum f [] = 0
+sum f (t ∷ ts) = f t + sum f ts
 
 -- the number of nodes, at any depth
 unfoldable pub nodes : (d : ℕ) → Tree (CategoryIn d) → ℕ
 nodes zero t = 0
-nodes (suc d) t = 1 + total (nodes d) (children d t)
-
--- how many bytes a derivation covers
-unfoldable pub size : (g : Layout) → Tree g → ℕ
-size g t = length (spell g t)
+nodes (suc d) t = 1 + sum (nodes d) (children d t)
 
 -- the words of trees that follow each other, from the node number `used` and the place `at` on
 unfoldable pub wordsAll : {A : Type 0} → (A → ℕ) → (A → ℕ) → (ℕ → ℕ → A → List ℕ) → ℕ → ℕ → List A → List ℕ
 wordsAll count size f used at [] = []
 wordsAll count size f used at (t ∷ ts) = f used at t ++ wordsAll count size f (used + count t) (at + size t) ts
 
--- the six words of a node at the place `at`: 0 leaf or 1 group; dimension; parent; place and length of the name; leaf index or children
+-- the words of a node: 0 leaf or 1 group; dimension; parent; place and length of the name; leaf index or children
+abbrev pub nodeRecord : ℕ → ℕ → ℕ → ℕ → ℕ → ℕ → List ℕ
+nodeRecord kind dim par place long word = kind ∷ dim ∷ par ∷ place ∷ long ∷ word ∷ []
+
+-- those of a category at the place `at`
 abbrev pub nodeWords : ℕ → ℕ → ℕ → Tree Head → List ℕ
-nodeWords dim par at h = kindOf h ∷ dim ∷ par ∷ at ∷ size Value (h .0) ∷ wordOf h ∷ []
+nodeWords dim par at h = nodeRecord (kindOf h) dim par at (size Value (headName h)) (wordOf h)
 
 -- the records of a category at the place `at` whose node has the number `used`, in file order
 unfoldable pub treeWords : (d dim par used at : ℕ) → Tree (CategoryIn d) → List ℕ
@@ -70,28 +120,24 @@ treeWords (suc d) dim par used at t =
 
 -- ---- leaves
 
-unfoldable pub concatAll : {A : Type 0} → (A → List ℕ) → List A → List ℕ
-concatAll f [] = []
-concatAll f (t ∷ ts) = f t ++ concatAll f ts
-
 abbrev pub ownIndex : Tree Head → List ℕ
-ownIndex (m, (zero, t)) = t .0 .1 .0 ∷ []
+ownIndex (m, (zero, t)) = leafIndex t ∷ []
 ownIndex (m, (suc k, t)) = []
 
 -- the leaf indexes of a category, in file order
 unfoldable pub leafIndexes : (d : ℕ) → Tree (CategoryIn d) → List ℕ
 leafIndexes zero t = []
-leafIndexes (suc d) t = ownIndex (front d t) ++ concatAll (leafIndexes d) (children d t)
+leafIndexes (suc d) t = ownIndex (front d t) ++ spellAll (leafIndexes d) (children d t)
 
 -- ---- dimensions
 
 -- the number of nodes of a dimension
 unfoldable pub dimNodes : Tree Dimension → ℕ
-dimNodes t = total (nodes 8) (t .1 .1)
+dimNodes t = sum (nodes category-depth) (dimCategories t)
 
 -- its leaf indexes, in file order. n of a dimension is their number (document 01: its number of leaves at any depth)
 unfoldable pub dimLeaves : Tree Dimension → List ℕ
-dimLeaves t = concatAll (leafIndexes 8) (t .1 .1)
+dimLeaves t = spellAll (leafIndexes category-depth) (dimCategories t)
 
 -- the n leaves of a dimension have the indexes 0 to n-1, once each (document 01, our rule)
 abbrev pub LeavesOnce : Tree Dimension → Type 0
@@ -100,11 +146,11 @@ LeavesOnce t = OnceEach (length (dimLeaves t)) (dimLeaves t)
 -- the node records of dimension i at the place `at`, whose first node has the number `used`. A category of the dimension itself has no parent
 unfoldable pub dimWords : ℕ → ℕ → ℕ → Tree Dimension → List ℕ
 dimWords i used at t =
-    wordsAll (nodes 8) (size (CategoryIn 8)) (treeWords 8 i (2 ^ 32 - 1)) used (at + size (Value ▸ DimProperties) (t .0) + 4) (t .1 .1)
+    wordsAll (nodes category-depth) (size Category) (treeWords category-depth i no-parent) used (at + size (Value ▸ DimProperties) (dimOwn t) + 4) (dimCategories t)
 
 -- place and length of its name, n, first node
 unfoldable pub dimEntry : ℕ → ℕ → Tree Dimension → List ℕ
-dimEntry used at t = at ∷ size Value (t .0 .0) ∷ length (dimLeaves t) ∷ used ∷ []
+dimEntry used at t = at ∷ size Value (dimName t) ∷ length (dimLeaves t) ∷ used ∷ []
 
 -- the same of dimensions that follow each other, from number i on
 unfoldable pub dimsWords : ℕ → ℕ → ℕ → List (Tree Dimension) → List ℕ
@@ -117,16 +163,9 @@ dimsEntries used at (t ∷ ts) = dimEntry used at t ++ dimsEntries (used + dimNo
 
 -- ---- axes and cells
 
--- an axis entry
-abbrev pub entryIndex : Tree int32 → ℕ
-entryIndex t = t .0
-
-abbrev pub cellIndex : Tree Cell → ℕ
-cellIndex t = t .0 .0
-
 -- index; place and length of the Value
 abbrev pub cellWords : ℕ → Tree Cell → List ℕ
-cellWords at t = t .0 .0 ∷ (at + 8) ∷ size Value (t .1) ∷ []
+cellWords at t = cellIndex t ∷ (at + 8) ∷ size Value (cellValue t) ∷ []
 
 unfoldable pub mapAll : {A : Type 0} → (A → ℕ) → List A → List ℕ
 mapAll f [] = []

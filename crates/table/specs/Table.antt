@@ -1,6 +1,7 @@
 -- Source document 003, "Dimensions", "Categories", "Axes" and "Cells", for version 3, with document 01's choices.
 use mathlib.Core.List.{List, [], _∷_}
 use Prim.Native.Nat.{ℕ, zero, suc, _^_, _-_}
+use Rattle.sizes.specs.Sizes.{most-dimensions, most-cells, category-depth}
 use Rattle.layout.specs.Layout.{little, any-number, one-of, Layout, number, _▸_, times, nothing}
 use Rattle.layout.specs.Conventions.{fixed, i, byte, bool, int32, int64, at-most-many, many}
 use Rattle.value.specs.Value.{Value}
@@ -11,10 +12,14 @@ use Rattle.value.specs.Value.{Value}
 abbrev pub Leaf : Layout
 Leaf = i 2 ▸ int32 ▸ i 0
 
+-- the number -1, as four bytes spell it
+abbrev pub minus-one : ℕ
+minus-one = 2 ^ 32 - 1
+
 -- Group => bool[merge] 00 01 int32[x23] i-1 int32[n-subcategories] Category*[n-subcategories], without the three bytes.
 -- `below` is what follows the count
 abbrev pub GroupOf : (ℕ → Layout) → Layout
-GroupOf below = int32 ▸ i (2 ^ 32 - 1) ▸ number little 4 any-number below
+GroupOf below = int32 ▸ i minus-one ▸ number little 4 any-number below
 
 -- document 01: the three bytes are one field. 00 00 00 makes a leaf, (00 or 01) 00 01 a group
 abbrev pub kinds : List ℕ
@@ -35,7 +40,7 @@ CategoryIn (suc d) = CategoryOf (λ n. times n (CategoryIn d))
 
 -- document 01: categories nested 8 deep
 abbrev pub Category : Layout
-Category = CategoryIn 8
+Category = CategoryIn category-depth
 
 -- ---- 003, Dimensions
 
@@ -49,7 +54,7 @@ Dimension = Value ▸ DimProperties ▸ many Category
 
 -- Dimensions => int32[n-dims] Dimension*[n-dims]; document 01: at most 16
 abbrev pub Dimensions : Layout
-Dimensions = at-most-many 16 Dimension
+Dimensions = at-most-many most-dimensions Dimension
 
 -- ---- 003, Axes
 
@@ -69,4 +74,4 @@ Cell = int64 ▸ Value
 
 -- Cells => int32[n-cells] Cell*[n-cells]; document 01: at most 4,096
 abbrev pub Cells : Layout
-Cells = at-most-many 4096 Cell
+Cells = at-most-many most-cells Cell

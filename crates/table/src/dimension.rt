@@ -1,33 +1,47 @@
 // Dimensions: a name, properties and categories; when one ends, its n is known and its leaf indexes are tested.
 ghost use mathlib.Core.Path.{_≡_};
 ghost use mathlib.Core.List.{[], _∷_};
-ghost use Prim.Native.Nat.{_<_, _≤_, _+_, _-_, _*_};
+ghost use Prim.Native.Nat.{_<_, _≤_, _+_, _*_};
 ghost use lib.ListN.{length, drop};
 ghost use lib.Seq.{sets};
+ghost use Rattle.sizes.specs.Sizes.{member-bytes, most-dimensions, most-nodes, dimension-words};
 ghost use Rattle.layout.specs.Reads.{Reads};
 ghost use Rattle.layout.specs.Rule.{items};
 ghost use Rattle.layout.specs.Check.{check};
 ghost use Rattle.layout.specs.Keeps.{Keeps, Each};
 ghost use Rattle.table.specs.Table as grammar;
-ghost use Rattle.table.specs.Rules.{longest, dimensionRule, dimensionsRule};
-ghost use Rattle.table.specs.Dims as spec;
-ghost use Rattle.table.specs.Dims.{NodeRoom};
-ghost use Rattle.table.specs.Within.{needed, within};
+ghost use Rattle.table.specs.Rules.{dimensionRule, dimensionsRule};
+ghost use Rattle.table.specs.Laws.Dims as spec;
+ghost use Rattle.table.specs.Laws.Within.{Room, Scratch, needed, within};
+ghost use Rattle.table.specs.Laws.LeastBytes.{least-category};
+use crate::LEAST_CATEGORY;
 use crate::Section;
 use crate::Walk;
 use crate::categories;
 use crate::length;
-use checks::Verdict;
-use checks::check_leaves;
-use checks::count_leaves;
 use layout::LITTLE;
 use layout::Step;
 use layout::number::any;
+use layout::number::between;
 use layout::number::boolean;
 use layout::number::count;
 use layout::number::fixed;
 use layout::number::peek;
+use once::Verdict;
+use once::check_leaves;
+use once::count_leaves;
+use sizes::CATEGORY_DEPTH;
+use sizes::DIMENSION_AREA;
+use sizes::DIMENSION_WORDS;
+use sizes::MEMBER_BYTES;
+use sizes::MOST_DIMENSIONS;
+use sizes::MOST_NODES;
+use sizes::NO_PARENT;
+use sizes::NODE_AREA;
+use sizes::NODE_WORDS;
 use value::value;
+
+const LIMIT: u64 = MOST_DIMENSIONS as u64;
 
 fn properties(s: &[u8], st: Step) -> Step
     ensures { λ r. ⌜ Reads grammar.DimProperties (now (s .entry)) st r ⌝ }
@@ -41,13 +55,6 @@ fn properties(s: &[u8], st: Step) -> Step
     any(s, st, 4)
 }
 
-// How many nodes there are from one number to another.
-fn between(a: usize, e: usize) -> usize
-    ensures { λ r. ⌜ r ≡ e - a ⌝ }
-{
-    if a <= e { e - a } else { 0 }
-}
-
 // The length of a name that starts at a position.
 fn name_length(at: usize, name: Step) -> u32
     ensures { λ r. ⌜ r ≡ spec.nameLength at name ⌝ }
@@ -59,11 +66,11 @@ fn name_length(at: usize, name: Step) -> u32
 }
 
 // The four words of dimension i.
-fn store(dims: &mut [u32; 64], i: usize, place: u32, length: u32, n: u32, first: u32)
-    requires { ⌜ i < 16 ⌝ }
-    ensures { λ _. ⌜ now (dims .exit) ≡ sets (now (dims .entry)) (4 * i) (place ∷ length ∷ n ∷ first ∷ []) ⌝ }
+fn store(dims: &mut [u32; DIMENSION_AREA], i: usize, place: u32, length: u32, n: u32, first: u32)
+    requires { ⌜ i < most-dimensions ⌝ }
+    ensures { λ _. ⌜ now (dims .exit) ≡ sets (now (dims .entry)) (dimension-words * i) (place ∷ length ∷ n ∷ first ∷ []) ⌝ }
 {
-    let at = 4 * i;
+    let at = DIMENSION_WORDS * i;
     dims[at] = place;
     dims[at + 1] = length;
     dims[at + 2] = n;
@@ -79,15 +86,15 @@ fn close(
     p: usize,
     u: usize,
     nodes: &[u32],
-    dims: &mut [u32; 64],
+    dims: &mut [u32; DIMENSION_AREA],
 ) -> Walk
-    requires { ⌜ i < 16 ⌝ }
+    requires { ⌜ i < most-dimensions ⌝ }
     ensures { λ r. ⌜ spec.Closed i at size used p u (now (nodes .entry)) (now (dims .entry)) r (now (dims .exit)) ⌝ }
 {
     let k = between(used, u);
     let n = count_leaves(nodes, used, k);
     match check_leaves(nodes, used, k, n as u64) {
-        Verdict::Bad(q) => Walk::Off(8, q),
+        Verdict::Bad(q) => Walk::Refused(8, q),
         Verdict::Fine => {
             store(
                 dims,
@@ -109,35 +116,44 @@ fn dimension(
     at: usize,
     used: usize,
     nodes: &mut [u32],
-    dims: &mut [u32; 64],
+    dims: &mut [u32; DIMENSION_AREA],
 ) -> Walk
-    requires { ⌜ (i < 16) × (length (now s) ≤ longest) × (used ≤ 4096) × (16 * used ≤ at) × NodeRoom (length (now nodes)) (now s) ⌝ }
-    ensures { λ r. ⌜ Keeps (now (s .entry)) (spec.Dim at (spec.kept i used (now (nodes .entry)) (now (dims .entry)))) (check (dimensionRule used) (drop at (now (s .entry))) at) (spec.dimsOf (i + 1) r (now (nodes .exit)) (now (dims .exit))) ⌝ }
+    requires { ⌜ (i < most-dimensions) × (length (now s) ≤ member-bytes) × (used ≤ most-nodes) × (least-category * used ≤ at) × Room spec.node-records (length (now nodes)) (now s) ⌝ }
+    ensures { λ r. ⌜ Keeps (now (s .entry)) (spec.Dim at (spec.kept i used (now (nodes .entry)) (now (dims .entry)))) (check (dimensionRule used) (drop at (now (s .entry))) at) (spec.dimsOut (i + 1) r (now (nodes .exit)) (now (dims .exit))) ⌝ }
 {
     let name = value(s, Step::Next(at));
     let before = properties(s, name);
     let n = peek(s, before, LITTLE, 4);
     match any(s, before, 4) {
-        Step::Refused(r, p) => Walk::Off(r, p),
-        Step::Next(f) => match categories(s, f, 8, i as u32, 4294967295, n, used, nodes) {
-            Walk::Off(r, p) => Walk::Off(r, p),
+        Step::Refused(r, p) => Walk::Refused(r, p),
+        Step::Next(f) => match categories(
+            s,
+            f,
+            CATEGORY_DEPTH,
+            i as u32,
+            NO_PARENT,
+            n,
+            used,
+            nodes,
+        ) {
+            Walk::Refused(r, p) => Walk::Refused(r, p),
             Walk::On(p, u) => close(i, at, name_length(at, name), used, p, u, nodes, dims),
         },
     }
 }
 
 // n dimensions.
-fn all(s: &[u8], at: usize, n: usize, nodes: &mut [u32], dims: &mut [u32; 64]) -> Walk
-    requires { ⌜ (n ≤ 16) × (length (now s) ≤ longest) × NodeRoom (length (now nodes)) (now s) ⌝ }
-    ensures { λ r. ⌜ Keeps (now (s .entry)) (Each spec.Dim at (spec.kept 0 0 (now (nodes .entry)) (now (dims .entry)))) (check (items {n = n} spec.nextDim) (drop at (now (s .entry))) at) (spec.dimsOf n r (now (nodes .exit)) (now (dims .exit))) ⌝ }
+fn all(s: &[u8], at: usize, n: usize, nodes: &mut [u32], dims: &mut [u32; DIMENSION_AREA]) -> Walk
+    requires { ⌜ (n ≤ most-dimensions) × (length (now s) ≤ member-bytes) × Room spec.node-records (length (now nodes)) (now s) ⌝ }
+    ensures { λ r. ⌜ Keeps (now (s .entry)) (Each spec.Dim at (spec.kept 0 0 (now (nodes .entry)) (now (dims .entry)))) (check (items {n = n} spec.nextDim) (drop at (now (s .entry))) at) (spec.dimsOut n r (now (nodes .exit)) (now (dims .exit))) ⌝ }
 {
     let mut at = at;
     let mut used = 0;
     let mut i = 0;
     while i < n {
         match dimension(s, i, at, used, nodes, dims) {
-            Walk::Off(r, p) => {
-                return Walk::Off(r, p);
+            Walk::Refused(r, p) => {
+                return Walk::Refused(r, p);
             }
             Walk::On(a, u) => {
                 at = a;
@@ -150,39 +166,49 @@ fn all(s: &[u8], at: usize, n: usize, nodes: &mut [u32], dims: &mut [u32; 64]) -
 }
 
 // The section, in a member that is no longer than members are, with room for its records.
-fn section(s: &[u8], at: usize, nodes: &mut [u32], dims: &mut [u32; 64]) -> Section
-    requires { ⌜ (length (now s) ≤ longest) × NodeRoom (length (now nodes)) (now s) ⌝ }
-    ensures { λ r. ⌜ Keeps (now (s .entry)) (spec.AllDims at (now (nodes .entry)) (now (dims .entry))) (check dimensionsRule (drop at (now (s .entry))) at) (spec.sectionOf r (now (nodes .exit)) (now (dims .exit))) ⌝ }
+fn section(s: &[u8], at: usize, nodes: &mut [u32], dims: &mut [u32; DIMENSION_AREA]) -> Section
+    requires { ⌜ (length (now s) ≤ member-bytes) × Room spec.node-records (length (now nodes)) (now s) ⌝ }
+    ensures { λ r. ⌜ Keeps (now (s .entry)) (spec.AllDims at (now (nodes .entry)) (now (dims .entry))) (check dimensionsRule (drop at (now (s .entry))) at) (spec.sectionOut r (now (nodes .exit)) (now (dims .exit))) ⌝ }
 {
     let n = peek(s, Step::Next(at), LITTLE, 4);
-    match count(s, Step::Next(at), 16) {
-        Step::Refused(r, p) => Section::Not(r, p),
+    match count(s, Step::Next(at), LIMIT) {
+        Step::Refused(r, p) => Section::Refused(r, p),
         Step::Next(p) => match all(s, p, n as usize, nodes, dims) {
-            Walk::Off(r, q) => Section::Not(r, q),
+            Walk::Refused(r, q) => Section::Refused(r, q),
             Walk::On(q, used) => Section::Of(q, n as usize, used),
         },
     }
 }
 
-// How many words the node records of n bytes have at most: a category takes 16 bytes or more.
+// How many words the node records of n bytes have at most.
 fn most_words(n: usize) -> usize
     ensures { λ r. ⌜ r ≡ needed spec.node-records n ⌝ }
 {
-    let k = n / 16;
-    if k <= 4096 { 6 * k } else { 24576 }
+    let k = n / LEAST_CATEGORY;
+    if k <= MOST_NODES {
+        NODE_WORDS * k
+    } else {
+        NODE_AREA
+    }
 }
 
 // The number of dimensions at a position, and the dimensions. Refused besides: more bytes than a member has, 1 at 0; a list that is too
 // short for the node records of so many bytes, 12 at 0.
-pub fn dimensions(s: &[u8], at: usize, nodes: &mut [u32], dims: &mut [u32; 64]) -> Section
-    ensures { λ r. ⌜ Keeps (now (s .entry)) (spec.AllDims at (now (nodes .entry)) (now (dims .entry))) (within spec.node-records (now (s .entry)) (length (now (nodes .entry))) (check dimensionsRule (drop at (now (s .entry))) at)) (spec.sectionOf r (now (nodes .exit)) (now (dims .exit))) ⌝ }
+pub fn dimensions(
+    s: &[u8],
+    at: usize,
+    nodes: &mut [u32],
+    dims: &mut [u32; DIMENSION_AREA],
+) -> Section
+    ensures dimensions { λ r. ⌜ Keeps (now (s .entry)) (spec.AllDims at (now (nodes .entry)) (now (dims .entry))) (within spec.node-records (now (s .entry)) (length (now (nodes .entry))) (check dimensionsRule (drop at (now (s .entry))) at)) (spec.sectionOut r (now (nodes .exit)) (now (dims .exit))) ⌝ }
+    ensures scratch { λ _. ⌜ Scratch (now (nodes .entry)) (now (nodes .exit)) ⌝ }
 {
-    if 1048576 < s.len() {
-        return Section::Not(1, 0);
+    if MEMBER_BYTES < s.len() {
+        return Section::Refused(1, 0);
     }
     let most = most_words(s.len());
     if nodes.len() < most {
-        return Section::Not(12, 0);
+        return Section::Refused(12, 0);
     }
     section(s, at, nodes, dims)
 }

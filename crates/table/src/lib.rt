@@ -4,45 +4,55 @@ ghost use mathlib.Core.List.{[], _∷_};
 ghost use Prim.Native.Nat.{_≤_, _<_, _-_, _*_};
 ghost use lib.ListN.{length, set, drop};
 ghost use lib.Seq.{sets};
+ghost use Rattle.sizes.specs.Sizes.{member-bytes, most-nodes, node-words};
 ghost use Rattle.layout.specs.Layout.{little, one-of};
 ghost use Rattle.layout.specs.Conventions as notation;
 ghost use Rattle.layout.specs.Read.{read};
 ghost use Rattle.layout.specs.Reads.{Reads, verdict};
 ghost use Rattle.layout.specs.Check.{check};
 ghost use Rattle.layout.specs.Keeps.{Keeps, Each};
+ghost use Rattle.layout.specs.Words.{word32};
 ghost use Rattle.table.specs.Table as grammar;
-ghost use Rattle.table.specs.Records.{Head};
-ghost use Rattle.table.specs.Rules.{categoryRule, categoriesRule, longest};
-ghost use Rattle.table.specs.Words.{word32};
-ghost use Rattle.table.specs.Heads.{HeadRead, nodeOf};
-ghost use Rattle.table.specs.Nodes as spec;
+ghost use Rattle.table.specs.Records.{Head, nodeRecord};
+ghost use Rattle.table.specs.Rules.{categoryRule, categoriesRule};
+ghost use Rattle.table.specs.Laws.Heads.{HeadRead, nodeOf};
+ghost use Rattle.table.specs.Laws.Nodes as spec;
 use layout::LITTLE;
 use layout::Step;
 use layout::number::any;
+use layout::number::between;
 use layout::number::field;
 use layout::number::fixed;
 use layout::number::peek;
+use sizes::MOST_NODES;
+use sizes::NODE_WORDS;
 use value::value;
 
 pub mod dimension; // dimensions
 
+// The number -1, as four bytes spell it.
+const MINUS_ONE: u64 = 4294967295;
+
+// The bytes that a category takes at least.
+pub const LEAST_CATEGORY: usize = 16;
+
 // What a walk gives: the next position and the number of nodes so far; or the refusal's number and place.
 pub enum Walk {
     On(usize, usize),
-    Off(u32, usize),
+    Refused(u32, usize),
 }
 
 // What a section gives: the next position, how many dimensions there are, and how many nodes they have; or the refusal.
 pub enum Section {
     Of(usize, usize, usize),
-    Not(u32, usize),
+    Refused(u32, usize),
 }
 
 // What a category begins with: 0 for a leaf or 1 for a group, the length of its name, its last word, how many categories are below it
 // and where they start; or the refusal.
-pub enum Front {
+pub enum NodeStart {
     Node(u32, u32, u32, u64, usize),
-    Not(u32, usize),
+    Refused(u32, usize),
 }
 
 // ---- words
@@ -67,15 +77,30 @@ pub fn put_three(words: &mut [u32], i: usize, a: u32, b: u32, c: u32)
     }
 }
 
+// The record of node i, where there are such places.
+fn store_node(
+    nodes: &mut [u32],
+    i: usize,
+    kind: u32,
+    dimension: u32,
+    parent: u32,
+    place: u32,
+    size: u32,
+    word: u32,
+)
+    requires { ⌜ i < most-nodes ⌝ }
+    ensures { λ _. ⌜ now (nodes .exit) ≡ sets (now (nodes .entry)) (node-words * i) (nodeRecord kind dimension parent place size word) ⌝ }
+{
+    let at = NODE_WORDS * i;
+    put_three(nodes, at, kind, dimension, parent);
+    put_three(nodes, at + 3, place, size, word);
+}
+
 // The length of what lies from a to e, as a word.
 pub fn length(a: usize, e: usize) -> u32
     ensures { λ r. ⌜ r ≡ word32 (e - a) ⌝ }
 {
-    if a <= e {
-        ((e - a) % 4294967296) as u32
-    } else {
-        0
-    }
+    (between(a, e) % 4294967296) as u32
 }
 
 // ---- what a category begins with
@@ -106,24 +131,24 @@ fn kind_field(s: &[u8], st: Step) -> Step
 }
 
 // A node, once its name ends at `name` and its own part at `end`.
-fn node(kind: u32, at: usize, name: Step, word: u64, children: u64, end: Step) -> Front
+fn node(kind: u32, at: usize, name: Step, word: u64, children: u64, end: Step) -> NodeStart
     ensures { λ r. ⌜ r ≡ nodeOf kind at name word children end ⌝ }
 {
     match end {
-        Step::Refused(r, p) => Front::Not(r, p),
+        Step::Refused(r, p) => NodeStart::Refused(r, p),
         Step::Next(next) => match name {
-            Step::Refused(r, p) => Front::Not(r, p),
+            Step::Refused(r, p) => NodeStart::Refused(r, p),
             Step::Next(e) => {
                 let size = length(at, e);
-                Front::Node(kind, size, (word % 4294967296) as u32, children, next)
+                NodeStart::Node(kind, size, (word % 4294967296) as u32, children, next)
             }
         },
     }
 }
 
 // A category without what is below it.
-fn head(s: &[u8], at: usize) -> Front
-    requires { ⌜ length (now s) ≤ longest ⌝ }
+fn head(s: &[u8], at: usize) -> NodeStart
+    requires { ⌜ length (now s) ≤ member-bytes ⌝ }
     ensures { λ r. ⌜ HeadRead (now (s .entry)) at (read Head (drop at (now (s .entry))) at) r ⌝ }
 {
     let name = value(s, Step::Next(at));
@@ -137,7 +162,7 @@ fn head(s: &[u8], at: usize) -> Front
         node(0, at, name, index, 0, end)
     } else {
         let a = any(s, st, 4);
-        let b = fixed(s, a, LITTLE, 4, 4294967295);
+        let b = fixed(s, a, LITTLE, 4, MINUS_ONE);
         let n = peek(s, b, LITTLE, 4);
         let end = any(s, b, 4);
         node(1, at, name, n, n, end)
@@ -156,21 +181,20 @@ fn category(
     used: usize,
     nodes: &mut [u32],
 ) -> Walk
-    requires { ⌜ (length (now s) ≤ longest) × (used ≤ 4096) ⌝ }
+    requires { ⌜ (length (now s) ≤ member-bytes) × (used ≤ most-nodes) ⌝ }
     ensures { λ r. ⌜ Keeps (now (s .entry)) (spec.Node depth dimension parent at (used, now (nodes .entry))) (check (categoryRule depth used) (drop at (now (s .entry))) at) (spec.walked r (now (nodes .exit))) ⌝ }
 {
     if depth == 0 {
-        return Walk::Off(7, at);
+        return Walk::Refused(7, at);
     }
-    if 4096 <= used {
-        return Walk::Off(7, at);
+    if MOST_NODES <= used {
+        return Walk::Refused(7, at);
     }
     match head(s, at) {
-        Front::Not(r, p) => Walk::Off(r, p),
-        Front::Node(kind, size, word, children, next) => {
+        NodeStart::Refused(r, p) => Walk::Refused(r, p),
+        NodeStart::Node(kind, size, word, children, next) => {
             let place = (at % 4294967296) as u32;
-            put_three(nodes, 6 * used, kind, dimension, parent);
-            put_three(nodes, 6 * used + 3, place, size, word);
+            store_node(nodes, used, kind, dimension, parent, place, size, word);
             categories(
                 s,
                 next,
@@ -196,7 +220,7 @@ fn categories(
     used: usize,
     nodes: &mut [u32],
 ) -> Walk
-    requires { ⌜ (length (now s) ≤ longest) × (used ≤ 4096) ⌝ }
+    requires { ⌜ (length (now s) ≤ member-bytes) × (used ≤ most-nodes) ⌝ }
     ensures { λ r. ⌜ Keeps (now (s .entry)) (Each (spec.Node depth dimension parent) at (used, now (nodes .entry))) (check (categoriesRule depth used count) (drop at (now (s .entry))) at) (spec.walked r (now (nodes .exit))) ⌝ }
 {
     let mut at = at;
@@ -204,8 +228,8 @@ fn categories(
     let mut i = 0;
     while i < count {
         match category(s, at, depth, dimension, parent, used, nodes) {
-            Walk::Off(r, p) => {
-                return Walk::Off(r, p);
+            Walk::Refused(r, p) => {
+                return Walk::Refused(r, p);
             }
             Walk::On(a, u) => {
                 at = a;

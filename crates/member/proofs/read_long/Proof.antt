@@ -12,4 +12,4 @@ read-long-spec =
     (λ c κs.
     record { short = omega arith; clear-nodes = refl; for-nodes = omega arith; clear-cells = refl; for-cells = omega arith })
     (λ c. search needs) (λ c. search needs)
-    (λ c. c .before .before .before .before .before .before .by-way-of .ensures))
+    (λ c. c .before .before .before .before .before .before .read-with-lists .ensures))

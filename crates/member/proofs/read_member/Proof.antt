@@ -1,8 +1,8 @@
 use native.Mathlib.Omega.{arith}
 use borrow.Author.Needs.{needs}
 use Rattle.layout.specs.Steps.Slices.{bytes-of}
-use Rattle.member.specs.Whole.{not-delivered, longer}
-use Rattle.member.specs.Holds.{demand3}
+use Rattle.member.specs.Laws.Whole.{not-delivered, longer}
+use Rattle.member.specs.Laws.Holds.{demand3}
 use Rattle.member.proofs.read_member.Statement.{statement}
 use Rattle.member.proofs.read_member.Tie as tie
 

@@ -1,7 +1,7 @@
 use native.Mathlib.Omega.{arith}
 use Rattle.layout.specs.Steps.Chain.{_◂_}
 use Rattle.layout.specs.Steps.Slices.{bytes-of}
-use Rattle.table.specs.Heads.{leaf-head, group-head}
+use Rattle.table.specs.Laws.Heads.{leaf-head, group-head}
 use Rattle.table.proofs.head.Statement.{statement}
 use Rattle.table.proofs.head.Tie as tie
 

@@ -1,5 +1,5 @@
 use borrow.Author.Needs.{needs}
-use Rattle.table.specs.Heads.{nodeOf}
+use Rattle.table.specs.Laws.Heads.{nodeOf}
 use Rattle.table.proofs.node.Statement.{statement}
 use Rattle.table.proofs.node.Tie as tie
 

@@ -2,7 +2,7 @@ use mathlib.Core.Path.{sym, _∙_}
 use mathlib.Core.List.{[], _∷_}
 use native.Mathlib.Omega.{arith}
 use borrow.Author.Needs.{needs}
-use Rattle.table.specs.Words.{three-sets, sets-past}
+use Rattle.table.specs.Laws.Words.{three-sets, sets-past}
 use Rattle.table.proofs.put_three.Statement.{statement}
 use Rattle.table.proofs.put_three.Tie as tie
 

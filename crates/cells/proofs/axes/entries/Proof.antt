@@ -4,14 +4,15 @@ use native.Mathlib.Omega.{arith}
 use borrow.Author.Needs.{needs}
 use lib.ListN.{length, replicate}
 use lib.Seq.{length-sets}
+use Rattle.sizes.specs.Sizes.{most-dimensions}
 use Rattle.layout.specs.Steps.Keeping.{kept-on}
-use Rattle.cells.specs.Rows.{Storing, storing, stores-on, stores-off, stores-to}
-use Rattle.cells.specs.Axes.{entry-kind, entryOf}
+use Rattle.cells.specs.Laws.Rows.{Storing, storing, stores-on, stores-off, stores-to}
+use Rattle.cells.specs.Laws.Axes.{entry-kind, entryOf}
 use Rattle.cells.proofs.axes.entries.Statement.{statement}
 use Rattle.cells.proofs.axes.entries.Tie as tie
 
 abbrev Inv-loop : tie.InvT-loop
-Inv-loop s at d n order₀ at₀ j₀ order at' j = Storing entry-kind (entryOf d) s n at (replicate 16 0) j at' order × (length order ≡ 16)
+Inv-loop s at d n order₀ at₀ j₀ order at' j = Storing entry-kind (entryOf d) s n at (replicate most-dimensions 0) j at' order × (length order ≡ most-dimensions)
 
 abbrev μ-loop : tie.MeasureT-loop
 μ-loop s at d n order₀ at₀ j₀ order at' j = n - j

@@ -1,7 +1,7 @@
 use mathlib.Core.Path.{sym, _∙_}
 use borrow.Author.Needs.{needs}
 use Rattle.layout.specs.Steps.Slices.{bytes-of}
-use Rattle.cells.specs.Axes.{no-entry, fresh-entry, stale-entry}
+use Rattle.cells.specs.Laws.Axes.{no-entry, fresh-entry, stale-entry}
 use Rattle.cells.proofs.axes.entry.Statement.{statement}
 use Rattle.cells.proofs.axes.entry.Tie as tie
 

@@ -2,6 +2,7 @@ use mathlib.Core.Path.{_≡_}
 use Prim.Native.Nat.{min}
 use native.Mathlib.Omega.{arith}
 use borrow.Author.Needs.{needs}
+use Rattle.sizes.specs.Sizes.{most-cells}
 use Rattle.cells.proofs.Tests.{fresh-below, fresh-above}
 use Rattle.cells.proofs.axes.is_fresh.Statement.{statement}
 use Rattle.cells.proofs.axes.is_fresh.Tie as tie
@@ -12,6 +13,6 @@ is-fresh-spec =
     (tie.spec
     (λ c κs. search needs)
     (λ c.
-    let j : min (c .before .before .before .args .j) 4096 ≡ c .before .before .before .args .j = omega arith in
+    let j : min (c .before .before .before .args .j) most-cells ≡ c .before .before .before .args .j = omega arith in
     fresh-below _ _ _ (c .if1 .taken) (rw j at (c .before .seen-before .ensures)))
     (λ c. fresh-above _ _ _ (c .if1 .left)))

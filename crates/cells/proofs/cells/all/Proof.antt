@@ -3,20 +3,22 @@ use Prim.Native.Nat.{_-_, _*_, _≤_}
 use native.Mathlib.Omega.{arith}
 use borrow.Author.Needs.{needs}
 use lib.ListN.{length, length-set}
+use Rattle.sizes.specs.Sizes.{cell-words}
 use Rattle.layout.specs.Steps.Slices.{bytes-of}
-use Rattle.checks.specs.Checks.{firsts}
-use Rattle.cells.specs.Rows.{Storing, storing, stores-on, stores-off, stores-to}
-use Rattle.cells.specs.Seen.{Seen, one-seen}
-use Rattle.cells.specs.Cells.{cell-kind, cellOf, added}
+use Rattle.once.specs.Once.{firsts}
+use Rattle.cells.specs.Laws.Rows.{Storing, storing, stores-on, stores-off, stores-to}
+use Rattle.cells.specs.Laws.Seen.{Seen, one-seen}
+use Rattle.cells.specs.Laws.Cells.{cell-kind, cellOf, added}
 use Rattle.cells.proofs.cells.all.Statement.{statement}
 use Rattle.cells.proofs.cells.all.Tie as tie
+use Rattle.table.specs.Laws.LeastBytes.{least-cell}
 
 abbrev Inv-loop : tie.InvT-loop
-Inv-loop s at total n marks₀ words₀ at₀ j₀ top₀ marks words at' j top =
-    Storing cell-kind (cellOf total) s n at words₀ j at' words × (length words ≡ length words₀) × (length marks ≡ length marks₀) × (9 * j ≤ at') × Seen top marks (firsts 3 words j)
+Inv-loop s at places n marks₀ words₀ at₀ j₀ top₀ marks words at' j top =
+    Storing cell-kind (cellOf places) s n at words₀ j at' words × (length words ≡ length words₀) × (length marks ≡ length marks₀) × (least-cell * j ≤ at') × Seen top marks (firsts cell-words words j)
 
 abbrev μ-loop : tie.MeasureT-loop
-μ-loop s at total n marks₀ words₀ at₀ j₀ top₀ marks words at' j top = n - j
+μ-loop s at places n marks₀ words₀ at₀ j₀ top₀ marks words at' j top = n - j
 
 pub all-spec : {M : Type 1} → statement M
 unfolding firsts
@@ -36,8 +38,8 @@ all-spec =
     let i = l .loop .inv in
     let st = l .before .before .before in
     let o = rw (c .before .before .before .before .before .before .before .before .q .given .1) at (k .cell .ensures) in
-    let e = added (st .before .args .total) (bytes-of _ (st .shared-slice-known .given)) (i .1) (st .before .pre .2) (omega arith) (i .3) o in
-    let m = c .before .before .mark .ensures in
+    let e = added (st .before .args .places) (bytes-of _ (st .shared-slice-known .given)) (i .1) (st .before .pre .2) (omega arith) (i .3) o in
+    let m = c .before .before .set-mark .ensures in
     let v = c .before .before .before .before .above .ensures in (
       stores-on cell-kind _ _ _ _ _ (i .0) (omega arith) (e .room) o,
       e .same-length ∙ i .1,

@@ -3,7 +3,7 @@ use Prim.Native.Nat.{_^_, _<_}
 use native.Mathlib.Omega.{arith}
 use borrow.Author.Needs.{needs}
 use Rattle.layout.specs.Steps.Slices.{bytes-of}
-use Rattle.cells.specs.Cells.{no-index, fresh-cell, stale-cell}
+use Rattle.cells.specs.Laws.Cells.{no-index, fresh-cell, stale-cell}
 use Rattle.cells.proofs.cells.cell.Statement.{statement}
 use Rattle.cells.proofs.cells.cell.Tie as tie
 
@@ -19,21 +19,21 @@ cell-spec =
     let g = k .before .before .before .before in
     let a = g .before .args in
     let b = bytes-of _ (g .shared-slice-known .given) in
-    let small : a .total < 2 ^ 32 = omega arith in
-    no-index (a .s .now) b (g .before .pre .1) (a .at) (a .total) (a .j) small (a .cells .now) (k .any .ensures .0) (c .before .r .given .1))
+    let small : a .places < 2 ^ 32 = omega arith in
+    no-index (a .s .now) b (g .before .pre .1) (a .at) (a .places) (a .j) small (a .cells .now) (k .any .ensures .0) (c .before .r .given .1))
     (λ c. search needs)
     (λ c.
     let k = c .before .before .before .before .before .before .before .before .before .before in
     let g = k .before .before .before .before in
     let a = g .before .args in
     let b = bytes-of _ (g .shared-slice-known .given) in
-    let small : a .total < 2 ^ 32 = omega arith in
-    fresh-cell (a .s .now) b (g .before .pre .1) (a .at) (a .total) (a .j) small (a .cells .now) (k .any .ensures .0) (c .before .before .before .before .before .before .before .before .p .given .1) (k .before .peek .ensures) (sym (c .before .before .before .before .before .is-fresh .ensures) ∙ c .before .before .before .before .if1 .taken) (c .before .before .«record» .ensures))
+    let small : a .places < 2 ^ 32 = omega arith in
+    fresh-cell (a .s .now) b (g .before .pre .1) (a .at) (a .places) (a .j) small (a .cells .now) (k .any .ensures .0) (c .before .before .before .before .before .before .before .before .p .given .1) (k .before .peek .ensures) (sym (c .before .before .before .before .before .is-fresh .ensures) ∙ c .before .before .before .before .if1 .taken) (c .before .before .«record» .ensures))
     (λ c. search needs)
     (λ c.
     let k = c .before .before .before .before .before .before in
     let g = k .before .before .before .before in
     let a = g .before .args in
     let b = bytes-of _ (g .shared-slice-known .given) in
-    let small : a .total < 2 ^ 32 = omega arith in
-    stale-cell (a .s .now) b (g .before .pre .1) (a .at) (a .total) (a .j) small (a .cells .now) (k .any .ensures .0) (c .before .before .before .before .p .given .1) (k .before .peek .ensures) (sym (c .before .is-fresh .ensures) ∙ c .if1 .left)))
+    let small : a .places < 2 ^ 32 = omega arith in
+    stale-cell (a .s .now) b (g .before .pre .1) (a .at) (a .places) (a .j) small (a .cells .now) (k .any .ensures .0) (c .before .before .before .before .p .given .1) (k .before .peek .ensures) (sym (c .before .is-fresh .ensures) ∙ c .if1 .left)))

@@ -1,7 +1,8 @@
 use mathlib.Core.Path.{_≡_, sym}
 use Prim.Native.Nat.{min}
 use native.Mathlib.Omega.{arith}
-use Rattle.checks.specs.Marks.{not-among}
+use Rattle.sizes.specs.Sizes.{most-cells}
+use Rattle.once.specs.Laws.Marks.{not-among}
 use Rattle.cells.proofs.Tests.{fresh-below, fresh-if, fresh-above}
 use Rattle.cells.proofs.cells.is_fresh.Statement.{statement}
 use Rattle.cells.proofs.cells.is_fresh.Tie as tie
@@ -15,6 +16,6 @@ is-fresh-spec =
     (λ _ _. tt)
     (λ c.
     let a = c .before .before .before .before .before .before .args in
-    let j : min (a .j) 4096 ≡ a .j = omega arith in
+    let j : min (a .j) most-cells ≡ a .j = omega arith in
     fresh-below _ _ _ (c .before .before .before .if1 .taken) (rw j at (c .seen-before .ensures)))
     (λ c. fresh-above _ _ _ (c .if1 .left)))

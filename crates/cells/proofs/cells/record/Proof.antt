@@ -1,5 +1,5 @@
 use borrow.Author.Needs.{needs}
-use Rattle.cells.specs.Cells.{recorded, not-recorded}
+use Rattle.cells.specs.Laws.Cells.{recorded, not-recorded}
 use Rattle.cells.proofs.cells.record.Statement.{statement}
 use Rattle.cells.proofs.cells.record.Tie as tie
 

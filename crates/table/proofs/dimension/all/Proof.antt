@@ -3,7 +3,7 @@ use Prim.Native.Nat.{_-_}
 use native.Mathlib.Omega.{arith}
 use borrow.Author.Needs.{needs}
 use lib.ListN.{length}
-use Rattle.table.specs.Dims.{Passing, passing, passes-on, passes-off, passes-to}
+use Rattle.table.specs.Laws.Dims.{Passing, passing, passes-on, passes-off, passes-to}
 use Rattle.table.proofs.dimension.all.Statement.{statement}
 use Rattle.table.proofs.dimension.all.Tie as tie
 

@@ -1,5 +1,5 @@
 use borrow.Author.Needs.{needs}
-use Rattle.table.specs.Dims.{closed, bad-leaf}
+use Rattle.table.specs.Laws.Dims.{closed, bad-leaf}
 use Rattle.table.proofs.dimension.close.Statement.{statement}
 use Rattle.table.proofs.dimension.close.Tie as tie
 

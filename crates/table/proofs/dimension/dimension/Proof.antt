@@ -2,7 +2,7 @@ use borrow.Author.Needs.{needs}
 use Rattle.layout.specs.Steps.Chain.{_◂_}
 use Rattle.layout.specs.Steps.Keeping.{kept-on, kept-off}
 use Rattle.layout.specs.Steps.Slices.{bytes-of}
-use Rattle.table.specs.Dims.{no-start, no-categories, close-dim}
+use Rattle.table.specs.Laws.Dims.{no-start, no-categories, close-dim}
 use Rattle.table.proofs.dimension.dimension.Statement.{statement}
 use Rattle.table.proofs.dimension.dimension.Tie as tie
 

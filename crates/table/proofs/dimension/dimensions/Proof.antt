@@ -1,9 +1,10 @@
+use mathlib.Core.Path.{refl}
 use native.Mathlib.Omega.{arith}
 use borrow.Author.Needs.{needs}
 use lib.ListN.{length}
 use Rattle.layout.specs.Keeps.{keeps-off}
-use Rattle.table.specs.Within.{too-long, too-short, is-within}
-use Rattle.table.specs.Dims.{node-records, node-room}
+use Rattle.table.specs.Laws.Within.{too-long, too-short, is-within}
+use Rattle.table.specs.Laws.Dims.{node-records, node-room}
 use Rattle.table.proofs.dimension.dimensions.Statement.{statement}
 use Rattle.table.proofs.dimension.dimensions.Tie as tie
 
@@ -11,9 +12,9 @@ pub dimensions-spec : {M : Type 1} → statement M
 dimensions-spec =
     tie.close
     (tie.spec
-    (λ c. let a = c .before .before .before .args in rw (too-long node-records (a .s .now) (length (a .nodes .now)) _ (c .if1 .taken)) keeps-off)
+    (λ c. let a = c .before .before .before .args in (rw (too-long node-records (a .s .now) (length (a .nodes .now)) _ (c .if1 .taken)) keeps-off, refl))
     (λ c κs. search needs)
-    (λ c. let a = c .before .before .before .before .before .args in rw (too-short node-records (a .s .now) (length (a .nodes .now)) _ (omega arith) (omega (arith, c .before .most-words .ensures))) keeps-off)
+    (λ c. let a = c .before .before .before .before .before .args in (rw (too-short node-records (a .s .now) (length (a .nodes .now)) _ (omega arith) (omega (arith, c .before .most-words .ensures))) keeps-off, refl))
     (λ c κs. (omega arith, node-room (c .before .before .before .before .before .before .before .args .s .now) _ (omega (arith, c .before .before .before .most-words .ensures))))
     (λ c. search needs)
-    (λ c. let a = c .before .before .before .before .before .before .before .before .before .before .args in rw (is-within node-records (a .s .now) (length (a .nodes .now)) _ (omega arith) (omega (arith, c .before .before .before .before .before .before .most-words .ensures))) (c .before .before .section .ensures)))
+    (λ c. let a = c .before .before .before .before .before .before .before .before .before .before .args in (rw (is-within node-records (a .s .now) (length (a .nodes .now)) _ (omega arith) (omega (arith, c .before .before .before .before .before .before .most-words .ensures))) (c .before .before .section .ensures), omega arith)))

@@ -1,6 +1,7 @@
 use Prim.Native.Nat.{_*_}
 use borrow.Author.Needs.{needs}
-use Rattle.table.specs.Words.{four-sets}
+use Rattle.sizes.specs.Sizes.{dimension-words}
+use Rattle.table.specs.Laws.Words.{four-sets}
 use Rattle.table.proofs.dimension.store.Statement.{statement}
 use Rattle.table.proofs.dimension.store.Tie as tie
 
@@ -10,5 +11,5 @@ store-spec =
     (tie.spec
     (λ c. search needs) (λ c. search needs) (λ c. search needs) (λ c. search needs) (λ c. search needs) (λ c. search needs)
     (λ c. search needs) (λ c. search needs) (λ c. search needs) (λ c. search needs) (λ c. search needs) (λ c. search needs)
-    (λ c. let a = c .args in four-sets (a .dims .now) (4 * a .i) (a .place) (a .length) (a .n) (a .first))
+    (λ c. let a = c .args in four-sets (a .dims .now) (dimension-words * a .i) (a .place) (a .length) (a .n) (a .first))
     )

@@ -1,0 +1,162 @@
+-- Cells against their rules.
+use mathlib.Core.Path.{_≡_, refl, sym, ap, _∙_}
+use mathlib.Core.Bool.{true, false}
+use mathlib.Core.Option.{none, some}
+use mathlib.Core.List.{List, [], _∷_}
+use Prim.Native.Nat.{ℕ, _+_, _-_, _*_, _^_, _≤_, _<_}
+use native.Mathlib.Nat.{add-zero}
+use native.Mathlib.Numerals.{add-one}
+use native.Mathlib.Omega.{arith}
+use lib.ListN.{length, drop, length-append}
+use lib.Seq.{sets, length-sets}
+use Rattle.sizes.specs.Sizes.{member-bytes, most-cells, cell-words}
+use Rattle.layout.specs.declared.Step.{Step}
+use Rattle.layout.specs.declared.Step.the-variants.{Next, Refused}
+use Rattle.layout.specs.Layout.{any-number, little, _▸_, Tree, spell, Bytes, pick, size}
+use Rattle.layout.specs.Conventions.{int64}
+use Rattle.layout.specs.Rule.{Rule, plain, _▸▸_, items, tested}
+use Rattle.layout.specs.Read.{bind}
+use Rattle.layout.specs.Check.{judge, check}
+use Rattle.layout.specs.Reads.{Reads, peek}
+use Rattle.layout.specs.Laws.{digits-length}
+use Rattle.layout.specs.Keeps.{Out, on, off, Keeps, keeps-on, keeps-off, Each}
+use Rattle.layout.specs.Steps.Keeping.{kept-on}
+use Rattle.layout.specs.Steps.Spelt.{found-by, Read, read-on, read-off, ends-inside, stays-inside, read-number, ReadNumber}
+use Rattle.layout.specs.Words.{word32}
+use Rattle.layout.specs.Laws.Words.{word-same}
+use Rattle.value.specs.Value.{Value}
+use Rattle.once.specs.Once.{word, fresh, firsts}
+use Rattle.once.specs.Laws.{is-fresh}
+use Rattle.table.specs.declared.Walk.{Walk}
+use Rattle.table.specs.declared.Walk.the-variants as walk
+use Rattle.table.specs.Table.{Cell, Cells}
+use Rattle.table.specs.Records.{cellIndex, cellWords, rowsWords, cellValue, cellsOf}
+use Rattle.table.specs.Laws.LeastBytes.{cell-bytes, least-cell}
+use Rattle.table.specs.Laws.Within.{Records, needed, Room}
+use Rattle.cells.specs.Laws.Rows.{Kind, words, Row, Rows, all-rows, rowOf, after, firsts-before}
+
+-- ---- a cell
+
+-- index; place and length of the Value
+abbrev pub cell-kind : Kind Cell
+cell-kind = record {
+  width = cell-words;
+  size = size Cell;
+  number = cellIndex;
+  others = λ at t. (at + 8) ∷ size Value (cellValue t) ∷ [];
+  some = omega arith;
+  all = λ at t. refl;
+}
+
+-- `cellRule`, with the indexes before it
+abbrev pub cellOf : ℕ → List ℕ → Rule Cell
+cellOf places seen = tested (plain int64) 10 (λ t. pick (fresh places seen (t .0)) none (some 0)) ▸▸ (λ _. plain Value)
+
+-- the record of cell j, whose index is x and whose Value is read from p on
+pub data Recorded (s : List ℕ) (p j x : ℕ) (ws : List ℕ) : Step → List ℕ → Type 0 where
+  recorded : {q : ℕ} {vs : List ℕ} → Reads Value s (Next p) (Next q) → vs ≡ sets ws (cell-words * j) (word32 x ∷ word32 p ∷ word32 (q - p) ∷ []) → Recorded s p j x ws (Next q) vs
+  not-recorded : {n q : ℕ} {vs : List ℕ} → Reads Value s (Next p) (Refused n q) → Recorded s p j x ws (Refused n q) vs
+
+size-cell : (t : Tree Cell) → size Cell t ≡ 8 + size Value (cellValue t)
+unfolding size spell
+size-cell t = simp (length-append, digits-length) (omega arith)
+
+module _ (s : List ℕ) (b : Bytes s) (short : length s ≤ member-bytes) (at places j : ℕ) (small : places < 2 ^ 32) (ws : List ℕ) {st : Step} (r : Reads int64 s (Next at) st) where
+  abbrev One : Out (ℕ × List ℕ) → Type 0
+  One = Keeps s (Row cell-kind at (j, ws)) (check (cellOf places (firsts cell-words ws j)) (drop at s) at)
+
+  pub no-index : {n p : ℕ} → st ≡ Refused n p → One (off n p)
+  unfolding check bind
+  no-index e = rw (read-off r e) keeps-off
+
+  module _ {p x : ℕ} (e : st ≡ Next p) (pk : x ≡ peek little 8 s (Next at)) where
+    num : ReadNumber 8 any-number s at p x
+    num = read-number b r e pk
+
+    pub stale-cell : fresh places (firsts cell-words ws j) x ≡ false → One (off 10 at)
+    unfolding check bind judge pick
+    stale-cell f =
+        let f′ : fresh places (firsts cell-words ws j) (num .found .tree .0) ≡ false = rw (num .is) f in
+        rw (num .found .is, f′, add-zero) keeps-off
+
+    pub fresh-cell : fresh places (firsts cell-words ws j) x ≡ true → {w : Step} {vs : List ℕ} → Recorded s p j x ws w vs → One (rowOf (j + 1) w vs)
+    unfolding check bind judge pick
+    fresh-cell f (recorded {q = q} {vs = vs} v h) =
+        let f′ : fresh places (firsts cell-words ws j) (num .found .tree .0) ≡ true = rw (num .is) f in
+        let val : Read Value s p q = read-on b v refl in
+        let t : Tree Cell = (num .found .tree, val .tree) in
+        let z = size Value (val .tree) in
+        let q-is : q ≡ p + z = val .there .place in
+        let long : q ≤ length s = stays-inside (val .there) (num .says .inside (omega arith)) in
+        let below : x < places = is-fresh places (firsts cell-words ws j) x .0 f .0 in
+        let e₁ : q - p ≡ z = omega arith in
+        let index : word32 x ≡ num .found .tree .0 = word-same x (omega arith) ∙ sym (num .is) in
+        let place : word32 p ≡ at + 8 = word-same p (omega arith) ∙ num .says .place in
+        let length-is : word32 (q - p) ≡ z = ap word32 e₁ ∙ word-same z (omega arith) in
+        let same : word32 x ∷ word32 p ∷ word32 (q - p) ∷ [] ≡ num .found .tree .0 ∷ (at + 8) ∷ z ∷ [] =
+        rw (index, place, length-is) in
+        let kept : Row cell-kind at (j, ws) t q (j + 1, vs) = record {
+          place = omega (arith, num .says .place, size-cell t);
+          count = refl;
+          stored = h ∙ ap (sets ws (cell-words * j)) same;
+        } in
+        rw (num .found .is, f′, val .is) (keeps-on {t = t} refl kept)
+    fresh-cell f (not-recorded v) =
+        let f′ : fresh places (firsts cell-words ws j) (num .found .tree .0) ≡ true = rw (num .is) f in
+        rw (num .found .is, f′, read-off v refl) keeps-off
+
+-- ---- cells that follow each other
+
+-- the cell records
+abbrev pub cell-records : Records
+cell-records = record { width = cell-words; least = least-cell; most = most-cells; number = 13 }
+
+abbrev pub AllRead : List ℕ → ℕ → ℕ → ℕ → List ℕ → Step → List ℕ → Type 0
+AllRead s at places n ws r vs =
+    Keeps s (Each (Row cell-kind) at (0, ws)) (check (items {n = n} (after cell-kind (cellOf places))) (drop at s) at) (rowOf n r vs)
+
+-- what a cell that was read adds: its bytes, room for its words, and its index before the others
+pub record Added (s : List ℕ) (j q : ℕ) (ws vs : List ℕ) : Type 0 where
+  pub bytes : least-cell * (j + 1) ≤ q
+  pub room : cell-words * j + cell-words ≤ length ws
+  pub indexes : firsts cell-words vs (j + 1) ≡ word vs (cell-words * j) ∷ firsts cell-words ws j
+  pub same-length : length vs ≡ length ws
+
+pub added : (places : ℕ) {s : List ℕ} → Bytes s → {at j n : ℕ} {ws : List ℕ} → length ws ≡ n → Room cell-records n s → j < most-cells → least-cell * j ≤ at → {q : ℕ} {vs : List ℕ}
+    → Keeps s (Row cell-kind at (j, ws)) (check (cellOf places (firsts cell-words ws j)) (drop at s) at) (on q (j + 1, vs)) → Added s j q ws vs
+unfolding firsts
+added places {s} b {at} {j} {n} {ws} l room few before {q} {vs} k =
+    let r = kept-on k in
+    let t = r .tree in
+    let f = found-by (cellOf places (firsts cell-words ws j)) s b at t (drop q s) q (r .is) in
+    let least = cell-bytes t (f .valid) in
+    let inside = ends-inside f (omega arith) in
+    let many : least-cell * (j + 1) ≤ q = omega (arith, f .place) in
+    let same : firsts cell-words vs j ≡ firsts cell-words ws j = ap (λ (l : List ℕ). firsts cell-words l j) (r .keeps .stored) ∙ firsts-before cell-words (omega arith) ws (cell-words * j) (words cell-kind at t) j (omega arith) in
+    record {
+      bytes = many;
+      room = omega (arith, room (j + 1) (omega arith) (omega arith), l);
+      indexes = rw (add-one j, same);
+      same-length = ap length (r .keeps .stored) ∙ length-sets ws (cell-words * j) (words cell-kind at t);
+    }
+
+-- ---- the section
+
+pub cell-room : (s : List ℕ) (n : ℕ) → needed cell-records (length s) ≤ n → Room cell-records n s
+cell-room s n h u few k = omega arith
+
+-- an answer of the code, and the words with it
+abbrev pub cellsOut : Walk → List ℕ → Out (ℕ × List ℕ)
+cellsOut (walk.On p n) ws = on p (n, ws)
+cellsOut (walk.Refused r p) ws = off r p
+
+-- the cells whose number stands at the place `at`
+pub record AllCells (at : ℕ) (ws : List ℕ) (t : Tree Cells) (p : ℕ) (y : ℕ × List ℕ) : Type 0 where
+  pub count : y .0 ≡ length (cellsOf t)
+  pub stored : y .1 ≡ sets ws 0 (rowsWords (size Cell) cellWords (at + 4) (cellsOf t))
+
+pub the-cells : {at p n : ℕ} {ws : List ℕ} {ts : List (Tree Cell)} {q : ℕ} {vs : List ℕ} → p ≡ at + 4
+    → Each (Row cell-kind) p (0, ws) ts q (n, vs) → AllCells at ws (n, ts) q (n, vs)
+the-cells {at} {p} {n} {ws} {ts} {q} {vs} p-is k =
+    let w : Rows cell-kind p (0, ws) ts q (n, vs) = all-rows cell-kind k in
+    record { count = omega (arith, w .count); stored = rw p-is at (w .stored) }

@@ -1,4 +1,0 @@
-mod Walk
-mod Marks
-mod Capped
-mod Ordered

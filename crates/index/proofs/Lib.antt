@@ -1,0 +1,2 @@
+mod Capped
+mod Walk

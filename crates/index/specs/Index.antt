@@ -1,0 +1,36 @@
+-- The places of a table: how many there are, and which one the coordinates of a cell give.
+use mathlib.Core.List.{List, [], _∷_, map}
+use Prim.Native.Nat.{ℕ, zero, suc, _+_, _*_, _<_}
+use Rattle.sizes.specs.Sizes.{dimension-words, dimension-n}
+use Rattle.layout.specs.Layout.{All}
+use Rattle.once.specs.Once.{word}
+
+-- ---- the product
+
+-- the n of the k dimensions from dimension i on, out of their entries (document 01, "What the caller gets")
+unfoldable pub sizes : List ℕ → ℕ → ℕ → List ℕ
+sizes ws i zero = []
+sizes ws i (suc k) = word ws (dimension-words * i + dimension-n) ∷ sizes ws (i + 1) k
+
+-- the exact product, 1 for none (document 01: "The table has as many places as the exact product of all n")
+unfoldable pub product : List ℕ → ℕ
+product [] = 1
+product (n ∷ ns) = n * product ns
+
+-- ---- the index of a cell (003, Cells)
+
+-- "k = n_i × k + x_i, i from 1 to d", from k on: each dimension's n, and the coordinate x on it
+abbrev pub index-from : ℕ → List (ℕ × ℕ) → ℕ
+index-from k [] = k
+index-from k (d ∷ ds) = index-from (d .0 * k + d .1) ds
+
+abbrev pub index : List (ℕ × ℕ) → ℕ
+index ds = index-from 0 ds
+
+-- each dimension's n
+abbrev pub shape : List (ℕ × ℕ) → List ℕ
+shape ds = map (λ d. d .0) ds
+
+-- each coordinate is below its n
+abbrev pub Below : List (ℕ × ℕ) → Type 0
+Below ds = All (λ d. d .1 < d .0) ds

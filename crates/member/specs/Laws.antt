@@ -1,0 +1,11 @@
+-- What is proved from the definitions beside this file, and what ties the words that the code stores to the tree.
+-- demand 3 and the refusals
+pub mod Demanded
+pub mod NoColor
+pub mod RefusedBounds
+pub mod RefusedExactly
+pub mod RecordsSpelt
+pub mod NoCells
+-- the readers
+pub mod Whole
+pub mod Holds

@@ -1,0 +1,37 @@
+-- Of every refusal of a member: its number is one of 1 to 11, and its place is in the member or right after its last byte.
+use mathlib.Core.Path.{_≡_, refl}
+use mathlib.Core.Bool.{true}
+use mathlib.Core.List.{List, [], _∷_}
+use Prim.Native.Nat.{ℕ, _≤_}
+use native.Mathlib.Omega.{arith}
+use lib.ListN.{length, length-append, length-replicate}
+use Rattle.layout.specs.Layout.{among}
+use Rattle.layout.specs.Laws.{breaks-among, break-inside}
+use Rattle.layout.specs.Laws.Bounds.{allAmong, is-among, Numbered, PlacesInside}
+use Rattle.table.specs.Laws.RuleBounds.{numbers, dimensions-numbered, axes-numbered, cells-numbered, dimensions-inside, axes-inside, cells-inside}
+use Rattle.member.specs.Refused.{memberRule, Refused, too-long, inside, left}
+use Rattle.member.specs.Laws.NoColor as no-color
+use Rattle.table.specs.Records.{dimsOf}
+
+member-numbered : Numbered numbers memberRule
+unfolding memberRule
+member-numbered = (((tt, λ _. dimensions-numbered), λ t. axes-numbered (dimsOf (t .1))), λ t. cells-numbered _)
+
+member-inside : PlacesInside memberRule
+unfolding memberRule
+member-inside = (((tt, λ _. dimensions-inside), λ t. axes-inside (dimsOf (t .1))), λ t. cells-inside _)
+
+-- 1 for the length, 11 for bytes left; 12 and 13 tell of the lent areas, 14 to 16 of looks
+abbrev pub memberNumbers : List ℕ
+memberNumbers = 1 ∷ 2 ∷ 3 ∷ 4 ∷ 5 ∷ 6 ∷ 7 ∷ 8 ∷ 9 ∷ 10 ∷ 11 ∷ []
+
+pub number-among : {bs : List ℕ} {n p : ℕ} → Refused bs n p → among n memberNumbers ≡ true
+unfolding among allAmong
+number-among (too-long l) = refl
+number-among (inside {n} l b) = is-among n numbers memberNumbers (breaks-among numbers refl no-color.member member-numbered b) refl
+number-among (left l v k r) = refl
+
+pub place-inside : {bs : List ℕ} {n p : ℕ} → Refused bs n p → p ≤ length bs
+place-inside (too-long l) = omega arith
+place-inside (inside l b) = omega (arith, break-inside member-inside b)
+place-inside (left l v k r) = rw (v .split, length-append, r .split, length-append, length-replicate) (omega arith)

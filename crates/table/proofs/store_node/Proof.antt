@@ -1,0 +1,19 @@
+use mathlib.Core.List.{[], _∷_}
+use Prim.Native.Nat.{_*_}
+use native.Mathlib.Omega.{arith}
+use borrow.Author.Needs.{needs}
+use Rattle.sizes.specs.Sizes.{node-words}
+use Rattle.table.specs.Laws.Words.{sets-then}
+use Rattle.table.proofs.store_node.Statement.{statement}
+use Rattle.table.proofs.store_node.Tie as tie
+
+pub store-node-spec : {M : Type 1} → statement M
+store-node-spec =
+    tie.close
+    (tie.spec
+    (λ c. omega arith) (λ _ _. tt) (λ c. omega arith) (λ _ _. tt) (λ c. search needs)
+    (λ c.
+    let k = c .before .before in
+    let p = k .before .before .before .before in
+    let a = p .before .before .before .args in
+    sets-then (a .kind ∷ a .dimension ∷ a .parent ∷ []) (a .place ∷ a .size ∷ a .word ∷ []) (a .nodes .now) (node-words * a .i) (p .put-three .ensures) (k .put-three2 .ensures)))

@@ -1,0 +1,234 @@
+-- What the rules of dimensions, axes and cells ask of a tree, in the words of demand 3: the number of nodes, leaf indexes, axis entries and
+-- cell indexes that stand once each, the sum of the axis counts, the product. No reader is in it.
+use mathlib.Core.Path.{_≡_, refl, sym, ap, _∙_}
+use mathlib.Core.Logic.{_↔_}
+use mathlib.Core.Bool.{Bool, true, false}
+use mathlib.Core.Option.{none, some}
+use mathlib.Core.List.{List, [], _∷_, _++_}
+use Prim.Native.Nat.{ℕ, zero, suc, _+_, _≤_}
+use native.Mathlib.Omega.{arith}
+use lib.ListN.{length, length-map}
+use borrow.Author.Tests.{ltb-true, lt-ltb, leb-true, le-leb, eqb-true, eq-eqb}
+use Rattle.sizes.specs.Sizes.{most-nodes, category-depth, most-places}
+use Rattle.layout.specs.Layout.{_▸_, Tree, All, all-none, all-more, pick, spellAll, size}
+use Rattle.layout.specs.Conventions.{int32}
+use Rattle.layout.specs.Rule.{onto, KeptAll, Kept}
+use Rattle.once.specs.declared.Verdict.{Verdict}
+use Rattle.once.specs.declared.Verdict.the-variants.{Fine, Bad}
+use Rattle.once.specs.Once.{OnceEach, AllFresh, Leaf, indexes, fresh, firstBad}
+use Rattle.once.specs.Laws.{all-fresh, none-bad}
+use Rattle.value.specs.Value.{Value}
+use Rattle.table.specs.Table.{CategoryIn, DimProperties, Dimension, Dimensions, Axes, Cell, Cells, Category}
+use Rattle.table.specs.Records.{Head, sum, nodes, leafIndexes, dimNodes, dimLeaves, LeavesOnce, entryIndex, cellIndex, mapAll, leafIndex, dimOwn, dimCategories, dimsOf, axisLayers, axisRows, axisColumns, axisEntries, cellsOf}
+use Rattle.table.specs.Rules.{categoryRule, leavesAll, treeLeaves, leavesOf, placeOf, dimensionRule, dimensionsRule, placesOf, entryRule, axesRule, cellRule, cellsRule}
+
+-- ---- the number of nodes
+
+-- trees that follow each other, each of which passes exactly when Q holds of it and the nodes up to its end are at most 4,096
+module _ {A : Type 0} (count : A → ℕ) (Q : A → Type 0) (P : List A → A → Type 0) (used : ℕ)
+    (one : (done : List A) (t : A) → used + sum count done ≤ most-nodes → P done t ↔ ((used + sum count done + count t ≤ most-nodes) × Q t)) where
+  few : (done ts : List A) → used + sum count done ≤ most-nodes → KeptAll P done ts → (used + sum count done + sum count ts ≤ most-nodes) × All Q ts
+  unfolding sum
+  few done [] l k = (omega arith, all-none)
+  few done (t ∷ ts) l k =
+      let h = one done t l .0 (k .0) in
+      let i = few (t ∷ done) ts (omega (arith, h .0)) (k .1) in
+      (omega (arith, i .0), all-more (h .1) (i .1))
+
+  so-few : (done ts : List A) → used + sum count done + sum count ts ≤ most-nodes → All Q ts → KeptAll P done ts
+  unfolding sum
+  so-few done [] l a = tt
+  so-few done (t ∷ ts) l (all-more q a) = (one done t (omega arith) .1 (omega arith, q), so-few (t ∷ done) ts (omega arith) a)
+
+-- nothing is asked
+anything : {A : Type 0} (ts : List A) → All (λ _. Unit {0}) ts
+anything [] = all-none
+anything (t ∷ ts) = all-more tt (anything ts)
+
+-- Nodes: a category after `used` others passes exactly when the nodes up to its end are at most 4,096
+category-kept : (d used : ℕ) (t : Tree (CategoryIn d)) → Kept (categoryRule d used) t ↔ (used + nodes d t ≤ most-nodes)
+unfolding categoryRule nodes sum
+category-kept zero used t = absurd t
+category-kept (suc d) used (m, (zero, t)) = (
+  λ k. omega (arith, ltb-true used most-nodes (k .0)),
+  λ l. (lt-ltb used most-nodes (omega arith), (tt, tt)),
+)
+category-kept (suc d) used (m, (suc k, (t, (n, ts)))) =
+    let one : (done : List (Tree (CategoryIn d))) (c : Tree (CategoryIn d)) → used + 1 + sum (nodes d) done ≤ most-nodes
+    → Kept (categoryRule d (used + 1 + sum (nodes d) done)) c ↔ ((used + 1 + sum (nodes d) done + nodes d c ≤ most-nodes) × Unit {0}) =
+    λ done c _. let h = category-kept d (used + 1 + sum (nodes d) done) c in (λ k. (h .0 k, tt), λ l. h .1 (l .0)) in
+    let P : List (Tree (CategoryIn d)) → Tree (CategoryIn d) → Type 0 = λ done c. Kept (categoryRule d (used + 1 + sum (nodes d) done)) c in (
+      λ k. let l = ltb-true used most-nodes (k .0) in
+          omega (arith, few (nodes d) (λ _. Unit {0}) P (used + 1) one [] ts (omega arith) (k .1 .1 .1) .0),
+      λ l. (lt-ltb used most-nodes (omega arith), (tt, (tt, so-few (nodes d) (λ _. Unit {0}) P (used + 1) one [] ts (omega arith) (anything ts)))),
+    )
+
+-- ---- leaves
+
+indexes-joined : (xs ys : List Leaf) → indexes (xs ++ ys) ≡ indexes xs ++ indexes ys
+indexes-joined [] ys = refl
+indexes-joined (x ∷ xs) ys = ap (λ (l : List ℕ). x .0 ∷ l) (indexes-joined xs ys)
+
+indexes-all : {A : Type 0} (size : A → ℕ) (f : ℕ → A → List Leaf) (g : A → List ℕ) → ((at : ℕ) (t : A) → indexes (f at t) ≡ g t)
+    → (at : ℕ) (ts : List A) → indexes (leavesAll size f at ts) ≡ spellAll g ts
+unfolding leavesAll spellAll
+indexes-all size f g h at [] = refl
+indexes-all size f g h at (t ∷ ts) =
+    indexes-joined (f at t) (leavesAll size f (at + size t) ts) ∙ rw (h at t, indexes-all size f g h (at + size t) ts)
+
+indexes-tree : (d at : ℕ) (t : Tree (CategoryIn d)) → indexes (treeLeaves d at t) ≡ leafIndexes d t
+unfolding treeLeaves leafIndexes
+indexes-tree zero at t = refl
+indexes-tree (suc d) at (m, (zero, t)) =
+    ap (λ (l : List ℕ). leafIndex t ∷ l)
+    (indexes-all (size (CategoryIn d)) (treeLeaves d) (leafIndexes d) (indexes-tree d) (at + size Head (m, (zero, t))) [])
+indexes-tree (suc d) at (m, (suc k, (t, (n, ts)))) =
+    indexes-all (size (CategoryIn d)) (treeLeaves d) (leafIndexes d) (indexes-tree d) (at + size Head (m, (suc k, (t, (n, tt))))) ts
+
+-- the leaves that are tested are the dimension's
+indexes-are : (t : Tree Dimension) → indexes (leavesOf t) ≡ dimLeaves t
+unfolding leavesOf dimLeaves
+indexes-are t = indexes-all (size Category) (treeLeaves category-depth) (leafIndexes category-depth) (indexes-tree category-depth) (size (Value ▸ DimProperties) (dimOwn t) + 4) (dimCategories t)
+
+-- n of a dimension is their number
+pub leaf-count : (t : Tree Dimension) → length (leavesOf t) ≡ length (dimLeaves t)
+leaf-count t = sym (length-map (leavesOf t) (λ l. l .0)) ∙ ap length (indexes-are t)
+
+is-fine : (v : Verdict) → placeOf v ≡ none → v ≡ Fine
+is-fine Fine e = refl
+is-fine (Bad p) e = absurd (let z : _≡_ {A = ℕ} 0 1 = cc in omega arith)
+
+-- Leaves: no place is wrong exactly when the n leaf indexes are 0 to n-1, once each
+leaves-once : (t : Tree Dimension) → (placeOf (firstBad (length (leavesOf t)) [] (leavesOf t)) ≡ none) ↔ LeavesOnce t
+leaves-once t =
+    let n = leaf-count t in
+    let bad = none-bad (length (leavesOf t)) (leavesOf t) in (
+      λ e. rw (indexes-are t, n) at (bad .0 (is-fine (firstBad (length (leavesOf t)) [] (leavesOf t)) e)),
+      λ o. ap placeOf (bad .1 (rw (indexes-are t, n) o)),
+    )
+
+-- ---- dimensions
+
+dimension-kept : (used : ℕ) (t : Tree Dimension) → used ≤ most-nodes → Kept (dimensionRule used) t ↔ ((used + dimNodes t ≤ most-nodes) × LeavesOnce t)
+unfolding dimensionRule dimNodes sum
+dimension-kept used t l =
+    let P : List (Tree Category) → Tree Category → Type 0 = λ done c. Kept (categoryRule category-depth (used + sum (nodes category-depth) done)) c in
+    let one : (done : List (Tree Category)) (c : Tree Category) → used + sum (nodes category-depth) done ≤ most-nodes
+    → P done c ↔ ((used + sum (nodes category-depth) done + nodes category-depth c ≤ most-nodes) × Unit {0}) =
+    λ done c _. let h = category-kept category-depth (used + sum (nodes category-depth) done) c in (λ k. (h .0 k, tt), λ m. h .1 (m .0)) in (
+      λ k. (omega (arith, few (nodes category-depth) (λ _. Unit {0}) P used one [] (dimCategories t) (omega arith) (k .0 .1) .0), leaves-once t .0 (k .1)),
+      λ m. let n = m .0 in
+          ((tt, so-few (nodes category-depth) (λ _. Unit {0}) P used one [] (dimCategories t) (omega arith) (anything (dimCategories t))), leaves-once t .1 (m .1)),
+    )
+
+-- Dimensions: at most 4,096 nodes in all, and the leaf indexes of each once each
+pub dimensions-kept : (t : Tree Dimensions) → Kept dimensionsRule t ↔ ((sum dimNodes (dimsOf t) ≤ most-nodes) × All LeavesOnce (dimsOf t))
+unfolding dimensionsRule sum
+dimensions-kept t =
+    let P : List (Tree Dimension) → Tree Dimension → Type 0 = λ done d. Kept (dimensionRule (sum dimNodes done)) d in
+    let one : (done : List (Tree Dimension)) (d : Tree Dimension) → 0 + sum dimNodes done ≤ most-nodes
+    → P done d ↔ ((0 + sum dimNodes done + dimNodes d ≤ most-nodes) × LeavesOnce d) =
+    λ done d l. let h = dimension-kept (sum dimNodes done) d (omega arith) in
+    (λ k. let m = h .0 k in (omega (arith, m .0), m .1), λ m. h .1 (omega (arith, m .0), m .1)) in (
+      λ k. let m = few dimNodes LeavesOnce P 0 one [] (dimsOf t) (omega arith) k in (omega (arith, m .0), m .1),
+      λ m. so-few dimNodes LeavesOnce P 0 one [] (dimsOf t) (omega (arith, m .0)) (m .1),
+    )
+
+-- ---- numbers that stand once each
+
+module _ {A : Type 0} (P : List A → A → Type 0) where
+  onto-joined : (done xs ys : List A) → onto done (xs ++ ys) ≡ onto (onto done xs) ys
+  onto-joined done [] ys = refl
+  onto-joined done (x ∷ xs) ys = onto-joined (x ∷ done) xs ys
+
+  -- some, and then others after them
+  kept-joined : (done xs ys : List A) → KeptAll P done (xs ++ ys) ↔ (KeptAll P done xs × KeptAll P (onto done xs) ys)
+  kept-joined done [] ys = (λ k. (tt, k), λ k. k .1)
+  kept-joined done (x ∷ xs) ys =
+      let h = kept-joined (x ∷ done) xs ys in
+      (λ k. let m = h .0 (k .1) in ((k .0, m .0), m .1), λ k. (k .0 .0, h .1 (k .0 .1, k .1)))
+
+  -- those before may be counted apart
+  kept-apart : (before done ts : List A) → KeptAll (λ done t. P (done ++ before) t) done ts ↔ KeptAll P (done ++ before) ts
+  kept-apart before done [] = (λ k. k, λ k. k)
+  kept-apart before done (t ∷ ts) =
+      let h = kept-apart before (t ∷ done) ts in
+      (λ k. (k .0, h .0 (k .1)), λ k. (k .0, h .1 (k .1)))
+
+  module _ (n : ℕ) (x : A → ℕ) (one : (done : List A) (t : A) → P done t ↔ (fresh n (mapAll x done) (x t) ≡ true)) where
+    fresh-kept : (done ts : List A) → KeptAll P done ts ↔ AllFresh n (mapAll x done) (mapAll x ts)
+    unfolding mapAll
+    fresh-kept done [] = (λ k. k, λ k. k)
+    fresh-kept done (t ∷ ts) =
+        let h = fresh-kept (t ∷ done) ts in
+        (λ k. (one done t .0 (k .0), h .0 (k .1)), λ k. (one done t .1 (k .0), h .1 (k .1)))
+
+    -- each is fresh in its turn exactly when they stand once each
+    once-kept : (ts : List A) → KeptAll P [] ts ↔ OnceEach n (mapAll x ts)
+    unfolding mapAll
+    once-kept ts =
+        let h = fresh-kept [] ts in
+        let a = all-fresh n (mapAll x ts) in
+        (λ k. a .0 (h .0 k), λ o. h .1 (a .1 o))
+
+by-test : (b : Bool) (q : ℕ) → (pick b none (some q) ≡ none) ↔ (b ≡ true)
+unfolding pick
+by-test true q = (λ _. refl, λ _. refl)
+by-test false q = (λ e. absurd (let z : _≡_ {A = ℕ} 0 1 = cc in omega arith), λ e. absurd (let z : _≡_ {A = ℕ} 0 1 = cc in omega arith))
+
+-- ---- axes
+
+abbrev EntryKept : ℕ → List (Tree int32) → Tree int32 → Type 0
+EntryKept d done t = Kept (entryRule d done) t
+
+entry-kept : (d : ℕ) (done : List (Tree int32)) (t : Tree int32) → EntryKept d done t ↔ (fresh d (mapAll entryIndex done) (entryIndex t) ≡ true)
+unfolding entryRule
+entry-kept d done t =
+    let h = by-test (fresh d (mapAll entryIndex done) (entryIndex t)) 0 in
+    (λ k. h .0 (k .1), λ e. (tt, h .1 e))
+
+-- the three groups are one list of entries
+three-kept : (d : ℕ) (ls rs cs : List (Tree int32))
+    → ((KeptAll (EntryKept d) [] ls × KeptAll (λ done t. EntryKept d (done ++ onto [] ls) t) [] rs)
+    × KeptAll (λ done t. EntryKept d (done ++ onto (onto [] ls) rs) t) [] cs)
+    ↔ OnceEach d (mapAll entryIndex (ls ++ rs ++ cs))
+three-kept d ls rs cs =
+    let P = EntryKept d in
+    let two = kept-joined P [] ls rs in
+    let three = kept-joined P [] (ls ++ rs) cs in
+    let r = kept-apart P (onto [] ls) [] rs in
+    let c = kept-apart P (onto (onto [] ls) rs) [] cs in
+    let o = once-kept P d entryIndex (entry-kept d) (ls ++ rs ++ cs) in
+    let e = onto-joined P [] ls rs in (
+      λ k. o .0 (three .1 (two .1 (k .0 .0, r .0 (k .0 .1)), rw e (c .0 (k .1)))),
+      λ m. let k = three .0 (o .1 m) in
+          let l = two .0 (k .0) in
+          ((l .0, r .1 (l .1)), c .1 (rw e at (k .1))),
+    )
+
+-- Axes: the product is at most 4,294,967,295, the counts add up, each dimension is named once
+pub axes-kept : (ts : List (Tree Dimension)) (t : Tree Axes)
+    → Kept (axesRule ts) t
+    ↔ ((placesOf ts ≤ most-places)
+    × (axisLayers t + axisRows t + axisColumns t ≡ length ts)
+    × OnceEach (length ts) (mapAll entryIndex (axisEntries t)))
+unfolding axesRule
+axes-kept ts t =
+    let e = t .1 .1 .1 in
+    let h = three-kept (length ts) (e .0 .0) (e .0 .1) (e .1) in (
+      λ k. (leb-true (placesOf ts) most-places (k .0), eqb-true (axisLayers t + axisRows t + axisColumns t) (length ts) (k .1 .0), h .0 (k .1 .1)),
+      λ m. (le-leb (placesOf ts) most-places (m .0), (eq-eqb (axisLayers t + axisRows t + axisColumns t) (length ts) (m .1), h .1 (m .2))),
+    )
+
+-- ---- cells
+
+cell-kept : (n : ℕ) (done : List (Tree Cell)) (t : Tree Cell) → Kept (cellRule n done) t ↔ (fresh n (mapAll cellIndex done) (cellIndex t) ≡ true)
+unfolding cellRule
+cell-kept n done t =
+    let h = by-test (fresh n (mapAll cellIndex done) (cellIndex t)) 0 in
+    (λ k. h .0 (k .0 .1), λ e. ((tt, h .1 e), tt))
+
+-- Cells: each is inside the table of n places, and no index stands twice
+pub cells-kept : (n : ℕ) (t : Tree Cells) → Kept (cellsRule n) t ↔ OnceEach n (mapAll cellIndex (cellsOf t))
+unfolding cellsRule
+cells-kept n t = once-kept (λ done c. Kept (cellRule n done) c) n cellIndex (cell-kept n) (cellsOf t)

@@ -1,0 +1,64 @@
+-- How many bytes records take at least.
+use mathlib.Core.Path.{_≡_, refl}
+use mathlib.Core.List.{List}
+use Prim.Native.Nat.{ℕ, zero, suc, _+_, _*_, _≤_}
+use native.Mathlib.Nat.{mul-zero, mul-add}
+use native.Mathlib.Omega.{arith}
+use lib.ListN.{length, length-append}
+use Rattle.layout.specs.Layout.{Tree, spell, All, all-none, all-more, Valid, size}
+use Rattle.layout.specs.Laws.{digits-length}
+use Rattle.layout.specs.Steps.Least.{least, least-spelt}
+use Rattle.value.specs.Value.{Value, ValueIn}
+use Rattle.table.specs.Table.{Leaf, CategoryIn, Cell}
+use Rattle.table.specs.Records.{sum, nodes}
+use Rattle.table.specs.Laws.Lengths.{size-all}
+
+-- a category node: a Value of a byte, three bytes, and what a leaf has after them
+abbrev pub least-category : ℕ
+least-category = 16
+
+-- a cell: its index, and a Value of a byte
+abbrev pub least-cell : ℕ
+least-cell = 9
+
+-- ---- trees that follow each other
+
+-- c bytes or more for each that f counts, in each tree and so in all
+sum-least : {A : Type 0} {P : A → Type 0} (c : ℕ) (f h : A → ℕ) → ((t : A) → P t → c * f t ≤ h t) → {ts : List A} → All P ts → c * sum f ts ≤ sum h ts
+unfolding sum
+sum-least c f h each all-none = omega (arith, mul-zero c)
+sum-least c f h each (all-more {x} {xs} p ps) = rw (mul-add c (f x) (sum f xs)) (omega (arith, each x p, sum-least c f h each ps))
+
+-- ---- categories
+
+-- a Value takes a byte or more
+value-bytes : (t : Tree Value) → Valid Value t → 1 ≤ size Value t
+unfolding Value ValueIn least size
+value-bytes t v = least-spelt Value t v
+
+pub category-bytes : (d : ℕ) (t : Tree (CategoryIn d)) → Valid (CategoryIn d) t → least-category * nodes d t ≤ size (CategoryIn d) t
+unfolding nodes sum least size spell
+category-bytes zero t v = absurd v
+category-bytes (suc d) (m, (zero, t)) v =
+    let name = value-bytes m (v .0) in
+    let rest : 12 ≤ size Leaf t = least-spelt Leaf t (v .1 .2) in
+    simp (length-append, digits-length) (omega arith)
+category-bytes (suc d) (m, (suc k, (t, (n, ts)))) v =
+    let name = value-bytes m (v .0) in
+    let rest = sum-least least-category (nodes d) (size (CategoryIn d)) (category-bytes d) (v .1 .2 .1 .2 .1) in
+    let count : nodes (suc d) (m, (suc k, (t, (n, ts)))) ≡ 1 + sum (nodes d) ts = refl in
+    rw count (simp (length-append, digits-length) (omega (arith, size-all (CategoryIn d) ts)))
+
+pub categories-bytes : (d : ℕ) {ts : List (Tree (CategoryIn d))} → All (Valid (CategoryIn d)) ts → least-category * sum (nodes d) ts ≤ sum (size (CategoryIn d)) ts
+categories-bytes d vs = sum-least least-category (nodes d) (size (CategoryIn d)) (category-bytes d) vs
+
+-- ---- cells
+
+pub cell-bytes : (t : Tree Cell) → Valid Cell t → least-cell ≤ size Cell t
+unfolding least Value ValueIn size
+cell-bytes t v = least-spelt Cell t v
+
+pub cells-bytes : {ts : List (Tree Cell)} → All (Valid Cell) ts → least-cell * length ts ≤ sum (size Cell) ts
+unfolding sum
+cells-bytes all-none = omega arith
+cells-bytes (all-more {x} {xs} v vs) = omega (arith, cell-bytes x v, cells-bytes vs)

@@ -1,0 +1,38 @@
+-- How many bytes categories and dimensions cover: their own part, and what is below.
+use mathlib.Core.Path.{_≡_, refl, sym}
+use mathlib.Core.List.{List, [], _∷_, _++_, append-nil, append-assoc}
+use Prim.Native.Nat.{ℕ, zero, suc, _+_}
+use lib.ListN.{length, length-append}
+use Rattle.layout.specs.Layout.{little, Layout, _▸_, Tree, digits, spellAll, spell, size}
+use Rattle.layout.specs.Laws.{digits-length}
+use Rattle.value.specs.Value.{Value}
+use Rattle.table.specs.Table.{CategoryIn, DimProperties, Dimension, Category}
+use Rattle.table.specs.Records.{Head, front, children, sum, dimOwn, dimCategories}
+
+-- ---- what they spell
+
+pub spell-category : (d : ℕ) (t : Tree (CategoryIn (suc d))) → spell (CategoryIn (suc d)) t ≡ spell Head (front d t) ++ spellAll (spell (CategoryIn d)) (children d t)
+unfolding spell spellAll
+spell-category d (m, (zero, t)) = sym (append-nil (spell Head (m, (zero, t))))
+spell-category d (m, (suc k, (t, (n, ts)))) = simp (append-nil, append-assoc)
+
+pub spell-dimension : (t : Tree Dimension)
+    → spell Dimension t ≡ spell (Value ▸ DimProperties) (dimOwn t) ++ digits little 4 (t .1 .0) ++ spellAll (spell Category) (dimCategories t)
+unfolding spell
+spell-dimension t = sym (append-assoc (spell (Value ▸ DimProperties) (dimOwn t)) (digits little 4 (t .1 .0)) (spellAll (spell Category) (dimCategories t)))
+
+-- ---- sizes
+
+-- the bytes of all are those of each
+pub size-all : (g : Layout) (ts : List (Tree g)) → length (spellAll (spell g) ts) ≡ sum (size g) ts
+unfolding sum size spellAll
+size-all g [] = refl
+size-all g (t ∷ ts) = rw (length-append, size-all g ts)
+
+pub size-category : (d : ℕ) (t : Tree (CategoryIn (suc d))) → size (CategoryIn (suc d)) t ≡ size Head (front d t) + sum (size (CategoryIn d)) (children d t)
+unfolding size
+size-category d t = rw (spell-category d t, length-append, size-all (CategoryIn d) (children d t))
+
+pub size-dimension : (t : Tree Dimension) → size Dimension t ≡ size (Value ▸ DimProperties) (dimOwn t) + 4 + sum (size Category) (dimCategories t)
+unfolding size
+size-dimension t = rw (spell-dimension t, length-append, length-append, digits-length, size-all Category (dimCategories t))

@@ -1,0 +1,187 @@
+-- What the walk over categories keeps: the number of nodes so far, and their words.
+use mathlib.Core.Path.{_≡_, refl, ap, _∙_}
+use mathlib.Core.List.{List, [], _∷_}
+use Prim.Native.Nat.{ℕ, zero, suc, _+_, _*_, _^_, _≤_, _<_}
+use native.Mathlib.Omega.{arith}
+use native.Mathlib.Nat.{sub-zero}
+use lib.ListN.{length, drop, length-append, length-drop}
+use lib.Seq.{sets}
+use borrow.Author.Tests.{lt-ltb, le-ltb}
+use Rattle.sizes.specs.Sizes.{most-nodes, node-words}
+use Rattle.layout.specs.Layout.{empty, Tree, passes, spell, pick, size}
+use Rattle.layout.specs.Conventions.{i}
+use Rattle.layout.specs.Read.{Got, got, no, bind, read}
+use Rattle.layout.specs.Rule.{Rule, items}
+use Rattle.layout.specs.Check.{checkTimes, check}
+use Rattle.layout.specs.Keeps.{Out, on, off, Keeps, keeps-on, keeps-off, Each, each-none, each-more}
+use Rattle.layout.specs.Laws.{digits-length}
+use Rattle.layout.specs.Steps.Keeping.{kept-on, kept-off, Going, going, goes-on, goes-no, goes-to}
+use Rattle.layout.specs.Steps.Spelt.{Found}
+use Rattle.layout.specs.Laws.Binds.{bind-assoc, bind-pick}
+use Rattle.layout.specs.Words.{word32}
+use Rattle.layout.specs.Laws.Words.{word-same}
+use Rattle.value.specs.Value.{Value}
+use Rattle.table.specs.declared.Walk.{Walk}
+use Rattle.table.specs.declared.Walk.the-variants.{On, Refused}
+use Rattle.table.specs.declared.NodeStart.the-variants as start
+use Rattle.table.specs.Table.{KindOf, CategoryIn}
+use Rattle.table.specs.Records.{Head, belowOf, sum, nodes, wordsAll, nodeWords, treeWords, nodeRecord}
+use Rattle.table.specs.Rules.{kindRule, nodeRule, categoryRule, categoriesRule}
+use Rattle.table.specs.Laws.Lengths.{size-category}
+use Rattle.table.specs.Laws.Words.{sets-append, width-tree}
+use Rattle.table.specs.Laws.Heads.{HeadRead, head-there}
+
+-- an answer of the code, and the node words with it
+abbrev pub walked : Walk → List ℕ → Out (ℕ × List ℕ)
+walked (On at used) ns = on at (used, ns)
+walked (Refused r p) ns = off r p
+
+-- a category at the place `at`, in the dimension dim and below the node par: its nodes and their words come after those in x
+pub record Node (d dim par at : ℕ) (x : ℕ × List ℕ) (t : Tree (CategoryIn d)) (p : ℕ) (y : ℕ × List ℕ) : Type 0 where
+  pub place : p ≡ at + size (CategoryIn d) t
+  pub count : y .0 ≡ x .0 + nodes d t
+  pub few : y .0 ≤ most-nodes
+  pub words : y .1 ≡ sets (x .1) (node-words * x .0) (treeWords d dim par (x .0) at t)
+
+-- categories that follow each other
+pub record Nodes (d dim par at : ℕ) (x : ℕ × List ℕ) (ts : List (Tree (CategoryIn d))) (p : ℕ) (y : ℕ × List ℕ) : Type 0 where
+  pub place : p ≡ at + sum (size (CategoryIn d)) ts
+  pub count : y .0 ≡ x .0 + sum (nodes d) ts
+  pub few : x .0 ≤ most-nodes → y .0 ≤ most-nodes
+  pub words : y .1 ≡ sets (x .1) (node-words * x .0) (wordsAll (nodes d) (size (CategoryIn d)) (treeWords d dim par) (x .0) at ts)
+
+pub all-nodes : {d dim par at : ℕ} {x : ℕ × List ℕ} {ts : List (Tree (CategoryIn d))} {p : ℕ} {y : ℕ × List ℕ} → Each (Node d dim par) at x ts p y → Nodes d dim par at x ts p y
+unfolding sum wordsAll
+all-nodes each-none = record { place = omega arith; count = omega arith; few = λ h. h; words = refl }
+all-nodes {d} {dim} {par} {at} {x} {y = y} (each-more {t = t} {p = m} {y = z} {ts = ts} {q = e} q r) =
+    let n : Nodes d dim par m z ts e y = all-nodes r in
+    let i : node-words * x .0 + length (treeWords d dim par (x .0) at t) ≡ node-words * z .0 = omega (arith, width-tree d dim par (x .0) at t, q .count) in
+    record {
+      place = omega (arith, n .place, q .place);
+      count = omega (arith, n .count, q .count);
+      few = λ h. n .few (q .few);
+      words = n .words ∙ rw (sets-append, i, ← (q .words), ← (q .count), ← (q .place));
+    }
+
+-- ---- a category is its head and then what is below it
+
+module _ (d : ℕ) where
+  abbrev join : Tree Head → List (Tree (CategoryIn d)) → Tree (CategoryIn (suc d))
+  join (m, (zero, t)) ts = (m, (zero, t))
+  join (m, (suc k, (t, (n, u)))) ts = (m, (suc k, (t, (n, ts))))
+
+module _ (d : ℕ) (below : List (Tree (CategoryIn d)) → Rule (CategoryIn d)) where
+  abbrev rest : Tree Head → List ℕ → ℕ → Got (Tree (CategoryIn (suc d)))
+  rest h s at = bind (check (items {n = belowOf h} below) s at) (λ ts s₁ at₁. got (join d h ts) s₁ at₁)
+
+  check-kind : (m : Tree Value) (n : ℕ) (s : List ℕ) (at : ℕ)
+      → bind (check (kindRule d below n) s at) (λ t s₁ at₁. got (m, (n, t)) s₁ at₁)
+      ≡ bind (read (KindOf (λ _. empty) n) s at) (λ t s₁ at₁. rest (m, (n, t)) s₁ at₁)
+  unfolding bind checkTimes check read passes pick
+  check-kind m zero s at = refl
+  check-kind m (suc k) s at = simp (bind-assoc, bind-pick)
+
+  check-node : (s : List ℕ) (at : ℕ) → check (nodeRule d below) s at ≡ bind (read Head s at) rest
+  unfolding check read
+  check-node s at = simp (bind-assoc, bind-pick, check-kind)
+
+-- ---- a category
+
+-- a head lies inside, so its place is a word
+inside : {s : List ℕ} → length s < 2 ^ 32 → {at : ℕ} {h : Tree Head} {r : List ℕ} {p : ℕ} → Found Head s at h r p → word32 at ≡ at
+unfolding spell
+inside {s} small {at} q =
+    let l = simp (length-append, digits-length) at (ap length (q .spelt)) in
+    word-same at (omega (arith, length-drop at s, l))
+
+module _ (d : ℕ) (s : List ℕ) (dim par at used : ℕ) (ns : List ℕ) where
+  abbrev next : List (Tree (CategoryIn d)) → Rule (CategoryIn d)
+  next done = categoryRule d (used + 1 + sum (nodes d) done)
+
+  -- a node's own words, and then those of the categories below it
+  joined : (h : Tree Head) {p : ℕ} {ms : List ℕ} → p ≡ at + size Head h → ms ≡ sets ns (node-words * used) (nodeWords dim par at h) → used < most-nodes
+      → {y : Got (List (Tree (CategoryIn d)))} {o : Out (ℕ × List ℕ)} → check (items {n = belowOf h} next) (drop p s) p ≡ y → Keeps s (Each (Node d dim used) p (used + 1, ms)) y o
+      → Keeps s (Node (suc d) dim par at (used, ns)) (bind y (λ ts s₁ at₁. got (join d h ts) s₁ at₁)) o
+  unfolding bind nodes treeWords check checkTimes sum wordsAll
+  joined (m, (zero, t)) {p} {ms} e₁ e₂ l c (keeps-on {t = ts} {r = r} {p = q} {x = z} e k) =
+      let w : Nodes d dim used p (used + 1, ms) ts q z = all-nodes k in
+      let c′ : got [] (drop p s) p ≡ got ts r q = c in
+      let none : ts ≡ [] = cc in
+      let w′ : Nodes d dim used p (used + 1, ms) [] q z = rw none at w in
+      keeps-on {t = (m, (zero, t))} {p = q} {x = z} e record {
+        place = omega (arith, size-category d (m, (zero, t)), w′ .place, e₁);
+        count = omega (arith, w′ .count);
+        few = w .few (omega arith);
+        words = w′ .words ∙ e₂;
+      }
+  joined (m, (suc k, (t, (n, u)))) {p} {ms} e₁ e₂ l c (keeps-on {t = ts} {p = q} {x = z} e v) =
+      let w : Nodes d dim used p (used + 1, ms) ts q z = all-nodes v in
+      let tree : Tree (CategoryIn (suc d)) = (m, (suc k, (t, (n, ts)))) in
+      let next : node-words * used + node-words ≡ node-words * (used + 1) = omega arith in
+      keeps-on {t = tree} {p = q} {x = z} e record {
+        place = omega (arith, size-category d tree, w .place, e₁);
+        count = omega (arith, w .count);
+        few = w .few (omega arith);
+        words = w .words ∙ rw (sets-append, next, ← e₂, ← e₁);
+      }
+  joined h e₁ e₂ l c keeps-off = keeps-off
+
+  -- too deep, or one node too many
+  pub too-deep : Keeps s (Node 0 dim par at (used, ns)) (check (categoryRule 0 used) (drop at s) at) (off 7 at)
+  unfolding categoryRule check read
+  too-deep = keeps-off
+
+  pub one-too-many : most-nodes ≤ used → Keeps s (Node (suc d) dim par at (used, ns)) (check (categoryRule (suc d) used) (drop at s) at) (off 7 at)
+  unfolding categoryRule check pick
+  one-too-many h = rw (le-ltb used most-nodes h, sub-zero) keeps-off
+
+  pub no-head : used < most-nodes → {n p : ℕ} → read Head (drop at s) at ≡ no n p
+      → Keeps s (Node (suc d) dim par at (used, ns)) (check (categoryRule (suc d) used) (drop at s) at) (off n p)
+  unfolding categoryRule check pick bind
+  no-head h e = rw (lt-ltb used most-nodes h, check-node d next (drop at s) at, e) keeps-off
+
+  -- the code's words of a node are those of the head
+  pub with-head : length s < 2 ^ 32 → used < most-nodes → {y : Got (Tree Head)} {kind z word n p : ℕ} → HeadRead s at y (start.Node kind z word n p) → read Head (drop at s) at ≡ y
+      → {ms : List ℕ} → ms ≡ sets ns (node-words * used) (nodeRecord kind dim par (word32 at) z word) → {o : Out (ℕ × List ℕ)}
+      → Keeps s (Each (Node d dim used) p (used + 1, ms)) (check (categoriesRule d (used + 1) n) (drop p s) p) o
+      → Keeps s (Node (suc d) dim par at (used, ns)) (check (categoryRule (suc d) used) (drop at s) at) o
+  unfolding categoryRule check pick bind
+  with-head small l (head-there {h = h} f) e {ms} m k =
+      let w : ms ≡ sets ns (node-words * used) (nodeWords dim par at h) = rw (inside small f) at m in
+      rw (lt-ltb used most-nodes l, check-node d next (drop at s) at, e) (joined h (f .place) w l refl k)
+
+-- ---- categories, one after the other
+
+-- what the loop over n categories keeps, after i of them
+pub record Walking (d dim par : ℕ) (s : List ℕ) (n at used : ℕ) (ns : List ℕ) (i at′ used′ : ℕ) (ns′ : List ℕ) : Type 0 where
+  pub done : List (Tree (CategoryIn d))
+  pub count : used′ ≡ used + sum (nodes d) done
+  pub few : used′ ≤ most-nodes
+  pub most : i ≤ n
+  pub going : Going s (λ before. categoryRule d (used + sum (nodes d) before)) (Node d dim par) n at (used, ns) i at′ (used′, ns′) done
+
+module _ (d dim par : ℕ) (s : List ℕ) (n at used : ℕ) (ns : List ℕ) where
+  pub walking : used ≤ most-nodes → Walking d dim par s n at used ns 0 at used ns
+  unfolding sum
+  walking h = record { done = []; count = omega arith; few = h; most = omega arith; going = going s _ (Node d dim par) n at (used, ns) }
+
+  module _ {i at′ used′ : ℕ} {ns′ : List ℕ} (w : Walking d dim par s n at used ns i at′ used′ ns′) where
+    pub walks-on : i < n → {p u : ℕ} {ms : List ℕ} → Keeps s (Node d dim par at′ (used′, ns′)) (check (categoryRule d used′) (drop at′ s) at′) (on p (u, ms))
+        → Walking d dim par s n at used ns (i + 1) p u ms
+    unfolding sum
+    walks-on h k =
+        let r = kept-on k in
+        record {
+          done = r .tree ∷ w .done;
+          count = omega (arith, r .keeps .count, w .count);
+          few = r .keeps .few;
+          most = omega arith;
+          going = goes-on s _ (Node d dim par) (w .going) h (rw (← (w .count)) (r .is)) (r .keeps);
+        }
+
+    pub walks-off : i < n → {m p : ℕ} → Keeps s (Node d dim par at′ (used′, ns′)) (check (categoryRule d used′) (drop at′ s) at′) (off m p)
+        → Keeps s (Each (Node d dim par) at (used, ns)) (check (categoriesRule d used n) (drop at s) at) (off m p)
+    walks-off h k = goes-no s _ (Node d dim par) (w .going) h (rw (← (w .count)) (kept-off k))
+
+    pub walks-to : n ≤ i → Keeps s (Each (Node d dim par) at (used, ns)) (check (categoriesRule d used n) (drop at s) at) (on at′ (used′, ns′))
+    walks-to h = goes-to s _ (Node d dim par) (w .going) h

@@ -1,0 +1,67 @@
+-- Words of records: where they are stored, and how many there are.
+use mathlib.Core.Path.{_≡_, refl, sym, ap, _∙_}
+use mathlib.Core.List.{List, [], _∷_, _++_, append-assoc}
+use Prim.Native.Nat.{ℕ, zero, suc, _+_, _*_, _≤_}
+use native.Mathlib.Nat.{mul-zero, mul-suc, add-comm}
+use native.Mathlib.Omega.{arith}
+use lib.ListN.{length, drop, take, set, length-append}
+use lib.Seq.{sets, sets-eq, drop-at, length-take-le}
+use Rattle.sizes.specs.Sizes.{node-words}
+use Rattle.layout.specs.Layout.{Tree, size}
+use Rattle.table.specs.Table.{CategoryIn}
+use Rattle.table.specs.Records.{Head, front, children, sum, nodes, wordsAll, treeWords, rowsWords}
+
+-- a store past the end of a list changes nothing
+pub set-past : (xs : List ℕ) (i x : ℕ) → length xs ≤ i → set xs i x ≡ xs
+set-past [] i x h = refl
+set-past (y ∷ ys) zero x h = absurd (omega arith)
+set-past (y ∷ ys) (suc i) x h = ap (λ (zs : List ℕ). y ∷ zs) (set-past ys i x (omega arith))
+
+pub sets-past : (vs xs : List ℕ) (i : ℕ) → length xs ≤ i → sets xs i vs ≡ xs
+sets-past [] xs i h = refl
+sets-past (v ∷ vs) xs i h = rw (set-past xs i v h) (sets-past vs xs (suc i) (omega arith))
+
+-- three words, one after the other
+pub three-sets : (ws : List ℕ) (i a b c : ℕ) → set (set (set ws i a) (i + 1) b) (i + 2) c ≡ sets ws i (a ∷ b ∷ c ∷ [])
+three-sets ws i a b c =
+    let e₁ : i + 1 ≡ suc i = omega arith in
+    let e₂ : i + 2 ≡ suc (suc i) = omega arith in
+    rw (e₁, e₂)
+
+pub sets-append : (vs ws l : List ℕ) (i : ℕ) → sets l i (vs ++ ws) ≡ sets (sets l i vs) (i + length vs) ws
+sets-append [] ws l i = let e : i + 0 ≡ i = omega arith in rw e
+sets-append (v ∷ vs) ws l i = let e : i + suc (length vs) ≡ suc i + length vs = omega arith in rw e (sets-append vs ws (set l i v) (suc i))
+
+-- three words, and one after them
+pub four-sets : (ws : List ℕ) (i a b c d : ℕ) → set (set (set (set ws i a) (i + 1) b) (i + 2) c) (i + 3) d ≡ sets ws i (a ∷ b ∷ c ∷ d ∷ [])
+four-sets ws i a b c d = rw (three-sets ws i a b c) (sym (sets-append (a ∷ b ∷ c ∷ []) (d ∷ []) ws i))
+
+-- some words, and others after them
+pub sets-then : (xs ys ws : List ℕ) (i : ℕ) {vs us : List ℕ} → vs ≡ sets ws i xs → us ≡ sets vs (i + length xs) ys → us ≡ sets ws i (xs ++ ys)
+sets-then xs ys ws i h k = k ∙ rw h (sym (sets-append xs ys ws i))
+
+pub drop-sets : (ns ws : List ℕ) (i : ℕ) → i + length ws ≤ length ns → drop i (sets ns i ws) ≡ ws ++ drop (i + length ws) ns
+drop-sets ns ws i h =
+    let l : length (take i ns) ≡ i = length-take-le i ns (omega arith) in
+    rw (sets-eq ws ns i h, append-assoc) (drop-at (take i ns) (ws ++ drop (i + length ws) ns) i l)
+
+-- ---- as many words for each record
+
+module _ {A : Type 0} (w : ℕ) (size : A → ℕ) (words : ℕ → A → List ℕ) (width : (at : ℕ) (t : A) → length (words at t) ≡ w) where
+  pub width-rows : (at : ℕ) (ts : List A) → length (rowsWords size words at ts) ≡ w * length ts
+  unfolding rowsWords
+  width-rows at [] = sym (mul-zero w)
+  width-rows at (t ∷ ts) = rw (length-append, width, width-rows (at + size t) ts, mul-suc w (length ts)) (add-comm w (w * length ts))
+
+module _ {A : Type 0} (count size : A → ℕ) (words : ℕ → ℕ → A → List ℕ) (width : (used at : ℕ) (t : A) → length (words used at t) ≡ node-words * count t) where
+  pub width-all : (used at : ℕ) (ts : List A) → length (wordsAll count size words used at ts) ≡ node-words * sum count ts
+  unfolding wordsAll sum
+  width-all used at [] = refl
+  width-all used at (t ∷ ts) = rw (length-append, width, width-all (used + count t) (at + size t) ts) (omega arith)
+
+pub width-tree : (d dim par used at : ℕ) (t : Tree (CategoryIn d)) → length (treeWords d dim par used at t) ≡ node-words * nodes d t
+unfolding treeWords nodes
+width-tree zero dim par used at t = refl
+width-tree (suc d) dim par used at t =
+    let below = width-all (nodes d) (size (CategoryIn d)) (treeWords d dim used) (width-tree d dim used) (used + 1) (at + size Head (front d t)) (children d t) in
+    rw (length-append, below) (omega arith)
