@@ -193,7 +193,7 @@ fn most_words(n: usize) -> usize
 }
 
 // The number of dimensions at a position, and the dimensions. Refused besides: more bytes than a member has, 1 at 0; a list that is too
-// short for the node records of so many bytes, 12 at 0.
+// short for the node records of so many bytes, 12 at 0. The words are scratch: after a refusal they may hold anything.
 pub fn dimensions(
     s: &[u8],
     at: usize,
