@@ -5,7 +5,7 @@ use libc::STDOUT_FILENO;
 use member::Answer;
 
 fn counts(a: Answer) {
-    report::line(a);
+    report::print::line(a);
     io::print_decimal(STDOUT_FILENO, a.nodes as u64);
     io::write_all(STDOUT_FILENO, b" ");
     io::print_decimal(STDOUT_FILENO, a.cells as u64);
