@@ -1,33 +1,46 @@
-// For each member that an argument names: its name and the test program's line.
+// For each member that an argument names: its name and the test program's line. For each one after the argument `--sections`: its name
+// and the places of its sections, within its first 65,536 bytes.
+mod places;
+
 use libc::STDOUT_FILENO;
 
-fn named(name: &[u8]) {
+fn named(name: &[u8], sections: bool) {
     let mut buf = io::large_buffer();
     let got = input::read_file(name, &mut buf);
     if !got.found {
         return;
     }
     io::write_all(STDOUT_FILENO, name);
+    let n = got.bytes;
+    if sections {
+        places::line(&buf[..n]);
+        return;
+    }
     io::write_all(STDOUT_FILENO, b" ");
     if got.more {
         report::print::refusal(1, 0);
         return;
     }
-    let n = got.bytes;
     report::print::member(&buf[..n]);
 }
 
-fn argument(i: usize) {
+// The argument, and whether sections are asked for after it.
+fn argument(i: usize, sections: bool) -> bool {
     let mut name = io::buffer();
     let n = os::arg(i, &mut name);
-    named(&name[..n]);
+    if check::same(&name[..n], b"--sections") {
+        return true;
+    }
+    named(&name[..n], sections);
+    sections
 }
 
 fn main() {
     let n = os::arg_count();
+    let mut sections = false;
     let mut i = 1;
     while i < n {
-        argument(i);
+        sections = argument(i, sections);
         i += 1;
     }
 }
