@@ -3,9 +3,16 @@
 use libc::STDIN_FILENO;
 use libc::STDOUT_FILENO;
 use member::Answer;
+use sizes::CELL_WORDS;
+use sizes::NODE_WORDS;
+
+// What the records of that member take.
+const NODES: usize = 9 * NODE_WORDS;
+
+const CELLS: usize = 10 * CELL_WORDS;
 
 fn counts(a: Answer) {
-    report::line(a);
+    report::print::line(a);
     io::print_decimal(STDOUT_FILENO, a.nodes as u64);
     io::write_all(STDOUT_FILENO, b" ");
     io::print_decimal(STDOUT_FILENO, a.cells as u64);
@@ -19,20 +26,20 @@ fn none(s: &[u8]) {
 }
 
 fn few_node_words(s: &[u8]) {
-    let mut nodes = [0u32; 53];
-    let mut cells = [0u32; 30];
+    let mut nodes = [0u32; NODES - 1];
+    let mut cells = [0u32; CELLS];
     counts(member::read_member(s, &mut nodes, &mut cells));
 }
 
 fn few_cell_words(s: &[u8]) {
-    let mut nodes = [0u32; 54];
-    let mut cells = [0u32; 29];
+    let mut nodes = [0u32; NODES];
+    let mut cells = [0u32; CELLS - 1];
     counts(member::read_member(s, &mut nodes, &mut cells));
 }
 
 fn exact(s: &[u8]) {
-    let mut nodes = [0u32; 54];
-    let mut cells = [0u32; 30];
+    let mut nodes = [0u32; NODES];
+    let mut cells = [0u32; CELLS];
     counts(member::read_member(s, &mut nodes, &mut cells));
 }
 

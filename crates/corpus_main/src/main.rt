@@ -1,49 +1,46 @@
-// For each member that an argument names: its name and the test program's line.
+// For each member that an argument names: its name and the test program's line. For each one after the argument `--sections`: its name
+// and the places of its sections, within its first 65,536 bytes.
+mod places;
+
 use libc::STDOUT_FILENO;
 
-// Whether there is a byte more.
-fn more(fd: i32) -> bool {
-    let mut one = [0u8; 1];
-    let got = libc::read(fd, &mut one);
-    got > 0
-}
-
-fn answer(s: &[u8]) {
-    let mut nodes = [0u32; 24576];
-    let mut cells = [0u32; 12288];
-    report::line(member::read_member(s, &mut nodes, &mut cells));
-}
-
-fn named(name: &[u8]) {
-    let fd = os::open_read(name);
-    if fd < 0 {
-        os::fail(name);
+fn named(name: &[u8], sections: bool) {
+    let mut buf = io::large_buffer();
+    let got = input::read_file(name, &mut buf);
+    if !got.found {
         return;
     }
-    let mut buf = io::large_buffer();
-    let n = io::read_full(fd, &mut buf);
-    let long = n == 65536 && more(fd);
-    libc::close(fd);
     io::write_all(STDOUT_FILENO, name);
-    io::write_all(STDOUT_FILENO, b" ");
-    if long {
-        report::refusal(1, 0);
-    } else {
-        answer(&buf[..n]);
+    let n = got.bytes;
+    if sections {
+        places::line(&buf[..n]);
+        return;
     }
+    io::write_all(STDOUT_FILENO, b" ");
+    if got.more {
+        report::print::refusal(1, 0);
+        return;
+    }
+    report::print::member(&buf[..n]);
 }
 
-fn argument(i: usize) {
+// The argument, and whether sections are asked for after it.
+fn argument(i: usize, sections: bool) -> bool {
     let mut name = io::buffer();
     let n = os::arg(i, &mut name);
-    named(&name[..n]);
+    if check::same(&name[..n], b"--sections") {
+        return true;
+    }
+    named(&name[..n], sections);
+    sections
 }
 
 fn main() {
     let n = os::arg_count();
+    let mut sections = false;
     let mut i = 1;
     while i < n {
-        argument(i);
+        sections = argument(i, sections);
         i += 1;
     }
 }

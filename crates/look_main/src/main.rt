@@ -5,29 +5,22 @@ use libc::STDIN_FILENO;
 use libc::STDOUT_FILENO;
 use look::Answer;
 use look_write::Written;
-
-fn refused(n: u32, p: usize) {
-    io::write_all(STDOUT_FILENO, b"refused ");
-    io::print_decimal(STDOUT_FILENO, n as u64);
-    io::write_all(STDOUT_FILENO, b" at ");
-    io::print_decimal(STDOUT_FILENO, p as u64);
-    io::write_all(STDOUT_FILENO, b"\n");
-}
+use sizes::LONGEST_LOOK;
 
 fn rewrite(file: &[u8]) {
     let answer = look::read::read_look(file);
     match answer {
         Answer::Accepted(look) => {
-            let mut out = [0u8; 3152];
+            let mut out = [0u8; LONGEST_LOOK];
             let written = look_write::write_look(look, file, &mut out);
             match written {
                 Written::Length(n) => {
                     io::write_all(STDOUT_FILENO, bytes(&out, Span::Of(0, n)));
                 }
-                Written::Refused(n, p) => refused(n, p),
+                Written::Refused(n, p) => report::print::refusal(n, p),
             }
         }
-        Answer::Refused(n, p) => refused(n, p),
+        Answer::Refused(n, p) => report::print::refusal(n, p),
     }
 }
 

@@ -7,6 +7,10 @@ use libc::STDOUT_FILENO;
 use look::Answer;
 use look::Look;
 use look_write::Written;
+use sizes::LONGEST_LOOK;
+
+// The shortest look, of version 00 with empty names.
+const SHORTEST_LOOK: usize = 666;
 
 fn text(s: &[u8]) {
     io::write_all(STDOUT_FILENO, s);
@@ -34,7 +38,7 @@ fn answer(w: Written) {
 fn as_version(look: Look, version: u8, file: &[u8]) {
     let mut other = look;
     other.version = version;
-    let mut out = [0u8; 3152];
+    let mut out = [0u8; LONGEST_LOOK];
     answer(look_write::write_look(other, file, &mut out));
 }
 
@@ -50,7 +54,7 @@ fn with_name(look: Look, length: usize, file: &[u8]) {
     title.style = style;
     let mut other = look;
     other.title = title;
-    let mut out = [0u8; 3152];
+    let mut out = [0u8; LONGEST_LOOK];
     answer(look_write::write_look(other, file, &mut out));
 }
 
@@ -62,18 +66,18 @@ fn with_color(look: Look, color: u32, file: &[u8]) {
     title.color = area;
     let mut other = look;
     other.title = title;
-    let mut out = [0u8; 3152];
+    let mut out = [0u8; LONGEST_LOOK];
     answer(look_write::write_look(other, file, &mut out));
 }
 
-// What it answers for an output of 665 bytes, one less than the shortest look has.
+// What it answers for an output of one byte less than the shortest look has.
 fn short(look: Look, file: &[u8]) {
-    let mut out = [0u8; 665];
+    let mut out = [0u8; SHORTEST_LOOK - 1];
     answer(look_write::write_look(look, file, &mut out));
 }
 
 fn rewritten(look: Look, file: &[u8]) -> bool {
-    let mut out = [0u8; 3152];
+    let mut out = [0u8; LONGEST_LOOK];
     let written = look_write::write_look(look, file, &mut out);
     match written {
         Written::Length(n) => check::same(bytes(&out, Span::Of(0, n)), file),
@@ -90,7 +94,7 @@ fn accepted(look: Look, file: &[u8]) {
         text(b" bytes, rewritten differently; too short an output: ");
     }
     short(look, file);
-    let mut out = [0u8; 3152];
+    let mut out = [0u8; LONGEST_LOOK];
     text(b"; no names: ");
     answer(look_write::write_look(look, b"", &mut out));
     text(b"; version 00: ");
@@ -116,16 +120,14 @@ fn report(file: &[u8]) {
 fn one(i: usize) {
     let mut path = io::buffer();
     let length = os::arg(i, &mut path);
-    let fd = os::open_read(&path[..length]);
-    if fd < 0 {
-        os::fail(&path[..length]);
+    let mut buf = io::buffer();
+    let got = input::read_file(&path[..length], &mut buf);
+    if !got.found {
         return;
     }
-    let mut buf = io::buffer();
-    let n = io::read_full(fd, &mut buf);
-    libc::close(fd);
     text(&path[..length]);
     text(b": ");
+    let n = got.bytes;
     report(&buf[..n]);
 }
 

@@ -1,28 +1,25 @@
 // One member of at most 65,536 bytes on standard input; the test program's line and, if it is accepted, its records.
 use libc::STDIN_FILENO;
-
-// Whether there is a byte more on standard input.
-fn more() -> bool {
-    let mut one = [0u8; 1];
-    let got = libc::read(STDIN_FILENO, &mut one);
-    got > 0
-}
+use sizes::CELL_AREA;
+use sizes::NODE_AREA;
 
 fn answer(s: &[u8]) {
-    let mut nodes = [0u32; 24576];
-    let mut cells = [0u32; 12288];
+    let mut nodes = [0u32; NODE_AREA];
+    let mut cells = [0u32; CELL_AREA];
     let a = member::read_member(s, &mut nodes, &mut cells);
-    if report::line(a) {
-        report::records(a, &nodes, &cells);
+    report::print::line(a);
+    if a.refusal == 0 {
+        report::print::records(a, &nodes, &cells);
     }
 }
 
 fn main() {
     let mut buf = io::large_buffer();
-    let n = io::read_full(STDIN_FILENO, &mut buf);
-    if n == 65536 && more() {
-        report::refusal(1, 0);
+    let got = input::read(STDIN_FILENO, &mut buf);
+    if got.more {
+        report::print::refusal(1, 0);
         return;
     }
+    let n = got.bytes;
     answer(&buf[..n]);
 }

@@ -8,5 +8,5 @@ pub main-spec : {M : Type 1} → statement M
 main-spec =
     tie.close
     (tie.spec
-    (λ n i₀ i. Unit {0}) (λ n i₀ i. n - i) (λ _ _. tt) (λ c. tt) (λ _ _. tt) (λ c. omega arith) (λ c. omega arith)
-    (λ c. tt) (λ c. tt))
+    (λ n sections₀ i₀ sections i. Unit {0}) (λ n sections₀ i₀ sections i. n - i) (λ _ _. tt) (λ c. tt) (λ _ _. tt)
+    (λ c. omega arith) (λ c. omega arith) (λ c. tt) (λ c. tt))

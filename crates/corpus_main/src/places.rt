@@ -1,0 +1,58 @@
+// The place after each section of a member from Header to Formats, or the refusal of the first section that is refused.
+use layout::Step;
+use libc::STDOUT_FILENO;
+
+// The place, or the refusal and the end of the line; and whether to go on.
+fn told(st: Step) -> bool {
+    match st {
+        Step::Next(at) => {
+            io::write_all(STDOUT_FILENO, b" ");
+            io::print_decimal(STDOUT_FILENO, at as u64);
+            true
+        }
+        Step::Refused(number, place) => {
+            io::write_all(STDOUT_FILENO, b" ");
+            report::print::refusal(number, place);
+            false
+        }
+    }
+}
+
+// Areas and what comes after them.
+fn later(s: &[u8], st: Step) {
+    let st = sections::areas::areas(s, st);
+    if !told(st) {
+        return;
+    }
+    let st = sections::borders::borders(s, st);
+    if !told(st) {
+        return;
+    }
+    let st = sections::print_settings::print_settings(s, st);
+    if !told(st) {
+        return;
+    }
+    let st = sections::table_settings::table_settings(s, st);
+    if !told(st) {
+        return;
+    }
+    if told(sections::formats::formats(s, st)) {
+        io::write_all(STDOUT_FILENO, b"\n");
+    }
+}
+
+pub fn line(s: &[u8]) {
+    let st = sections::header::header(s, Step::Next(0));
+    if !told(st) {
+        return;
+    }
+    let st = sections::titles::titles(s, st);
+    if !told(st) {
+        return;
+    }
+    let st = sections::footnotes::footnotes(s, st);
+    if !told(st) {
+        return;
+    }
+    later(s, st);
+}
