@@ -5,14 +5,15 @@ use Prim.Native.Nat.{ℕ, _+_, _*_, _≤_, _<_}
 use lib.ListN.{length, getD}
 use lib.Dec.{leb}
 use borrow.Author.Tests.{le-leb, lt-leb}
+use Rattle.sizes.specs.Sizes.{node-words, name-place, name-length}
 use Rattle.layout.specs.Layout.{pick}
 use Rattle.api.specs.Api.{namePlace}
 
-pub place-there : (member nodes : List ℕ) (i : ℕ) {r : ℕ} → 6 * (i + 1) ≤ length nodes
-    → r ≡ pick (leb (getD nodes (6 * i + 3) 0 + getD nodes (6 * i + 4) 0) (length member)) (getD nodes (6 * i + 3) 0) 0 → r ≡ namePlace member nodes i
+pub place-there : (member nodes : List ℕ) (i : ℕ) {r : ℕ} → node-words * (i + 1) ≤ length nodes
+    → r ≡ pick (leb (getD nodes (node-words * i + name-place) 0 + getD nodes (node-words * i + name-length) 0) (length member)) (getD nodes (node-words * i + name-place) 0) 0 → r ≡ namePlace member nodes i
 unfolding namePlace pick
-place-there member nodes i h e = e ∙ rw (le-leb (6 * (i + 1)) (length nodes) h)
+place-there member nodes i h e = e ∙ rw (le-leb (node-words * (i + 1)) (length nodes) h)
 
-pub no-place : (member nodes : List ℕ) (i : ℕ) → length nodes < 6 * (i + 1) → 0 ≡ namePlace member nodes i
+pub no-place : (member nodes : List ℕ) (i : ℕ) → length nodes < node-words * (i + 1) → 0 ≡ namePlace member nodes i
 unfolding namePlace pick
-no-place member nodes i h = rw (lt-leb (6 * (i + 1)) (length nodes) h)
+no-place member nodes i h = rw (lt-leb (node-words * (i + 1)) (length nodes) h)

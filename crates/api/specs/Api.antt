@@ -1,9 +1,10 @@
 -- What the functions for other languages give: the library's answers as 32-bit words in a lent area.
 use mathlib.Core.Path.{_≡_}
 use mathlib.Core.List.{List, [], _∷_, _++_}
-use Prim.Native.Nat.{ℕ, _+_, _*_, _%_, _^_}
+use Prim.Native.Nat.{ℕ, _+_, _*_}
 use lib.ListN.{length, getD}
 use lib.Dec.{leb}
+use Rattle.sizes.specs.Sizes.{node-words, name-place, name-length, answer-words, write-answer-words}
 use Rattle.layout.specs.declared.Step.{Step}
 use Rattle.layout.specs.declared.Step.the-variants.{Next, Refused}
 use Rattle.layout.specs.Layout.{pick}
@@ -18,10 +19,6 @@ use Rattle.look.specs.Look.{TableLook}
 use Rattle.look.specs.Answers.{outcome as lookOutcome, expected}
 use Rattle.look_write.specs.Writing.{file, writing, output}
 
--- a number as a 32-bit word
-abbrev pub word : ℕ → ℕ
-word n = n % 2 ^ 32
-
 -- ---- members (document 01, "What the caller gets")
 
 -- 88 words: 0 refusal, 1 place, 2 dimensions, 3 nodes, 4 cells, 5 layers, 6 rows, 7 columns; from 8 on for each of 16 dimensions the
@@ -30,17 +27,17 @@ unfoldable pub answerWords : ℕ → Answer → List ℕ
 answerWords place a =
     (a .refusal ∷ place ∷ a .dims ∷ a .nodes ∷ a .cells ∷ a .layers ∷ a .rows ∷ a .columns ∷ []) ++ a .dimensions ++ a .order
 
--- a call of `digarumbi_read_member`, which gave n: where `answer` has 88 words, they and the two areas are what `read_member` delivers
+-- a call of `digarumbi_read_member`, which gave n: where `answer` has room for the words, they and the two areas are what `read_member` delivers
 pub record MemberRead (member answer nodes cells : List ℕ) (n : ℕ) (answer′ nodes′ cells′ : List ℕ) : Type 0 where
-  pub words : let a = answerOf (checked member) (length nodes) (length cells) in AtFront 88 (answerWords (a .place) a) answer n answer′
-  pub node-area : nodes′ ≡ pick (leb 88 (length answer)) (nodesAfter (checked member) nodes (length cells)) nodes
-  pub cell-area : cells′ ≡ pick (leb 88 (length answer)) (cellsAfter (checked member) (length nodes) cells) cells
+  pub words : let a = answerOf (checked member) (length nodes) (length cells) in AtFront answer-words (answerWords (a .place) a) answer n answer′
+  pub node-area : nodes′ ≡ pick (leb answer-words (length answer)) (nodesAfter (checked member) nodes (length cells)) nodes
+  pub cell-area : cells′ ≡ pick (leb answer-words (length answer)) (cellsAfter (checked member) (length nodes) cells) cells
 
--- the place of the name of node i: word 3 of its record; 0 if there is no record i, or if it points outside the member
+-- the place of the name of node i, in its record; 0 if there is no record i, or if it points outside the member
 unfoldable pub namePlace : List ℕ → List ℕ → ℕ → ℕ
 namePlace member nodes i =
-    let place = getD nodes (6 * i + 3) 0 in
-    pick (leb (6 * (i + 1)) (length nodes)) (pick (leb (place + getD nodes (6 * i + 4) 0) (length member)) place 0) 0
+    let place = getD nodes (node-words * i + name-place) 0 in
+    pick (leb (node-words * (i + 1)) (length nodes)) (pick (leb (place + getD nodes (node-words * i + name-length) 0) (length member)) place 0) 0
 
 -- ---- looks
 
@@ -54,7 +51,7 @@ abbrev pub rewritten : LookAnswer → List ℕ → List ℕ
 rewritten (look.Accepted x) s = file x s
 rewritten (look.Refused n p) s = []
 
--- three words: the refusal, 0 if there is none, its place, and the length; place and length are at most 3,152
+-- three words: the refusal, 0 if there is none, its place, and the length; place and length are at most `longest-look`
 abbrev pub stepWords : Step → List ℕ
 stepWords (Next n) = 0 ∷ 0 ∷ n ∷ []
 stepWords (Refused n p) = n ∷ p ∷ 0 ∷ []
@@ -64,5 +61,5 @@ pub record Rewritten (s out answer : List ℕ) (n : ℕ) (out′ answer′ : Lis
   -- what reading the file answers
   pub look : LookAnswer
   pub is-read : lookOutcome look ≡ expected (read TableLook s 0)
-  pub words : AtFront 3 (stepWords (rewriting look s (length out))) answer n answer′
-  pub out-area : out′ ≡ pick (leb 3 (length answer)) (output (rewriting look s (length out)) (rewritten look s) out) out
+  pub words : AtFront write-answer-words (stepWords (rewriting look s (length out))) answer n answer′
+  pub out-area : out′ ≡ pick (leb write-answer-words (length answer)) (output (rewriting look s (length out)) (rewritten look s) out) out

@@ -1,27 +1,37 @@
 // Answers as words at the front of a lent area.
 ghost use mathlib.Core.Path.{_≡_};
 ghost use mathlib.Core.List.{[], _∷_, _++_};
+ghost use Prim.Native.Nat.{_+_};
 ghost use lib.ListN.{length};
+ghost use Rattle.sizes.specs.Sizes.{most-dimensions, dimension-area, answer-words};
 ghost use Rattle.layout.specs.declared.Step.the-variants.{Next};
 ghost use Rattle.store.specs.Puts.{PutsWords};
+ghost use Rattle.layout.specs.Words.{word32};
 ghost use Rattle.api.specs.Api as spec;
 use layout::Step;
 use member::Answer;
+use sizes::DIMENSION_AREA;
+use sizes::MOST_DIMENSIONS;
 use store::words::put;
 
 // The words of the dimensions and of the axis order.
-fn arrays(out: &mut [u32], st: Step, dimensions: [u32; 64], order: [u32; 16]) -> Step
+fn arrays(
+    out: &mut [u32],
+    st: Step,
+    dimensions: [u32; DIMENSION_AREA],
+    order: [u32; MOST_DIMENSIONS],
+) -> Step
     ensures { λ r. ⌜ PutsWords (dimensions ++ order) (now (out .entry)) st (now (out .exit)) r ⌝ }
-    ensures { λ _. ⌜ length (dimensions ++ order) ≡ 80 ⌝ }
+    ensures { λ _. ⌜ length (dimensions ++ order) ≡ dimension-area + most-dimensions ⌝ }
 {
     let st = put(out, st, &dimensions);
     put(out, st, &order)
 }
 
-// The 88 words of what reading a member answers; the place as a word.
+// The words of what reading a member answers; the place as a word.
 pub fn member_words(out: &mut [u32], a: Answer) -> Step
-    ensures { λ r. ⌜ PutsWords (spec.answerWords (spec.word (a .place)) a) (now (out .entry)) (Next 0) (now (out .exit)) r ⌝ }
-    ensures { λ _. ⌜ length (spec.answerWords (spec.word (a .place)) a) ≡ 88 ⌝ }
+    ensures { λ r. ⌜ PutsWords (spec.answerWords (word32 (a .place)) a) (now (out .entry)) (Next 0) (now (out .exit)) r ⌝ }
+    ensures { λ _. ⌜ length (spec.answerWords (word32 (a .place)) a) ≡ answer-words ⌝ }
 {
     let dimensions = a.dimensions;
     let order = a.order;
@@ -44,7 +54,7 @@ pub fn member_words(out: &mut [u32], a: Answer) -> Step
 
 // Three words: the refusal, or 0, its place, and the length.
 pub fn step_words(out: &mut [u32], refusal: u32, place: usize, length: usize) -> Step
-    ensures { λ r. ⌜ PutsWords (refusal ∷ spec.word place ∷ spec.word length ∷ []) (now (out .entry)) (Next 0) (now (out .exit)) r ⌝ }
+    ensures { λ r. ⌜ PutsWords (refusal ∷ word32 place ∷ word32 length ∷ []) (now (out .entry)) (Next 0) (now (out .exit)) r ⌝ }
 {
     put(
         out,

@@ -6,6 +6,7 @@ ghost use mathlib.Core.Path.{_≡_};
 ghost use Prim.Native.Nat.{_+_};
 ghost use lib.ListN.{length};
 ghost use lib.Dec.{leb};
+ghost use Rattle.sizes.specs.Sizes.{look-answer-words};
 ghost use Rattle.layout.specs.Layout.{pick};
 ghost use Rattle.layout.specs.Read.{read};
 ghost use Rattle.units.specs.Units.{in-pixels, in-points, height};
@@ -27,14 +28,19 @@ use look_write::Written;
 use look_write::write_look;
 use member::part;
 use member::read_member;
+use sizes::ANSWER_WORDS;
+use sizes::NAME_LENGTH;
+use sizes::NAME_PLACE;
+use sizes::NODE_WORDS;
+use sizes::WRITE_ANSWER_WORDS;
 use units::Pt;
 use units::Px;
 use units::font_height;
 use units::pt_to_px;
 use units::px_to_pt;
 
-// Reads a member. 88, with the answer in the first 88 words of `answer` and the records in the two areas where it is accepted; 0, with
-// nothing read and nothing changed, if `answer` is shorter.
+// Reads a member. ANSWER_WORDS, with the answer in as many words at the front of `answer` and the records in the two areas where it is
+// accepted; 0, with nothing read and nothing changed, if `answer` is shorter.
 #[no_mangle]
 pub extern "C" fn digarumbi_read_member(
     member: &[u8],
@@ -44,11 +50,11 @@ pub extern "C" fn digarumbi_read_member(
 ) -> usize
     ensures { λ n. ⌜ MemberRead (now (member .entry)) (now (answer .entry)) (now (nodes .entry)) (now (cells .entry)) n (now (answer .exit)) (now (nodes .exit)) (now (cells .exit)) ⌝ }
 {
-    let room = 88 <= answer.len();
+    let room = ANSWER_WORDS <= answer.len();
     if room {
         let a = read_member(member, nodes, cells);
         member_words(answer, a);
-        88
+        ANSWER_WORDS
     } else {
         0
     }
@@ -66,9 +72,9 @@ fn inside(member: &[u8], place: u32, n: u32) -> usize
 fn name_place(member: &[u8], nodes: &[u32], i: usize) -> usize
     ensures { λ r. ⌜ r ≡ namePlace (now (member .entry)) (now (nodes .entry)) i ⌝ }
 {
-    if i < nodes.len() / 6 {
-        let at = 6 * i;
-        inside(member, nodes[at + 3], nodes[at + 4])
+    if i < nodes.len() / NODE_WORDS {
+        let at = NODE_WORDS * i;
+        inside(member, nodes[at + NAME_PLACE], nodes[at + NAME_LENGTH])
     } else {
         0
     }
@@ -100,22 +106,23 @@ pub extern "C" fn digarumbi_part(member: &[u8], place: usize, n: usize) -> usize
     part(member, place, n).len()
 }
 
-// Reads a look. 264, with the answer in the first 264 words of `answer`; 0, with nothing read and nothing changed, if it is shorter.
+// Reads a look. LOOK_ANSWER_WORDS, with the answer in as many words at the front of `answer`; 0, with nothing read and nothing changed, if
+// it is shorter.
 #[no_mangle]
 pub extern "C" fn digarumbi_read_look(file: &[u8], answer: &mut [u32]) -> usize
-    ensures { λ n. ⌜ AtFront 264 (look_spec.answerWords (expected (read TableLook (now (file .entry)) 0))) (now (answer .entry)) n (now (answer .exit)) ⌝ }
+    ensures { λ n. ⌜ AtFront look-answer-words (look_spec.answerWords (expected (read TableLook (now (file .entry)) 0))) (now (answer .entry)) n (now (answer .exit)) ⌝ }
 {
     look_answer(file, answer)
 }
 
-// Reads a look and writes it again. 3, with the refusal or 0, its place and the length in the first 3 words of `answer`; 0, with nothing
-// written and nothing changed, if it is shorter.
+// Reads a look and writes it again. WRITE_ANSWER_WORDS, with the refusal or 0, its place and the length at the front of `answer`; 0, with
+// nothing written and nothing changed, if it is shorter.
 #[no_mangle]
 pub extern "C" fn digarumbi_rewrite_look(file: &[u8], out: &mut [u8], answer: &mut [u32]) -> usize
     ensures { λ n. ⌜ Rewritten (now (file .entry)) (now (out .entry)) (now (answer .entry)) n (now (out .exit)) (now (answer .exit)) ⌝ }
 {
     let got = read_look(file);
-    let room = 3 <= answer.len();
+    let room = WRITE_ANSWER_WORDS <= answer.len();
     if room {
         match got {
             Answer::Refused(n, p) => {
@@ -130,7 +137,7 @@ pub extern "C" fn digarumbi_rewrite_look(file: &[u8], out: &mut [u8], answer: &m
                 }
             },
         }
-        3
+        WRITE_ANSWER_WORDS
     } else {
         0
     }

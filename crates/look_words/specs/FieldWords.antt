@@ -4,11 +4,11 @@ use Prim.Native.Nat.{ℕ}
 use lib.ListN.{take, replicate}
 use Rattle.sizes.specs.Sizes.{look-words}
 use Rattle.layout.specs.Layout.{Test, any-number, the-number, a-version, a-bool, at-most, one-of, a-color, Layout, empty, number, string, _▸_, times, leading, region, nothing, spellAll}
+use Rattle.layout.specs.Words.{word32}
 use Rattle.store.specs.Fields.{Text, lent, letters, Fields}
 use Rattle.look.specs.Look as grammar
 use Rattle.look.specs.Look.{TableLook}
 use Rattle.look.specs.Answers.{Outcome, accepted, refused}
-use Rattle.look_words.specs.LookWords.{word}
 
 -- A number and the words of what follows it. A fixed number has no word; a choice (002 has one, Separator) has three words after it, 0 where
 -- less follows.
@@ -23,7 +23,7 @@ numbered a-color n rest = n ∷ rest
 
 -- a name by its place and its length
 unfoldable pub textWords : Text → List ℕ
-textWords (lent n) = word (n .place) ∷ word (n .length) ∷ []
+textWords (lent n) = word32 (n .place) ∷ word32 (n .length) ∷ []
 -- (no file has letters of the writer's own)
 textWords (letters xs) = []
 

@@ -1,6 +1,8 @@
--- A look as 32-bit words, in the order of source document 002: 262 words.
+-- A look as 32-bit words, in the order of source document 002: 262 words. A place or a length, which the code holds in 64 bits, is a word
+-- of 32; of an accepted look it is that number (`Laws/Kept.antt`).
 use mathlib.Core.List.{List, [], _∷_, _++_}
-use Prim.Native.Nat.{ℕ, _%_, _^_}
+use Prim.Native.Nat.{ℕ}
+use Rattle.layout.specs.Words.{word32}
 use Rattle.store.specs.Values.{bit, twos}
 use Rattle.look.specs.declared.Separator.{Separator}
 use Rattle.look.specs.declared.Separator.the-variants.{NotDrawn, Drawn}
@@ -16,10 +18,6 @@ use Rattle.look.specs.declared.Frame.{Frame}
 use Rattle.look.specs.declared.Frames.{Frames}
 use Rattle.look.specs.declared.V2Styles.{V2Styles}
 use Rattle.look.specs.declared.Look.{Look}
-
--- a place or a length, which the code holds in 64 bits; of an accepted look it is that number (`Kept.antt`)
-abbrev pub word : ℕ → ℕ
-word n = n % 2 ^ 32
 
 -- 3 words
 abbrev pub settings : Settings → List ℕ
@@ -60,8 +58,8 @@ font x = twos (x .«font_size») ∷ x .stretch ∷ x .«rotation_angle» ∷ x 
 -- 8 words
 abbrev pub typeface : Typeface → List ℕ
 typeface x =
-    bit (x .italic) ∷ bit (x .underline) ∷ bit (x .strikethrough) ∷ x .«rtf_charset_number» ∷ x .x ∷ word (x .«font_name» .place)
-    ∷ word (x .«font_name» .length) ∷ x .«text_color» ∷ []
+    bit (x .italic) ∷ bit (x .underline) ∷ bit (x .strikethrough) ∷ x .«rtf_charset_number» ∷ x .x ∷ word32 (x .«font_name» .place)
+    ∷ word32 (x .«font_name» .length) ∷ x .«text_color» ∷ []
 
 -- 22 words
 unfoldable pub area : Area → List ℕ
@@ -76,7 +74,7 @@ most-areas x =
 -- 6 words: place and length of the continuation, and the widths and heights
 abbrev pub v2-numbers : V2Styles → List ℕ
 v2-numbers x =
-    word (x .continuation .place) ∷ word (x .continuation .length) ∷ x .«min_col_width» ∷ x .«max_col_width» ∷ x .«min_row_height»
+    word32 (x .continuation .place) ∷ word32 (x .continuation .length) ∷ x .«min_col_width» ∷ x .«max_col_width» ∷ x .«min_row_height»
     ∷ x .«max_row_height» ∷ []
 
 -- 0 version; 1 to 3 settings; 4 to 19 rows; 20 to 35 columns; 36 to 57 title; 58 to 211 the other areas; 212 to 255 the borders of version 02;

@@ -28,6 +28,7 @@ pub fn raw(buf: &mut [u8], st: Step, text: &[u8], c: u32) -> Step
     let Step::Next(at) = st else {
         return st;
     };
+    let short = Step::Refused(2, at);
     let good = c == 0;
     if good {
         if at <= buf.len() {
@@ -35,10 +36,10 @@ pub fn raw(buf: &mut [u8], st: Step, text: &[u8], c: u32) -> Step
                 let n = bytes::copy(text, &mut buf[at..]);
                 Step::Next(at + n)
             } else {
-                Step::Refused(2, at)
+                short
             }
         } else {
-            Step::Refused(2, at)
+            short
         }
     } else {
         Step::Refused(c, at)

@@ -1,5 +1,4 @@
 use borrow.Author.Needs.{needs}
-use Rattle.words.specs.Stores.{long}
 use Rattle.api.proofs.Read.{with-answer, without-answer}
 use Rattle.api.proofs.digarumbi_read_member.Statement.{statement}
 use Rattle.api.proofs.digarumbi_read_member.Tie as tie

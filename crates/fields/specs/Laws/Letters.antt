@@ -13,8 +13,7 @@ use Rattle.layout.specs.Layout.{Order, Test, any-number, passes, empty, number,
 use Rattle.layout.specs.Read.{got, bind, readNumber, read, refusal}
 use Rattle.layout.specs.Reads.{step, chain, Reads}
 use Rattle.layout.specs.Laws.Spelt.{same-letters}
-use Rattle.layout.specs.Steps.Slices.{drop-bytes}
-use Rattle.store.specs.Laws.Trees.{take-bytes}
+use Rattle.layout.specs.Steps.Slices.{drop-bytes, take-bytes}
 
 -- ---- comparing letters one by one
 

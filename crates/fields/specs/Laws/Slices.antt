@@ -1,9 +1,7 @@
 -- What is read in bytes fits.
 use mathlib.Core.Path.{_≡_, refl}
 use mathlib.Core.List.{List, [], _∷_}
-use Prim.Native.Nat.{ℕ, zero, suc, _^_, _<_}
-use native.Mathlib.Nat.{pow-suc}
-use native.Mathlib.Omega.{arith}
+use Prim.Native.Nat.{ℕ, _^_, _<_}
 use lib.ListN.{drop, getD}
 use mir.Syntax.{w8}
 use mir.Val.{Fits}
@@ -14,11 +12,8 @@ use Rattle.layout.specs.Read.{Got, got, no, bind, readNumber, read}
 use Rattle.layout.specs.Laws as laws
 use Rattle.layout.specs.Reads.{numberOf, peek}
 use Rattle.layout.specs.Steps.Slices.{bytes-of, drop-bytes}
+use Rattle.layout.specs.Laws.Digits.{pow-pos}
 use Rattle.layout.specs.Laws.Spelt.{whole}
-
-pow-pos : (w : ℕ) → 0 < 256 ^ w
-pow-pos zero = omega arith
-pow-pos (suc w) = let ih : 0 < 256 ^ w = pow-pos w in rw pow-suc (omega arith)
 
 -- a number that was read has its bytes
 pub peek-lt : (o : Order) (w : ℕ) (s : List ℕ) → Bytes s → (st : Step) → peek o w s st < 256 ^ w

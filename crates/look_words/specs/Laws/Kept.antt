@@ -3,12 +3,13 @@ use mathlib.Core.Path.{_≡_, refl}
 use mathlib.Core.Bool.{Bool, true, false}
 use mathlib.Core.List.{List, [], _∷_}
 use Prim.Native.Nat.{ℕ, _+_, _^_, _≤_, _<_}
-use native.Mathlib.Nat.{mod-eq-of-lt}
 use native.Mathlib.Omega.{arith}
 use lib.ListN.{length, length-append}
 use lib.Dec.{eqb}
 use Rattle.sizes.specs.Sizes.{longest-look}
 use Rattle.layout.specs.Layout.{Layout, empty, number, string, _▸_, times, leading, region, nothing, Tree, spellAll, spell, Bytes, All, all-none, all-more, Valid}
+use Rattle.layout.specs.Words.{word32}
+use Rattle.layout.specs.Laws.Words.{word-same}
 use Rattle.layout.specs.Read.{Got, got, no, read}
 use Rattle.layout.specs.Laws as laws
 use Rattle.store.specs.Fields.{Text, lent, letters, Fields, placedAll, placed}
@@ -19,10 +20,9 @@ use Rattle.look.specs.Values as values
 use Rattle.look.specs.Values.{_&_}
 use Rattle.look.specs.Answers.{blank, accepted, expected, v2-data, v2-of}
 use Rattle.look.specs.Laws.Bounds.{bounded, most-bytes}
-use Rattle.look_words.specs.LookWords.{word}
 
 abbrev pub KeptText : Text → Type 0
-KeptText (lent n) = (word (n .place) ≡ n .place) × (word (n .length) ≡ n .length)
+KeptText (lent n) = (word32 (n .place) ≡ n .place) × (word32 (n .length) ≡ n .length)
 KeptText (letters xs) = Unit {0}
 
 -- each name of the fields
@@ -35,9 +35,6 @@ Kept (times n a) f = All (Kept a) f
 Kept (leading b n a) f = Unit {0}
 Kept (region o m a) f = Unit {0}
 Kept nothing f = Unit {0}
-
-pub word-same : (n : ℕ) → n < 2 ^ 32 → word n ≡ n
-word-same n h = mod-eq-of-lt h
 
 -- ---- names that lie in fewer than 2^32 bytes
 

@@ -6,6 +6,8 @@ use native.Mathlib.Omega.{arith}
 use lib.ListN.{length, replicate, length-append}
 use Rattle.sizes.specs.Sizes.{look-words, look-answer-words}
 use Rattle.layout.specs.Layout.{Layout, _▸_, spellAll, Bytes}
+use Rattle.layout.specs.Words.{word32}
+use Rattle.layout.specs.Laws.Words.{word-same}
 use Rattle.layout.specs.Read.{read}
 use Rattle.store.specs.Fields.{Fields}
 use Rattle.look.specs.declared.Separator.{Separator}
@@ -26,8 +28,7 @@ use Rattle.look.specs.Values.{_&_}
 use Rattle.look.specs.Answers.{refused, outcome, expected}
 use Rattle.look.specs.Laws.RefusedExactly.{refused-exactly, place-within}
 use Rattle.look_words.specs.LookWords as named
-use Rattle.look_words.specs.LookWords.{word, lookWords}
-use Rattle.look_words.specs.Laws.Kept.{word-same}
+use Rattle.look_words.specs.LookWords.{lookWords}
 use Rattle.look_words.specs.FieldWords.{textWords, words, fieldWords, answerWords}
 
 separator-same : (x : Separator) → words grammar.Separator (values.separator x) ≡ named.separator x
@@ -99,10 +100,10 @@ look-long x = simp (length-append, separator-long)
 
 abbrev pub codeWords : Answer → List ℕ
 codeWords (Accepted x) = 0 ∷ 0 ∷ lookWords x
-codeWords (Refused n p) = n ∷ word p ∷ replicate look-words 0
+codeWords (Refused n p) = n ∷ word32 p ∷ replicate look-words 0
 
 -- the place of a refusal loses no bit
-pub place-same : (s : List ℕ) → Bytes s → {n p : ℕ} → refused n p ≡ expected (read TableLook s 0) → word p ≡ p
+pub place-same : (s : List ℕ) → Bytes s → {n p : ℕ} → refused n p ≡ expected (read TableLook s 0) → word32 p ≡ p
 place-same s h {n} {p} e =
     let r = refused-exactly s h (Refused n p) e n p .0 refl in
     word-same p (omega (arith, place-within r))

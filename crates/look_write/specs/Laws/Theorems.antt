@@ -15,6 +15,7 @@ use Rattle.layout.specs.declared.Step.the-variants.{Next, Refused}
 use Rattle.layout.specs.Layout.{Tree, spell, Bytes, Derivation, pick}
 use Rattle.layout.specs.Read.{Got, got, no, read}
 use Rattle.layout.specs.Laws as laws
+use Rattle.layout.specs.Laws.Tests.{and-is-true}
 use Rattle.layout.specs.Reads.{chain}
 use Rattle.store.specs.Fields.{Fields, placed, bytesOf, textOf, resolve}
 use Rattle.store.specs.Check.{check}
@@ -72,10 +73,6 @@ same-look x s y s′ h h′ e = record {
   v2 = v2-resolved (eqb (x .version) 2) s (x .v2) h ∙ ap v2-tree e ∙ sym (v2-resolved (eqb (y .version) 2) s′ (y .v2) h′);
 }
 
-and-true : (a b : Bool) → a && b ≡ true → (a ≡ true) × (b ≡ true)
-and-true true b e = (refl, e)
-and-true false b e = absurd (false≢true e)
-
 undrawn-is : (x : Separator) → undrawn x ≡ true → x ≡ NotDrawn
 undrawn-is NotDrawn e = refl
 undrawn-is (Drawn c s w) e = absurd (false≢true e)
@@ -84,28 +81,28 @@ undrawn-is (Drawn c s w) e = absurd (false≢true e)
 frame-blank : (x : Frame) → frame-undrawn x ≡ true → x ≡ blank .frames .inner
 unfolding frame-undrawn
 frame-blank x e =
-    let a = and-true (undrawn (x .left)) _ e in
-    let b = and-true (undrawn (x .right)) _ (a .1) in
-    let c = and-true (undrawn (x .top)) _ (b .1) in
+    let a = and-is-true (undrawn (x .left)) _ e in
+    let b = and-is-true (undrawn (x .right)) _ (a .1) in
+    let c = and-is-true (undrawn (x .top)) _ (b .1) in
     rw (undrawn-is (x .left) (a .0), undrawn-is (x .right) (b .0), undrawn-is (x .top) (c .0), undrawn-is (x .bottom) (c .1))
 
 frames-blank : (x : Frames) → frames-undrawn x ≡ true → x ≡ blank .frames
 unfolding frames-undrawn
 frames-blank x e =
-    let a = and-true (undrawn (x .title)) _ e in
-    let b = and-true (frame-undrawn (x .inner)) _ (a .1) in
-    let c = and-true (frame-undrawn (x .outer)) _ (b .1) in
-    let d = and-true (undrawn (x .«data_left»)) _ (c .1) in
+    let a = and-is-true (undrawn (x .title)) _ e in
+    let b = and-is-true (frame-undrawn (x .inner)) _ (a .1) in
+    let c = and-is-true (frame-undrawn (x .outer)) _ (b .1) in
+    let d = and-is-true (undrawn (x .«data_left»)) _ (c .1) in
     rw (undrawn-is (x .title) (a .0), frame-blank (x .inner) (b .0), frame-blank (x .outer) (c .0), undrawn-is (x .«data_left») (d .0), undrawn-is (x .«data_top») (d .1))
 
 no-data-of : (s : List ℕ) (x : V2Styles) → no-v2 x ≡ true → resolve grammar.V2Styles s (values.v2-styles x) ≡ no-data
 unfolding no-v2 no-data resolve textOf bytesOf
 no-data-of s x e =
-    let a = and-true (frames-undrawn (x .frames)) _ e in
-    let b = and-true (eqb (x .continuation .length) 0) _ (a .1) in
-    let c = and-true (eqb (x .«min_col_width») 0) _ (b .1) in
-    let d = and-true (eqb (x .«max_col_width») 0) _ (c .1) in
-    let f = and-true (eqb (x .«min_row_height») 0) _ (d .1) in
+    let a = and-is-true (frames-undrawn (x .frames)) _ e in
+    let b = and-is-true (eqb (x .continuation .length) 0) _ (a .1) in
+    let c = and-is-true (eqb (x .«min_col_width») 0) _ (b .1) in
+    let d = and-is-true (eqb (x .«max_col_width») 0) _ (c .1) in
+    let f = and-is-true (eqb (x .«min_row_height») 0) _ (d .1) in
     rw (
       frames-blank (x .frames) (a .0),
       eqb-true (x .continuation .length) 0 (b .0),

@@ -14,11 +14,12 @@ use Rattle.layout.specs.Layout.{Order, Test, passes, Fill, exact, optional, ope
 use Rattle.layout.specs.Numbers.{refusal}
 use Rattle.layout.specs.Laws as laws
 use Rattle.layout.specs.Reads.{chain, verdict}
+use Rattle.layout.specs.Steps.Numbers.{broken}
 use Rattle.store.specs.Fields.{Text, FieldsIn, Fields, textOf, resolveAll, resolveIn, resolve, bytesIn, contentIn}
 use Rattle.store.specs.Put.{textVerdict, freeVerdict, runVerdict}
 use Rattle.store.specs.Check.{placeOf, judged, checkAll, checkIn, check}
 use Rattle.store.specs.Unwritable.{textLength, Inside, Outside, WritableIn, Writable, Unwritable, number-wrong, number-then, text-long, text-outside, first, second, here, later, run-long, run-then, content, optional-content, open-content, free-outside}
-use Rattle.store.specs.Laws.Verdicts.{NumberCase, number-good, number-bad, number-case, TextCase, text-good, text-longer, text-out, text-case, FreeCase, free-good, free-out, free-case, RunCase, run-good, run-longer, run-case, bad-verdict, long-verdict, out-verdict, free-verdict, longer-run, good-run, not-outside}
+use Rattle.store.specs.Laws.Verdicts.{NumberCase, number-good, number-bad, number-case, TextCase, text-good, text-longer, text-out, text-case, FreeCase, free-good, free-out, free-case, RunCase, run-good, run-longer, run-case, long-verdict, out-verdict, free-verdict, longer-run, good-run, not-outside}
 
 -- ---- how many bytes fields have
 
@@ -203,7 +204,7 @@ writable-answer (can-not u) h = absurd (not-both u h)
 
 refused : {s : List ℕ} {g : Layout} {f : Fields g} {at n p : ℕ} → Unwritable s g f at n p → check g s f at ≡ Refused n p
 unfolding check checkAll checkIn judged chain pick verdict
-refused (number-wrong {test = test} {f = f} e) = rw (e, bad-verdict test (f .0) e)
+refused (number-wrong {test = test} {f = f} e) = rw (e, broken test (f .0) e)
 refused (number-then e u) = rw (e, refused u)
 refused {s} (text-long {w = w} {f = f} h) = rw (long-verdict w s f h)
 refused {s} (text-outside {w = w} {f = f} h l) = rw (out-verdict w s f h l)

@@ -10,9 +10,9 @@ use lib.ListN.{length, take, drop, replicate, length-append, length-drop, length
 use lib.Seq.{take-at, drop-at, drop-drop}
 use Rattle.layout.specs.declared.Step.{Step}
 use Rattle.layout.specs.declared.Step.the-variants.{Next, Refused}
-use Rattle.layout.specs.Layout.{Order, passes, Fill, exact, optional, open-ended, Filled, Layout, empty, number, string, _▸_, times, leading, region, nothing, Tree, digits, spellAll, spellFill, spell, Bytes, no-bytes, byte, All, all-none, all-more, Leads, ValidFill, Valid}
+use Rattle.layout.specs.Layout.{Order, passes, Fill, exact, optional, open-ended, Filled, Layout, empty, number, string, _▸_, times, leading, region, nothing, Tree, digits, spellAll, spellFill, spell, Bytes, All, all-none, all-more, Leads, ValidFill, Valid}
 use Rattle.layout.specs.Laws as laws
-use Rattle.layout.specs.Steps.Slices.{drop-bytes}
+use Rattle.layout.specs.Steps.Slices.{drop-bytes, take-bytes}
 use Rattle.store.specs.declared.Name.{Name}
 use Rattle.store.specs.Fields.{Text, lent, letters, FieldsIn, Fields, placedAll, placedIn, placed, bytesOf, textOf, resolveAll, resolveIn, resolve, bytesIn, contentIn}
 use Rattle.store.specs.Unwritable.{textLength, Inside, WritableIn, Writable}
@@ -133,11 +133,6 @@ check-placed g t v s at r h =
     writable-exactly g s (placed g t at) at (at + length (spell g t)) .1 (writable-placed g t v s at r h, e)
 
 -- ---- fields that fit and can be written are a valid tree's
-
-pub take-bytes : (n : ℕ) {s : List ℕ} → Bytes s → Bytes (take n s)
-take-bytes zero h = no-bytes
-take-bytes (suc n) no-bytes = no-bytes
-take-bytes (suc n) (byte h hs) = byte h (take-bytes n hs)
 
 text-valid : (s : List ℕ) → Bytes s → (t : Text) → FitText t → Bytes (textOf s t)
 unfolding textOf bytesOf

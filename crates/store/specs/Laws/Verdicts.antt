@@ -8,9 +8,10 @@ use lib.ListN.{length, take, drop, length-drop}
 use lib.Seq.{length-take-le}
 use lib.Dec.{eqb, leb, ltb}
 use borrow.Author.Tests.{leb-true, leb-false, ltb-true, ltb-false}
-use Rattle.layout.specs.Layout.{Test, any-number, the-number, a-version, a-bool, at-most, one-of, a-color, passes, pick}
+use Rattle.layout.specs.Layout.{Test, passes, pick}
 use Rattle.layout.specs.Numbers.{refusal, too-short, differs, limit-passed}
 use Rattle.layout.specs.Reads.{verdict}
+use Rattle.layout.specs.Steps.Numbers.{broken}
 use Rattle.store.specs.declared.Name.{Name}
 use Rattle.store.specs.Fields.{Text, lent, letters, bytesOf, textOf}
 use Rattle.store.specs.Put.{textVerdict, freeVerdict, runVerdict}
@@ -20,16 +21,6 @@ use Rattle.store.specs.Unwritable.{textLength, Inside, Outside}
 pub data NumberCase (test : Test) (n : ℕ) : ℕ → Type 0 where
   number-good : passes test n ≡ true → NumberCase test n 0
   number-bad : passes test n ≡ false → eqb (refusal test) 0 ≡ false → NumberCase test n (refusal test)
-
-broken : (test : Test) (v : ℕ) → passes test v ≡ false → eqb (refusal test) 0 ≡ false
-unfolding passes refusal
-broken any-number v e = cc
-broken (the-number k) v e = refl
-broken (a-version ks) v e = refl
-broken a-bool v e = refl
-broken (at-most k) v e = refl
-broken (one-of ks) v e = refl
-broken a-color v e = refl
 
 pub number-case : (test : Test) (n : ℕ) → NumberCase test n (verdict test n)
 unfolding verdict pick
@@ -99,9 +90,6 @@ not-outside s (lent n) i o = omega arith
 not-outside s (letters xs) i o = o
 
 -- ---- which verdict a case has
-
-pub bad-verdict : (test : Test) (n : ℕ) → passes test n ≡ false → eqb (refusal test) 0 ≡ false
-bad-verdict = broken
 
 pub long-verdict : (w : ℕ) (s : List ℕ) (t : Text) → 256 ^ w ≤ textLength t → textVerdict w s t ≡ limit-passed
 long-verdict w s t h = go (text-case w s t)
