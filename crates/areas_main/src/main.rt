@@ -3,6 +3,7 @@
 use libc::STDIN_FILENO;
 use libc::STDOUT_FILENO;
 use member::Answer;
+use report::LINE_BYTES;
 use sizes::CELL_WORDS;
 use sizes::NODE_WORDS;
 
@@ -12,7 +13,9 @@ const NODES: usize = 9 * NODE_WORDS;
 const CELLS: usize = 10 * CELL_WORDS;
 
 fn counts(a: Answer) {
-    report::print::line(a);
+    let mut out = [0u8; LINE_BYTES];
+    let k = report::line(a, &mut out);
+    io::write_all(STDOUT_FILENO, &out[..k]);
     io::print_decimal(STDOUT_FILENO, a.nodes as u64);
     io::write_all(STDOUT_FILENO, b" ");
     io::print_decimal(STDOUT_FILENO, a.cells as u64);

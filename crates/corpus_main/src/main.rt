@@ -3,6 +3,7 @@
 mod places;
 
 use libc::STDOUT_FILENO;
+use report::LINE_BYTES;
 
 fn named(name: &[u8], sections: bool) {
     let mut buf = io::large_buffer();
@@ -17,11 +18,14 @@ fn named(name: &[u8], sections: bool) {
         return;
     }
     io::write_all(STDOUT_FILENO, b" ");
+    let mut out = [0u8; LINE_BYTES];
     if got.more {
-        report::print::refusal(1, 0);
+        let k = report::refusal(1, 0, &mut out);
+        io::write_all(STDOUT_FILENO, &out[..k]);
         return;
     }
-    report::print::member(&buf[..n]);
+    let k = report::member_line(&buf[..n], &mut out);
+    io::write_all(STDOUT_FILENO, &out[..k]);
 }
 
 // The argument, and whether sections are asked for after it.

@@ -1,6 +1,7 @@
 // The place after each section of a member from Header to Formats, or the refusal of the first section that is refused.
 use layout::Step;
 use libc::STDOUT_FILENO;
+use report::LINE_BYTES;
 
 // The place, or the refusal and the end of the line; and whether to go on.
 fn told(st: Step) -> bool {
@@ -12,7 +13,9 @@ fn told(st: Step) -> bool {
         }
         Step::Refused(number, place) => {
             io::write_all(STDOUT_FILENO, b" ");
-            report::print::refusal(number, place);
+            let mut out = [0u8; LINE_BYTES];
+            let k = report::refusal(number, place, &mut out);
+            io::write_all(STDOUT_FILENO, &out[..k]);
             false
         }
     }
@@ -41,7 +44,7 @@ fn later(s: &[u8], st: Step) {
     }
 }
 
-pub fn line(s: &[u8]) {
+pub(crate) fn line(s: &[u8]) {
     let st = sections::header::header(s, Step::Next(0));
     if !told(st) {
         return;

@@ -2,6 +2,7 @@
 // number, its length and its bytes in hexadecimal.
 use libc::STDIN_FILENO;
 use libc::STDOUT_FILENO;
+use report::LINE_BYTES;
 use sizes::CELL_AREA;
 use sizes::NODE_AREA;
 
@@ -47,7 +48,9 @@ fn answer(s: &[u8]) {
     let mut nodes = [0u32; NODE_AREA];
     let mut cells = [0u32; CELL_AREA];
     let a = member::read_member(s, &mut nodes, &mut cells);
-    report::print::line(a);
+    let mut out = [0u8; LINE_BYTES];
+    let k = report::line(a, &mut out);
+    text(&out[..k]);
     if a.refusal == 0 {
         names(s, &nodes, a.nodes as usize);
     }
@@ -57,7 +60,9 @@ fn main() {
     let mut buf = io::large_buffer();
     let got = input::read(STDIN_FILENO, &mut buf);
     if got.more {
-        report::print::refusal(1, 0);
+        let mut out = [0u8; LINE_BYTES];
+        let k = report::refusal(1, 0, &mut out);
+        text(&out[..k]);
         return;
     }
     let n = got.bytes;

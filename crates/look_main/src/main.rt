@@ -5,7 +5,14 @@ use libc::STDIN_FILENO;
 use libc::STDOUT_FILENO;
 use look::Answer;
 use look_write::Written;
+use report::LINE_BYTES;
 use sizes::LONGEST_LOOK;
+
+fn refused(n: u32, place: usize) {
+    let mut out = [0u8; LINE_BYTES];
+    let k = report::refusal(n, place, &mut out);
+    io::write_all(STDOUT_FILENO, &out[..k]);
+}
 
 fn rewrite(file: &[u8]) {
     let answer = look::read::read_look(file);
@@ -17,10 +24,10 @@ fn rewrite(file: &[u8]) {
                 Written::Length(n) => {
                     io::write_all(STDOUT_FILENO, bytes(&out, Span::Of(0, n)));
                 }
-                Written::Refused(n, p) => report::print::refusal(n, p),
+                Written::Refused(n, p) => refused(n, p),
             }
         }
-        Answer::Refused(n, p) => report::print::refusal(n, p),
+        Answer::Refused(n, p) => refused(n, p),
     }
 }
 

@@ -1,3 +1,5 @@
 pub mod Text
 pub mod Lines
+pub mod MemberLine
 pub mod Laws
+pub mod Examples

@@ -1,6 +1,5 @@
 -- What is printed of an answer.
 use Prim.Native.Nat.{ℕ, suc, zero, _+_, _*_}
-use mathlib.Core.Path.{_≡_}
 use mathlib.Core.Bool.{cond}
 use mathlib.Core.List.{List, [], _∷_, _++_}
 use lib.Dec.{eqb}
@@ -56,9 +55,13 @@ unfoldable pub tableOf : List ℕ → ℕ → ℕ → List ℕ → List ℕ
 tableOf name size zero ws = []
 tableOf name size (suc n) ws = tableOf name size n ws ++ rowOf name (take size (drop (n * size) ws))
 
--- the bytes of the longest row of that many words, of ten digits each
+-- " " and ten digits
+abbrev pub word-bytes : ℕ
+word-bytes = 11
+
+-- the bytes of the longest row of that many words
 abbrev pub row-bytes : List ℕ → ℕ → ℕ
-row-bytes name size = length name + 11 * size + 1
+row-bytes name size = length name + word-bytes * size + 1
 
 -- the names of the rows
 abbrev pub dimension : List ℕ

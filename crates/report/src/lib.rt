@@ -1,5 +1,4 @@
 // What the programs print of an answer, into a buffer that is lent.
-pub mod print;
 mod rows;
 mod text;
 
@@ -7,6 +6,7 @@ ghost use mathlib.Core.Path.{_≡_};
 ghost use Prim.Native.Nat.{_≤_};
 ghost use lib.ListN.{length};
 ghost use Rattle.report.specs.Text.{Puts, Printed};
+ghost use Rattle.report.specs.MemberLine.{MemberLine};
 ghost use Rattle.report.specs.Lines.{refusedOf, acceptedOf, lineOf, line-bytes, shapeOf, shape-bytes, recordsOf, records-bytes};
 use crate::rows::part;
 use crate::rows::row;
@@ -15,11 +15,13 @@ use crate::text::counted;
 use crate::text::number;
 use crate::text::put;
 use member::Answer;
+use sizes::CELL_AREA;
 use sizes::CELL_WORDS;
 use sizes::DIMENSION_WORDS;
 use sizes::MOST_CELLS;
 use sizes::MOST_DIMENSIONS;
 use sizes::MOST_NODES;
+use sizes::NODE_AREA;
 use sizes::NODE_WORDS;
 
 // The longest line: three counts of ten digits.
@@ -89,6 +91,16 @@ pub fn line(a: Answer, out: &mut [u8]) -> usize
     } else {
         refusal(a.refusal, a.place, out)
     }
+}
+
+// The line of a member, read with areas that suffice for every one.
+pub fn member_line(member: &[u8], out: &mut [u8]) -> usize
+    ensures { λ r. ⌜ MemberLine (now (member .entry)) (now (out .entry)) (now (out .exit)) r ⌝ }
+{
+    let mut nodes = [0u32; NODE_AREA];
+    let mut cells = [0u32; CELL_AREA];
+    let a = member::read_member(member, &mut nodes, &mut cells);
+    line(a, out)
 }
 
 // ---- the records of an accepted member, one to a line

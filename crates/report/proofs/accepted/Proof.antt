@@ -1,3 +1,4 @@
+-- The pieces of the line, one after the other.
 use borrow.Author.Needs.{needs}
 use Rattle.report.specs.Laws.Puts.{_▹_}
 use Rattle.report.proofs.accepted.Statement.{statement}

@@ -1,3 +1,4 @@
+-- What comes before the nodes, the nodes and the cells, one after the other; nothing where they may not fit.
 use Prim.Native.Nat.{_≤_}
 use mathlib.Core.Path.{_≡_}
 use borrow.Author.Needs.{needs}

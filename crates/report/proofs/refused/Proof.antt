@@ -1,3 +1,4 @@
+-- The pieces of the line, one after the other; a place has at most 20 digits.
 use Prim.Native.Nat.{_≤_}
 use borrow.Author.Needs.{needs}
 use native.Mathlib.Omega.{arith}

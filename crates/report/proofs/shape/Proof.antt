@@ -1,3 +1,4 @@
+-- The table and the two rows, one after the other.
 use mathlib.Core.Path.{_≡_, ap}
 use borrow.Author.Needs.{needs}
 use native.Mathlib.Omega.{arith}

@@ -1,23 +1,22 @@
 -- The fewest digits of `io::decimal` are those of `decimal`, and how many they are at most.
 use Prim.Native.Nat.{ℕ, suc, zero, _+_, _-_, _/_, _≤_, _<_, _^_}
-use mathlib.Core.Path.{_≡_, refl, sym, ap, _∙_}
+use mathlib.Core.Path.{_≡_, refl, sym, ap}
 use mathlib.Core.Bool.{Bool, true, false, cond}
-use mathlib.Core.List.{List, [], _∷_, _++_}
 use native.Mathlib.Nat.{pow-le-pow-right}
 use native.Mathlib.Omega.{arith}
-use borrow.Author.Tests.{ltb-true, ltb-false, lt-ltb, le-ltb}
+use borrow.Author.Tests.{ltb-true, ltb-false}
 use lib.Dec.{ltb}
 use lib.ListN.{length, length-append}
 use Rattle.io.specs.Digits.{digits, Fewest}
 use Rattle.report.specs.Text.{places, decimal}
 
-pub length-digits : (b k n : ℕ) → length (digits b k n) ≡ k
+length-digits : (b k n : ℕ) → length (digits b k n) ≡ k
 length-digits b zero n = refl
 length-digits b (suc k) n = simp length-append (omega (arith, length-digits b k (n / b)))
 
--- n has no more than m digits where it is below 10 ^ m
-pub few : (m : ℕ) {n r : ℕ} → Fewest 10 1 n r → 1 ≤ m → n < 10 ^ m → r ≤ m
-few m {n} {r} f lo h = by (ltb m r) refl
+-- the fewest digits of n are at most m where n is below 10 ^ m
+pub most-digits : (m : ℕ) {n r : ℕ} → Fewest 10 1 n r → 1 ≤ m → n < 10 ^ m → r ≤ m
+most-digits m {n} {r} f lo h = by (ltb m r) refl
   where
     by : (b : Bool) → ltb m r ≡ b → r ≤ m
     by false e = ltb-false m r e
@@ -43,7 +42,7 @@ places-is (suc fuel) k {n} {r} f lo h up = by (ltb n (10 ^ k)) refl (places-is f
     by : (b : Bool) → ltb n (10 ^ k) ≡ b
         → (1 ≤ suc k → suc k ≤ r → r ≤ suc k + fuel → places fuel (suc k) n ≡ r)
         → cond (ltb n (10 ^ k)) k (places fuel (suc k) n) ≡ r
-    by true e ih = rw e (omega (arith, few k f lo (ltb-true n (10 ^ k) e)))
+    by true e ih = rw e (omega (arith, most-digits k f lo (ltb-true n (10 ^ k) e)))
     by false e ih =
         let gt : k < r = below k r (ltb-false n (10 ^ k) e) (f .1) in
         rw e (ih (omega arith) (omega arith) (omega arith))
@@ -54,9 +53,9 @@ unfolding decimal
 is-decimal {n} {r} f h = ap (λ (k : ℕ). digits 10 k n) (sym (places-is 19 1 f (omega arith) (f .0) (omega arith)))
 
 -- a number below 10 ^ m has at most m digits
-places-few : (m : ℕ) {n : ℕ} → n < 10 ^ m → (fuel k : ℕ) → k ≤ m → places fuel k n ≤ m
-places-few m h zero k le = le
-places-few m {n} h (suc fuel) k le = by (ltb n (10 ^ k)) refl (places-few m h fuel (suc k))
+most-places : (m : ℕ) {n : ℕ} → n < 10 ^ m → (fuel k : ℕ) → k ≤ m → places fuel k n ≤ m
+most-places m h zero k le = le
+most-places m {n} h (suc fuel) k le = by (ltb n (10 ^ k)) refl (most-places m h fuel (suc k))
   where
     by : (b : Bool) → ltb n (10 ^ k) ≡ b → (suc k ≤ m → places fuel (suc k) n ≤ m)
         → cond (ltb n (10 ^ k)) k (places fuel (suc k) n) ≤ m
@@ -65,4 +64,4 @@ places-few m {n} h (suc fuel) k le = by (ltb n (10 ^ k)) refl (places-few m h fu
 
 pub length-decimal : (m n : ℕ) → 1 ≤ m → n < 10 ^ m → length (decimal n) ≤ m
 unfolding decimal
-length-decimal m n lo h = rw (length-digits 10 (places 19 1 n) n) (places-few m h 19 1 lo)
+length-decimal m n lo h = rw (length-digits 10 (places 19 1 n) n) (most-places m h 19 1 lo)

@@ -1,7 +1,7 @@
 -- One text after the other.
-use Prim.Native.Nat.{ℕ, suc, zero, _+_, _≤_}
+use Prim.Native.Nat.{ℕ, _+_, _≤_}
 use mathlib.Core.Path.{_≡_, refl, sym, ap, _∙_}
-use mathlib.Core.List.{List, [], _∷_, _++_, append-assoc, append-nil}
+use mathlib.Core.List.{List, [], _++_, append-assoc, append-nil}
 use mathlib.Core.Bool.{true, false}
 use native.Mathlib.Nat.{add-assoc, add-zero}
 use native.Mathlib.Omega.{arith}
@@ -31,9 +31,8 @@ paste-paste b xs ys at h =
       ← add-assoc at (length xs) (length ys),
     )
 
--- nothing put
-pub none : {b : List ℕ} {at : ℕ} → at ≤ length b → Puts [] b at b at
-none {b} {at} h =
+pub nothing : {b : List ℕ} {at : ℕ} → at ≤ length b → Puts [] b at b at
+nothing {b} {at} h =
     record {
       buffer = sym (rw (add-zero at, append-nil (take at b)) (take-append-drop at b));
       next = omega arith;
@@ -64,4 +63,4 @@ module _ {most : ℕ} {xs b b' : List ℕ} {r : ℕ} where
 pub unprinted : {most : ℕ} {xs b : List ℕ} → leb most (length b) ≡ false → Printed most xs b b 0
 unprinted {most} {xs} {b} e =
     let t : fitting most b xs ≡ [] = rw e in
-    record { text = rw t (none (omega arith)); count = (omega arith, refl) }
+    record { text = rw t (nothing (omega arith)); count = (omega arith, refl) }

@@ -1,6 +1,6 @@
 -- Words, rows and tables, one more at a time.
-use Prim.Native.Nat.{ℕ, suc, zero, _+_, _*_, _≤_, _<_, min}
-use mathlib.Core.Path.{_≡_, refl, sym, ap, _∙_}
+use Prim.Native.Nat.{ℕ, _+_, _*_, _≤_, _<_, min}
+use mathlib.Core.Path.{_≡_, refl}
 use mathlib.Core.Bool.{Bool, true, false}
 use mathlib.Core.List.{List, [], _∷_, _++_, append-assoc, append-nil}
 use native.Mathlib.Nat.{suc-mul, mul-le-mul-right}
@@ -51,8 +51,8 @@ next-row size i from len e = rw (add-one, suc-mul) (omega arith)
 pub one-more : (m i at₀ : ℕ) {at r : ℕ} → at ≤ at₀ + i * m → r ≤ at + m → r ≤ at₀ + (i + 1) * m
 one-more m i at₀ h g = rw (add-one, suc-mul) (omega arith)
 
-pub left : (m i n at₀ len : ℕ) {at : ℕ} → at ≤ at₀ + i * m → i < n → at₀ + n * m ≤ len → at + m ≤ len
-left m i n at₀ len h lt fits = omega (arith, suc-mul i m, mul-le-mul-right m lt)
+pub rows-left : (m i n at₀ len : ℕ) {at : ℕ} → at ≤ at₀ + i * m → i < n → at₀ + n * m ≤ len → at + m ≤ len
+rows-left m i n at₀ len h lt fits = omega (arith, suc-mul i m, mul-le-mul-right m lt)
 
 -- a part has no more words than were asked for
 pub length-part : (size from : ℕ) (ws : List ℕ) → length (take size (drop from ws)) ≤ size

@@ -1,3 +1,4 @@
+-- Each way to end is the part that was asked for.
 use Prim.Native.Nat.{_+_, _-_, _<_}
 use mathlib.Core.Path.{_≡_, sym, _∙_}
 use borrow.Author.Needs.{needs}

@@ -1,3 +1,4 @@
+-- After i turns the first i words are put.
 use Prim.Native.Nat.{_+_, _-_, _*_, _≤_}
 use mathlib.Core.Path.{_≡_}
 use borrow.Author.Needs.{needs}
@@ -6,7 +7,7 @@ use lib.ListN.{length, take, getD}
 use lib.Seq.{take-all}
 use Rattle.report.specs.Text.{Puts}
 use Rattle.report.specs.Lines.{wordsOf}
-use Rattle.report.specs.Laws.Puts.{_▹_, none}
+use Rattle.report.specs.Laws.Puts.{_▹_, nothing}
 use Rattle.report.specs.Laws.Rows.{words-suc}
 use Rattle.report.proofs.rows.row.Statement.{statement}
 use Rattle.report.proofs.rows.row.Tie as tie
@@ -20,7 +21,7 @@ abbrev μ-loop : tie.MeasureT-loop
 
 loop-holds : tie.Need-loop-holds Inv-loop μ-loop
 unfolding wordsOf
-loop-holds c = (omega arith, search needs, omega arith, none (omega arith))
+loop-holds c = (omega arith, search needs, omega arith, nothing (omega arith))
 
 loop-again : tie.Need-loop-again Inv-loop μ-loop
 loop-again c =

@@ -1,3 +1,4 @@
+-- After i turns the first i rows are put, and the next row starts at i times its size, or at the end.
 use Prim.Native.Nat.{_+_, _-_, _*_, _≤_, min}
 use mathlib.Core.Path.{_≡_, ap, _∙_}
 use borrow.Author.Needs.{needs}
@@ -5,8 +6,8 @@ use native.Mathlib.Omega.{arith}
 use lib.ListN.{length, take, drop}
 use Rattle.report.specs.Text.{Puts}
 use Rattle.report.specs.Lines.{row-bytes, tableOf}
-use Rattle.report.specs.Laws.Puts.{_▹_, none}
-use Rattle.report.specs.Laws.Rows.{table-suc, drop-min, next-row, one-more, left, length-part}
+use Rattle.report.specs.Laws.Puts.{_▹_, nothing}
+use Rattle.report.specs.Laws.Rows.{table-suc, drop-min, next-row, one-more, rows-left, length-part}
 use Rattle.report.proofs.rows.table.Statement.{statement}
 use Rattle.report.proofs.rows.table.Tie as tie
 
@@ -20,7 +21,7 @@ abbrev μ-loop : tie.MeasureT-loop
 
 loop-holds : tie.Need-loop-holds Inv-loop μ-loop
 unfolding tableOf
-loop-holds c = (omega arith, search needs, omega arith, omega arith, none (omega arith))
+loop-holds c = (omega arith, search needs, omega arith, omega arith, nothing (omega arith))
 
 row-requires : tie.Need-row-requires Inv-loop μ-loop
 row-requires c κs =
@@ -29,7 +30,7 @@ row-requires c κs =
     let a = z .args in
     let l = length-part (a .size) (k .loop .from) (a .words .now) in
     let e = ap length (c .part .ensures) in
-    let f = left (row-bytes (a .name .now) (a .size)) (k .loop .i) (a .n) (a .at) (length (a .out .now)) (k .loop .inv .3)
+    let f = rows-left (row-bytes (a .name .now) (a .size)) (k .loop .i) (a .n) (a .at) (length (a .out .now)) (k .loop .inv .3)
     (omega arith) (z .pre) in
     omega arith
 

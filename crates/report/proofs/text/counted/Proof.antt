@@ -1,3 +1,4 @@
+-- A number and a text, one after the other.
 use Prim.Native.Nat.{_≤_}
 use borrow.Author.Needs.{needs}
 use native.Mathlib.Omega.{arith}

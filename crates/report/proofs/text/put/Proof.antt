@@ -1,3 +1,4 @@
+-- A copy into the rest of the buffer is the text at that place.
 use borrow.Author.Needs.{needs}
 use native.Mathlib.Omega.{arith}
 use Rattle.report.proofs.Parts.{put-rest}

@@ -1,3 +1,4 @@
+-- A space and a number, one after the other.
 use Prim.Native.Nat.{_≤_}
 use borrow.Author.Needs.{needs}
 use native.Mathlib.Omega.{arith}
