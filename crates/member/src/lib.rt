@@ -1,7 +1,7 @@
 // The whole member.
 ghost use mathlib.Core.Path.{_≡_};
 ghost use mathlib.Core.List.{_++_};
-ghost use Prim.Native.Nat.{_+_, _*_, _≤_};
+ghost use Prim.Native.Nat.{_*_, _≤_};
 ghost use lib.ListN.{length, take, drop};
 ghost use Rattle.sizes.specs.Sizes.{member-bytes, most-nodes, most-cells, node-words, cell-words};
 ghost use Rattle.layout.specs.Keeps.{Keeps};

@@ -1,6 +1,6 @@
 -- What a derivation of a category says: its node records, in file order (document 01, "What the caller gets"), and its leaf indexes.
 use mathlib.Core.List.{List, [], _∷_, _++_}
-use Prim.Native.Nat.{ℕ, zero, suc, _+_, _-_}
+use Prim.Native.Nat.{ℕ, zero, suc, _+_}
 use lib.ListN.{length}
 use Rattle.sizes.specs.Sizes.{category-depth, no-parent}
 use Rattle.layout.specs.Layout.{Layout, empty, _▸_, Tree, spell, spellAll}

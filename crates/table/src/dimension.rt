@@ -1,6 +1,6 @@
 // Dimensions: a name, properties and categories; when one ends, its n is known and its leaf indexes are tested.
 ghost use mathlib.Core.Path.{_≡_};
-ghost use Prim.Native.Nat.{_<_, _≤_, _+_, _-_, _*_};
+ghost use Prim.Native.Nat.{_<_, _≤_, _+_, _*_};
 ghost use lib.ListN.{length, drop};
 ghost use lib.Seq.{sets};
 ghost use Rattle.sizes.specs.Sizes.{member-bytes, most-dimensions, most-nodes, dimension-words};

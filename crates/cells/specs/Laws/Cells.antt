@@ -12,7 +12,7 @@ use lib.Seq.{sets, length-sets}
 use Rattle.sizes.specs.Sizes.{member-bytes, most-cells, cell-words}
 use Rattle.layout.specs.declared.Step.{Step}
 use Rattle.layout.specs.declared.Step.the-variants.{Next, Refused}
-use Rattle.layout.specs.Layout.{any-number, little, _▸_, Tree, spell, Bytes, pick}
+use Rattle.layout.specs.Layout.{any-number, little, Tree, spell, Bytes, pick}
 use Rattle.layout.specs.Conventions.{int64}
 use Rattle.layout.specs.Rule.{Rule, plain, _▸▸_, items, tested}
 use Rattle.layout.specs.Read.{bind}
