@@ -2,8 +2,11 @@
 use layout::Step;
 use sizes::MOST_DIMENSIONS;
 
-pub mod axes; // axis entries
-pub mod cells; // cells
+mod axis; // axis entries
+mod cell; // cells
+
+pub use axis::axes;
+pub use cell::cells;
 
 // The bytes that a cell takes at least.
 pub const LEAST_CELL: usize = 9;
@@ -21,7 +24,7 @@ pub struct AxesRead {
 }
 
 // Where axis entries end, or the refusal, and the entries.
-pub struct Entries {
+struct Entries {
     pub end: Step,
     pub order: [u32; MOST_DIMENSIONS],
 }

@@ -1,7 +1,7 @@
 // The whole member.
 ghost use mathlib.Core.Path.{_≡_};
 ghost use mathlib.Core.List.{_++_};
-ghost use Prim.Native.Nat.{_+_, _*_, _≤_};
+ghost use Prim.Native.Nat.{_*_, _≤_};
 ghost use lib.ListN.{length, take, drop};
 ghost use Rattle.sizes.specs.Sizes.{member-bytes, most-nodes, most-cells, node-words, cell-words};
 ghost use Rattle.layout.specs.Keeps.{Keeps};
@@ -18,8 +18,8 @@ ghost use Rattle.member.specs.Laws.Whole as whole;
 ghost use Rattle.member.specs.Laws.Whole.{short-member};
 use cells::AxisCounts;
 use cells::LEAST_CELL;
-use cells::axes::axes;
-use cells::cells::cells as cells_section;
+use cells::axes;
+use cells::cells as cells_section;
 use index::product_of;
 use layout::Step;
 use layout::run::skip;
@@ -35,7 +35,7 @@ use sizes::NODE_WORDS;
 use table::LEAST_CATEGORY;
 use table::Section;
 use table::Walk;
-use table::dimension::dimensions;
+use table::dimensions;
 
 // The bytes of a short member, and the words for the records that so many bytes hold at most.
 const SHORT_MEMBER: usize = 4608;
@@ -45,7 +45,7 @@ const SHORT_NODE_LIST: usize = SHORT_MEMBER / LEAST_CATEGORY * NODE_WORDS;
 const SHORT_CELL_LIST: usize = SHORT_MEMBER / LEAST_CELL * CELL_WORDS;
 
 // What comes after the dimensions: the axes, or the refusal; how many cells there are; and the dimension numbers on the axes.
-pub struct Tail {
+struct Tail {
     pub axes: AxisCounts,
     pub cells: usize,
     pub order: [u32; MOST_DIMENSIONS],
@@ -205,7 +205,7 @@ fn deliver(
     cells: &mut [u32],
 ) -> Answer
     requires { ⌜ (node-words * (a .nodes) ≤ length (now «node_list»)) × (cell-words * (a .cells) ≤ length (now «cell_list»)) × (a .nodes ≤ most-nodes) × (a .cells ≤ most-cells) ⌝ }
-    ensures { λ r. ⌜ spec.Filled a (now («node_list» .entry)) (now («cell_list» .entry)) (now (nodes .entry)) (now (cells .entry)) r (now (nodes .exit)) (now (cells .exit)) ⌝ }
+    ensures { λ r. ⌜ whole.Filled a (now («node_list» .entry)) (now («cell_list» .entry)) (now (nodes .entry)) (now (cells .entry)) r (now (nodes .exit)) (now (cells .exit)) ⌝ }
 {
     let used = a.nodes as usize;
     let m = a.cells as usize;

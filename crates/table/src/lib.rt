@@ -28,7 +28,9 @@ use sizes::MOST_NODES;
 use sizes::NODE_WORDS;
 use value::value;
 
-pub mod dimension; // dimensions
+mod dimension; // dimensions
+
+pub use dimension::dimensions;
 
 // The number -1, as four bytes spell it.
 const MINUS_ONE: u64 = 4294967295;
@@ -50,7 +52,7 @@ pub enum Section {
 
 // What a category begins with: 0 for a leaf or 1 for a group, the length of its name, its last word, how many categories are below it
 // and where they start; or the refusal.
-pub enum NodeStart {
+enum NodeStart {
     Node(u32, u32, u32, u64, usize),
     Refused(u32, usize),
 }
