@@ -11,7 +11,6 @@ use Rattle.layout.specs.declared.Step.{Step}
 use Rattle.layout.specs.declared.Step.the-variants.{Next}
 use Rattle.layout.specs.Layout.{pick}
 use Rattle.member.specs.declared.Answer.{Answer}
-use Rattle.table.specs.Rules.{longest}
 use Rattle.member.specs.Checked.{checked}
 use Rattle.member.specs.Answer.{answerOf, Delivered}
 use Rattle.member.specs.Demand3.{Demand3}
