@@ -8,7 +8,7 @@ use native.Mathlib.Omega.{arith}
 use lib.ListN.{length}
 use lib.Dec.{ltb}
 use borrow.Author.Tests.{ltb-true}
-use Rattle.layout.specs.Layout.{le, digits, spellAll, spellFill, spell, Tree, passes, among, pick, Bytes, no-bytes, byte}
+use Rattle.layout.specs.Layout.{le, digits, spellAll, spellFill, spell, Tree, passes, among, pick, Bytes, no-bytes, byte, size}
 use Rattle.layout.specs.Read.{Got, got, no, lead, read, refusal}
 use Rattle.layout.specs.Check.{check}
 use Rattle.value.specs.Value.{FontStyle, CellStyle, StylePair, TemplatePrefix, TemplateString, Modifiers, ValueMod, ArgumentOf, TemplateOf, Form01, Form02, Form03, Form04, Form05, Form06, RawValueOf, ValueIn, Value}
@@ -16,7 +16,7 @@ use Rattle.sections.specs.Sections.{HeaderFlags, HeaderNumbers, Header, Titles,
 use Rattle.once.specs.Once.{fresh, firstBad}
 use Rattle.index.specs.Index.{product}
 use Rattle.table.specs.Table.{DimProperties}
-use Rattle.table.specs.Records.{sum, nodes as categoryNodes, size, leafIndexes, dimNodes, dimLeaves}
+use Rattle.table.specs.Records.{sum, nodes as categoryNodes, leafIndexes, dimNodes, dimLeaves}
 use Rattle.table.specs.Rules.{categoryRule, leavesAll, treeLeaves, leavesOf, dimensionRule, dimensionsRule, entryRule, axesRule, cellRule, cellsRule}
 use Rattle.member.specs.Member.{Member, dimensions, nodes, cells, MemberDerivation, AsDemanded}
 use Rattle.member.specs.Refused.{memberRule}

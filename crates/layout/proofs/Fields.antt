@@ -2,16 +2,15 @@
 use mathlib.Core.Path.{_≡_, refl, ap, _∙_}
 use mathlib.Core.Bool.{Bool, true, false}
 use mathlib.Core.List.{List}
-use Prim.Native.Nat.{ℕ, _+_, _-_, _≤_, _<_}
-use native.Mathlib.Omega.{arith}
+use Prim.Native.Nat.{ℕ, _+_, _-_}
 use lib.ListN.{length, take, drop, length-drop}
-use lib.Seq.{drop-drop, length-take-le}
+use lib.Seq.{length-take-le}
 use lib.Dec.{eqb, leb}
 use borrow.Author.Tests.{leb-true}
 use Rattle.layout.specs.declared.Step.the-variants.{Next, Refused}
 use Rattle.layout.specs.declared.Span.the-variants.{Of, Not}
 use Rattle.layout.specs.Layout.{Order, pick, undigits}
-use Rattle.layout.specs.Read.{Got, got, no, too-short, bind, readNumber, readCounted}
+use Rattle.layout.specs.Read.{got, no, too-short, bind, readNumber, readCounted}
 use Rattle.layout.specs.Reads.{numberOf, peek, judged, field, spanOf, part}
 
 pub peek-at : (o : Order) (w : ℕ) (s : List ℕ) (at : ℕ) → peek o w s (Next at) ≡ pick (leb w (length s - at)) (undigits o (take w (drop at s))) 0

@@ -1,9 +1,8 @@
 -- The names of source document 003, "Binary Format Conventions", in their order, for the layouts that they stand for.
-use mathlib.Core.Bool.{true, false}
 use mathlib.Core.List.{List, [], _∷_}
 use Prim.Native.Nat.{ℕ}
 use lib.Dec.{eqb}
-use Rattle.layout.specs.Layout.{Order, little, big, Test, any-number, the-number, a-bool, at-most, one-of, Fill, exact, Layout, empty, number, string, times, leading, region, pick}
+use Rattle.layout.specs.Layout.{Order, little, big, Test, any-number, the-number, a-bool, at-most, one-of, exact, Layout, empty, number, string, times, leading, region, pick}
 
 -- a number alone
 abbrev pub field : Order → ℕ → Test → Layout

@@ -124,6 +124,10 @@ spell (region o f a) t =
     digits o 4 (length content) ++ content
 spell nothing t = absurd t
 
+-- how many bytes these are
+unfoldable pub size : (g : Layout) → Tree g → ℕ
+size g t = length (spell g t)
+
 -- ---- which trees are derivations
 
 unfoldable pub among : ℕ → List ℕ → Bool

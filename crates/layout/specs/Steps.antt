@@ -11,5 +11,7 @@ pub mod Rows
 pub mod Least
 pub mod Keeping
 pub mod Slices
+pub mod Spelt
+pub mod Numbered
 
 pub ruleset reads = (then, free-of, tested-of, string-of, nothing-of, switch-of, region-of, leading-of, yes-of, no-of, empty-of)

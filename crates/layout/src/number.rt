@@ -9,11 +9,25 @@ ghost use Rattle.layout.specs.Reads as spec;
 ghost use Rattle.layout.specs.Reads.{Reads, order, verdict};
 use crate::Step;
 
+// From a to e; 0 where e lies before a.
+pub fn between(a: usize, e: usize) -> usize
+    ensures { λ r. ⌜ r ≡ e - a ⌝ }
+{
+    if a <= e { e - a } else { 0 }
+}
+
+// x, as far as limit.
+pub fn at_most(x: usize, limit: usize) -> usize
+    ensures { λ r. ⌜ r ≡ min x limit ⌝ }
+{
+    if x <= limit { x } else { limit }
+}
+
 // How many bytes there are from a position on.
 pub fn left(s: &[u8], at: usize) -> usize
     ensures { λ r. ⌜ r ≡ length (now (s .entry)) - at ⌝ }
 {
-    if at <= s.len() { s.len() - at } else { 0 }
+    between(at, s.len())
 }
 
 // The number that w bytes spell, the lowest first.
@@ -48,7 +62,7 @@ fn high_first(s: &[u8], at: usize, w: usize) -> u64
 pub fn width(w: usize) -> usize
     ensures { λ r. ⌜ r ≡ min w 8 ⌝ }
 {
-    if w <= 8 { w } else { 8 }
+    at_most(w, 8)
 }
 
 fn number(s: &[u8], st: Step, high: bool, w: usize) -> u64
@@ -98,14 +112,14 @@ pub fn field(s: &[u8], st: Step, w: usize, c: u32) -> Step
 
 // ---- verdicts
 
-pub fn only(v: u64, n: u64) -> u32
+fn only(v: u64, n: u64) -> u32
     ensures { λ c. ⌜ c ≡ verdict (the-number n) v ⌝ }
 {
     let same = v == n;
     if same { 0 } else { 3 }
 }
 
-pub fn flag(v: u64) -> u32
+fn flag(v: u64) -> u32
     ensures { λ c. ⌜ c ≡ verdict a-bool v ⌝ }
 {
     let small = v <= 1;
@@ -119,7 +133,7 @@ pub fn limit(v: u64, n: u64) -> u32
     if small { 0 } else { 7 }
 }
 
-pub fn known(v: u64, n: u64) -> u32
+fn known(v: u64, n: u64) -> u32
     ensures { λ c. ⌜ c ≡ verdict (a-version (n ∷ [])) v ⌝ }
 {
     let same = v == n;
@@ -141,7 +155,7 @@ pub fn unless_either(v: u64, a: u64, b: u64, refusal: u32) -> u32
     }
 }
 
-pub fn either(v: u64, a: u64, b: u64) -> u32
+fn either(v: u64, a: u64, b: u64) -> u32
     ensures { λ c. ⌜ c ≡ verdict (one-of (a ∷ b ∷ [])) v ⌝ }
 {
     unless_either(v, a, b, 3)

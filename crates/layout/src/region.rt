@@ -48,7 +48,7 @@ pub fn bytes(s: &[u8], p: Span) -> &[u8]
     }
 }
 
-pub fn past(p: Span) -> Step
+fn past(p: Span) -> Step
     ensures { λ r. ⌜ r ≡ spec.past p ⌝ }
 {
     match p {
@@ -127,7 +127,7 @@ pub fn string(s: &[u8], st: Step, high: bool, w: usize) -> Step
 }
 
 // n strings.
-pub fn strings(s: &[u8], st: Step, high: bool, w: usize, n: u64) -> Step
+fn strings(s: &[u8], st: Step, high: bool, w: usize, n: u64) -> Step
     ensures { λ r. ⌜ Reads (times n (string (order high) (min w 8))) (now (s .entry)) st r ⌝ }
 {
     let mut at = st;

@@ -6,12 +6,12 @@ use mathlib.Core.List.{List, [], _∷_, _++_, map}
 use Prim.Native.Nat.{ℕ, _+_, _*_, _≤_}
 use lib.ListN.{length}
 use Rattle.sizes.specs.Sizes.{member-bytes, most-nodes, most-places, node-words, cell-words}
-use Rattle.layout.specs.Layout.{Layout, _▸_, Tree, spell, Valid, All}
+use Rattle.layout.specs.Layout.{Layout, _▸_, Tree, spell, Valid, All, size}
 use Rattle.sections.specs.Sections.{Front}
 use Rattle.once.specs.Once.{OnceEach}
 use Rattle.index.specs.Index.{product}
 use Rattle.table.specs.Table.{Dimension, Dimensions, Axes, Cell, Cells}
-use Rattle.table.specs.Records.{size, dimNodes, dimLeaves, LeavesOnce, dimsWords, dimsEntries, entryIndex, cellIndex, cellWords, rowsWords, sum, dimsOf, axisLayers, axisRows, axisColumns, axisEntries, cellsOf}
+use Rattle.table.specs.Records.{dimNodes, dimLeaves, LeavesOnce, dimsWords, dimsEntries, entryIndex, cellIndex, cellWords, rowsWords, sum, dimsOf, axisLayers, axisRows, axisColumns, axisEntries, cellsOf}
 
 -- ---- the grammar
 

@@ -1,38 +1,24 @@
--- Leaf indexes in order: what the walk over the nodes has still to find, after those seen, which are all below the next.
-use mathlib.Core.Path.{_≡_, refl, sym, _∙_}
-use mathlib.Core.List.{List, [], _∷_}
+-- The leaf indexes seen so far are all below the next.
+use mathlib.Core.Path.{_≡_, refl, sym}
+use mathlib.Core.List.{List}
 use Prim.Native.Nat.{ℕ, _+_, _-_, _*_, _<_}
 use native.Mathlib.Omega.{arith}
 use borrow.Author.Tests.{lt-ltb}
 use Rattle.sizes.specs.Sizes.{node-words}
-use Rattle.layout.specs.Layout.{all-none, all-more, pick}
-use Rattle.once.specs.declared.Verdict.the-variants.{Fine, Bad}
-use Rattle.once.specs.Once.{word, fresh, leaf, leaves, firstBad}
+use Rattle.layout.specs.Layout.{all-none, all-more}
+use Rattle.once.specs.Once.{word, fresh, leaf}
 use Rattle.once.specs.Laws.Marks.{Below, not-among, higher}
-use Rattle.once.proofs.Walk.{at-leaf, at-group}
+use Rattle.once.proofs.Walk.{Walking, at-start, fresh-leaf}
 
-pub record Ordered (ws : List ℕ) (n first k next i left : ℕ) : Type 0 where
-  pub seen : List ℕ
-  pub under : Below next seen
-  pub same : firstBad n seen (leaves ws i left) ≡ firstBad n [] (leaves ws first k)
+abbrev pub Ordered : List ℕ → ℕ → ℕ → ℕ → ℕ → ℕ → ℕ → Type 0
+Ordered ws n first k next i left = Walking (λ seen. Below next seen) ws n first k i left
 
-pub at-start : (ws : List ℕ) (n first k : ℕ) → Ordered ws n first k 0 first k
-at-start ws n first k = record { seen = []; under = all-none; same = refl }
+pub none-seen : (ws : List ℕ) (n first k : ℕ) → Ordered ws n first k 0 first k
+none-seen ws n first k = at-start all-none refl refl
 
-module _ {ws : List ℕ} {n first k next i left : ℕ} (w : Ordered ws n first k next i left) where
-  pub at-end : left ≡ 0 → firstBad n [] (leaves ws first k) ≡ Fine
-  unfolding leaves firstBad
-  at-end z = sym (w .same) ∙ rw z
-
-  module _ (h : 0 < left) where
-    pub past-group : (word ws (node-words * i) ≡ 0 → ⊥) → Ordered ws n first k next (i + 1) (left - 1)
-    past-group g = record { seen = w .seen; under = w .under; same = rw (at-group ws i left h g) at (w .same) }
-
-    pub past-leaf : word ws (node-words * i) ≡ 0 → leaf ws i .0 ≡ next → next < n → Ordered ws n first k (next + 1) (i + 1) (left - 1)
-    unfolding pick fresh firstBad
-    past-leaf l e b =
-        record {
-          seen = next ∷ w .seen;
-          under = all-more {x = next} (omega arith) (higher (omega arith) (w .under));
-          same = rw (at-leaf ws i left h l, e, lt-ltb next n b, not-among next next (w .under) (omega arith)) at (w .same);
-        }
+pub past-leaf : {ws : List ℕ} {n first k next i left : ℕ} (w : Ordered ws n first k next i left) → 0 < left → word ws (node-words * i) ≡ 0
+    → leaf ws i .0 ≡ next → next < n → Ordered ws n first k (next + 1) (i + 1) (left - 1)
+unfolding fresh
+past-leaf {n = n} {next = next} w h l e b =
+    fresh-leaf w h l next (sym e) (rw (lt-ltb next n b, not-among next next (w .known) (omega arith)))
+    (all-more {x = next} (omega arith) (higher (omega arith) (w .known)))

@@ -11,12 +11,10 @@ use lib.ListN.{length}
 use Rattle.layout.specs.Layout.{among, All, all-none, all-more, pick}
 use Rattle.once.specs.declared.Verdict.{Verdict}
 use Rattle.once.specs.declared.Verdict.the-variants.{Fine, Bad}
-use Rattle.once.specs.Laws.Tests.{or-is-false, and-is-true, eqb-turned}
+use Rattle.layout.specs.Laws.Tests.{or-is-false, and-is-true, eqb-turned}
 use Rattle.once.specs.Once.{fresh, Distinct, OnceEach, AllFresh, Leaf, indexes, firstBad}
-pub mod Tests
 mod Room
 pub mod Marks
-pub mod Search
 
 -- ---- fresh
 

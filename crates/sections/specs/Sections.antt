@@ -1,8 +1,9 @@
 -- Source document 003, the sections from "Header" to "Formats", for version 3, with document 01's choices.
-use mathlib.Core.List.{List, [], _∷_}
+use mathlib.Core.List.{[], _∷_}
 use Prim.Native.Nat.{ℕ}
+use Rattle.sizes.specs.Sizes.{most-footnotes}
 use Rattle.layout.specs.Layout.{little, a-version, optional, open-ended, Layout, empty, _▸_, times, region}
-use Rattle.layout.specs.Conventions.{field, fixed, i, ib, byte, bool, int16, int32, be32, int64, float, lestring, bestring, mark, at-most-many, many, bemany, either, if31, count, becount}
+use Rattle.layout.specs.Conventions.{field, fixed, i, ib, byte, bool, int16, int32, be32, int64, float, lestring, bestring, mark, at-most-many, many, bemany, if31, count, becount}
 use Rattle.value.specs.Value.{Value, StylePair}
 
 -- ---- 003, Header
@@ -33,9 +34,9 @@ Titles = Value ▸ mark 0x01 Value ▸ mark 0x01 (fixed 0x31) ▸ Value ▸ mark
 unfoldable pub Footnote : Layout
 Footnote = Value ▸ if31 Value ▸ int32
 
--- Footnotes => int32[n-footnotes] Footnote*[n-footnotes]; document 01: at most 256
+-- Footnotes => int32[n-footnotes] Footnote*[n-footnotes], within document 01's limit
 unfoldable pub Footnotes : Layout
-Footnotes = at-most-many 256 Footnote
+Footnotes = at-most-many most-footnotes Footnote
 
 -- ---- 003, Areas
 

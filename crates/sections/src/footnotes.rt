@@ -2,13 +2,16 @@
 ghost use Rattle.layout.specs.Layout.{times};
 ghost use Rattle.layout.specs.Reads.{Reads};
 ghost use Rattle.sections.specs.Sections as grammar;
-use crate::titles::optional_value;
+use crate::optional::optional_value;
 use layout::LITTLE;
 use layout::Step;
 use layout::number::any;
 use layout::number::count;
 use layout::number::peek;
+use sizes::MOST_FOOTNOTES;
 use value::value;
+
+const LIMIT: u64 = MOST_FOOTNOTES as u64;
 
 fn footnote(s: &[u8], st: Step) -> Step
     ensures { λ r. ⌜ Reads grammar.Footnote (now (s .entry)) st r ⌝ }
@@ -37,5 +40,5 @@ pub fn footnotes(s: &[u8], st: Step) -> Step
     ensures { λ r. ⌜ Reads grammar.Footnotes (now (s .entry)) st r ⌝ }
 {
     let n = peek(s, st, LITTLE, 4);
-    notes(s, count(s, st, 256), n)
+    notes(s, count(s, st, LIMIT), n)
 }

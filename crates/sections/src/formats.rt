@@ -19,7 +19,7 @@ use layout::region::many_strings;
 use layout::region::part;
 use layout::region::string;
 use layout::rows::many;
-use value::modifier::style_pair;
+use value::style_pair;
 
 fn y0(s: &[u8], st: Step) -> Step
     ensures { λ r. ⌜ Reads grammar.Y0 (now (s .entry)) st r ⌝ }

@@ -12,11 +12,12 @@ use crate::titles::titles;
 use layout::Step;
 
 pub mod areas;
-pub mod arrays;
+mod arrays;
 pub mod borders;
 pub mod footnotes;
 pub mod formats;
 pub mod header;
+mod optional;
 pub mod print_settings;
 pub mod table_settings;
 pub mod titles;

@@ -3,11 +3,10 @@ ghost use Rattle.layout.specs.Conventions as notation;
 ghost use Rattle.layout.specs.Reads.{Reads};
 ghost use Rattle.sections.specs.Sections as grammar;
 ghost use Rattle.value.specs.Value as values;
+use crate::optional::optional_value;
 use layout::LITTLE;
 use layout::Step;
 use layout::number::fixed;
-use layout::number::one_of_two;
-use layout::number::peek;
 use layout::run::skip;
 use value::value;
 
@@ -21,15 +20,6 @@ fn marked_31(s: &[u8], st: Step) -> Step
     ensures { λ r. ⌜ Reads (notation.mark 0x01 (notation.fixed 0x31)) (now (s .entry)) st r ⌝ }
 {
     fixed(s, skip(s, st, 0x01, 1), LITTLE, 1, 0x31)
-}
-
-pub fn optional_value(s: &[u8], st: Step) -> Step
-    ensures { λ r. ⌜ Reads (notation.if31 values.Value) (now (s .entry)) st r ⌝ }
-{
-    let x = peek(s, st, LITTLE, 1);
-    let at = one_of_two(s, st, 0x31, 0x58);
-    let present = x == 0x31;
-    if present { value(s, at) } else { at }
 }
 
 fn marked_optional(s: &[u8], st: Step) -> Step

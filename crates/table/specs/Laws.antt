@@ -1,6 +1,5 @@
 -- What is proved from Table.antt, Records.antt and Rules.antt, and what ties the words that the code stores to the trees.
 -- trees and bytes
-pub mod Spelt
 pub mod Lengths
 pub mod LeastBytes
 pub mod RecordsPoint
@@ -11,7 +10,6 @@ pub mod RulesExamples
 -- the readers
 pub mod Words
 pub mod Within
-pub mod Counted
 pub mod Heads
 pub mod Nodes
 pub mod Leaves

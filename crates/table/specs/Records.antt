@@ -3,7 +3,7 @@ use mathlib.Core.List.{List, [], _∷_, _++_}
 use Prim.Native.Nat.{ℕ, zero, suc, _+_}
 use lib.ListN.{length}
 use Rattle.sizes.specs.Sizes.{category-depth, no-parent}
-use Rattle.layout.specs.Layout.{Layout, empty, _▸_, Tree, spell, spellAll}
+use Rattle.layout.specs.Layout.{Layout, empty, _▸_, Tree, spellAll, size}
 use Rattle.layout.specs.Conventions.{int32}
 use Rattle.once.specs.Once.{OnceEach}
 use Rattle.value.specs.Value.{Value}
@@ -97,10 +97,6 @@ sum f (t ∷ ts) = f t + sum f ts
 unfoldable pub nodes : (d : ℕ) → Tree (CategoryIn d) → ℕ
 nodes zero t = 0
 nodes (suc d) t = 1 + sum (nodes d) (children d t)
-
--- how many bytes a derivation covers
-unfoldable pub size : (g : Layout) → Tree g → ℕ
-size g t = length (spell g t)
 
 -- the words of trees that follow each other, from the node number `used` and the place `at` on
 unfoldable pub wordsAll : {A : Type 0} → (A → ℕ) → (A → ℕ) → (ℕ → ℕ → A → List ℕ) → ℕ → ℕ → List A → List ℕ

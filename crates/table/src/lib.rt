@@ -11,15 +11,16 @@ ghost use Rattle.layout.specs.Read.{read};
 ghost use Rattle.layout.specs.Reads.{Reads, verdict};
 ghost use Rattle.layout.specs.Check.{check};
 ghost use Rattle.layout.specs.Keeps.{Keeps, Each};
+ghost use Rattle.layout.specs.Words.{word32};
 ghost use Rattle.table.specs.Table as grammar;
 ghost use Rattle.table.specs.Records.{Head, nodeRecord};
 ghost use Rattle.table.specs.Rules.{categoryRule, categoriesRule};
-ghost use Rattle.table.specs.Laws.Words.{word32};
 ghost use Rattle.table.specs.Laws.Heads.{HeadRead, nodeOf};
 ghost use Rattle.table.specs.Laws.Nodes as spec;
 use layout::LITTLE;
 use layout::Step;
 use layout::number::any;
+use layout::number::between;
 use layout::number::field;
 use layout::number::fixed;
 use layout::number::peek;
@@ -95,13 +96,6 @@ fn store_node(
     let at = NODE_WORDS * i;
     put_three(nodes, at, kind, dimension, parent);
     put_three(nodes, at + 3, place, size, word);
-}
-
-// How far it is from a to e; 0 where e lies before a.
-fn between(a: usize, e: usize) -> usize
-    ensures { λ r. ⌜ r ≡ e - a ⌝ }
-{
-    if a <= e { e - a } else { 0 }
 }
 
 // The length of what lies from a to e, as a word.

@@ -1,11 +1,11 @@
 -- A Value from its parts, at the depth that the code has.
 use mathlib.Core.Path.{_≡_, refl}
-use mathlib.Core.Bool.{true, false}
+use mathlib.Core.Bool.{true}
 use mathlib.Core.List.{List}
 use Prim.Native.Nat.{ℕ, zero, suc, _-_}
 use native.Mathlib.Numerals.{sub-one}
 use Rattle.layout.specs.declared.Step.{Step}
-use Rattle.layout.specs.Layout.{little, one-of, among, passes, Layout}
+use Rattle.layout.specs.Layout.{little, one-of, passes}
 use Rattle.layout.specs.Conventions.{byte, choose, keys}
 use Rattle.layout.specs.Read.{refusal}
 use Rattle.layout.specs.Reads.{Reads, peek, skip, field, refused}

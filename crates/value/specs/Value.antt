@@ -2,6 +2,7 @@
 use mathlib.Core.List.{List, [], _∷_}
 use Prim.Native.Nat.{ℕ, zero, suc}
 use lib.Dec.{eqb}
+use Rattle.sizes.specs.Sizes.{value-depth}
 use Rattle.layout.specs.Layout.{little, any-number, optional, Layout, empty, number, _▸_, times, leading, region, nothing, pick}
 use Rattle.layout.specs.Conventions.{fixed, i, byte, bool, int16, int32, double, lestring, many, either, if31, alternatives, count}
 
@@ -81,13 +82,13 @@ forms v =
 unfoldable pub RawValueOf : Layout → Layout
 RawValueOf v = alternatives (forms v)
 
--- Value => 00? 00? 00? 00? RawValue, of which d levels may be nested (document 01: one run of 0 to 4 bytes of 00; values nested 8 deep)
+-- Value => 00? 00? 00? 00? RawValue, of which d levels may be nested (document 01: one run of 0 to 4 bytes of 00)
 unfoldable pub ValueIn : ℕ → Layout
 ValueIn zero = nothing
 ValueIn (suc d) = leading 0 4 (RawValueOf (ValueIn d))
 
 unfoldable pub Value : Layout
-Value = ValueIn 8
+Value = ValueIn value-depth
 
 abbrev pub Argument : ℕ → Layout
 Argument d = ArgumentOf (ValueIn d)

@@ -15,8 +15,11 @@ use layout::number::peek;
 use layout::region::nothing;
 use layout::region::string;
 use layout::run::skip;
+use sizes::VALUE_DEPTH;
 
-pub mod modifier; // ValueMod
+mod modifier; // ValueMod
+
+pub use modifier::style_pair;
 
 // ---- what follows the first byte of each form
 
@@ -81,7 +84,7 @@ fn form_06(s: &[u8], st: Step) -> Step
 // ---- a cycle
 
 // A Value, of which `depth` levels may be nested.
-pub fn value_in(s: &[u8], st: Step, depth: usize) -> Step
+fn value_in(s: &[u8], st: Step, depth: usize) -> Step
     ensures { λ r. ⌜ Reads (grammar.ValueIn depth) (now (s .entry)) st r ⌝ }
 {
     if depth == 0 {
@@ -157,5 +160,5 @@ fn values(s: &[u8], st: Step, n: u64, depth: usize) -> Step
 pub fn value(s: &[u8], st: Step) -> Step
     ensures { λ r. ⌜ Reads grammar.Value (now (s .entry)) st r ⌝ }
 {
-    value_in(s, st, 8)
+    value_in(s, st, VALUE_DEPTH)
 }

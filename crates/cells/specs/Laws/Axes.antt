@@ -3,8 +3,8 @@ use mathlib.Core.Path.{_≡_, refl, sym, ap, _∙_}
 use mathlib.Core.Bool.{true, false}
 use mathlib.Core.Option.{none, some}
 use mathlib.Core.List.{List, [], _∷_, _++_, map}
-use Prim.Native.Nat.{ℕ, zero, suc, _+_, _-_, _*_, _≤_}
-use native.Mathlib.Nat.{add-zero, zero-add, suc-add}
+use Prim.Native.Nat.{ℕ, _+_, _-_, _*_, _≤_}
+use native.Mathlib.Nat.{add-zero}
 use native.Mathlib.Omega.{arith}
 use lib.ListN.{length, drop, set, replicate, length-append}
 use lib.Seq.{sets}
@@ -13,7 +13,7 @@ use borrow.Author.Tests.{eqb-true}
 use Rattle.sizes.specs.Sizes.{most-dimensions}
 use Rattle.layout.specs.declared.Step.{Step}
 use Rattle.layout.specs.declared.Step.the-variants.{Next, Refused}
-use Rattle.layout.specs.Layout.{little, any-number, passes, Layout, _▸_, times, Tree, spell, Bytes, pick}
+use Rattle.layout.specs.Layout.{little, any-number, passes, Layout, _▸_, times, Tree, spell, Bytes, pick, size}
 use Rattle.layout.specs.Conventions.{int32}
 use Rattle.layout.specs.Rule.{Rule, plain, items, tested, onto}
 use Rattle.layout.specs.Read.{Got, got, no, bind, read}
@@ -23,12 +23,14 @@ use Rattle.layout.specs.Keeps.{Out, on, off, Keeps, keeps-on, keeps-off, Each}
 use Rattle.layout.specs.Laws.{digits-length}
 use Rattle.layout.specs.Steps.Chain.{_◂_}
 use Rattle.layout.specs.Steps.Keeping.{kept-on}
+use Rattle.layout.specs.Laws.Binds.{bind-ext, times-from, times-add, onto-append, bind-assoc, bind-pick}
+use Rattle.layout.specs.Steps.Spelt.{found-first, Read, read-on, read-off, number-at, peeked, read-number, ReadNumber}
+use Rattle.layout.specs.Words.{word32}
+use Rattle.layout.specs.Laws.Words.{word-same}
 use Rattle.once.specs.Once.{fresh, firsts}
 use Rattle.table.specs.Table.{Axes}
-use Rattle.table.specs.Records.{size, entryIndex, rowsWords, sum, axisLayers, axisRows, axisColumns, axisEntries}
+use Rattle.table.specs.Records.{entryIndex, rowsWords, sum, axisLayers, axisRows, axisColumns, axisEntries}
 use Rattle.table.specs.Rules.{entryRule, threeRule, countsRule}
-use Rattle.table.specs.Laws.Spelt.{found-first, Read, read-on, read-off, number-at, peeked, bind-assoc, bind-pick, read-number, ReadNumber}
-use Rattle.table.specs.Laws.Words.{word32, kept-word}
 use Rattle.cells.specs.declared.AxisCounts.{AxisCounts}
 use Rattle.cells.specs.declared.AxisCounts.the-variants as counts
 use Rattle.cells.specs.Laws.Rows.{Kind, Row, Rows, all-rows, after}
@@ -60,7 +62,7 @@ module _ (s : List ℕ) (b : Bytes s) (at d j : ℕ) (ws : List ℕ) {st : Step}
     fresh-entry f =
         let f′ : fresh d (firsts 1 ws j) (num .found .tree .0) ≡ true = rw (num .is) f in
         let one : 1 * j ≡ j = omega arith in
-        let w : word32 x ≡ num .found .tree .0 = kept-word x (num .says .small) ∙ sym (num .is) in
+        let w : word32 x ≡ num .found .tree .0 = word-same x (num .says .small) ∙ sym (num .is) in
         let kept : Row entry-kind at (j, ws) (num .found .tree) p (j + 1, set ws j (word32 x)) = record { place = num .found .there .place; count = refl; stored = rw (one, w) } in
         rw (num .found .is, f′) (keeps-on refl kept)
 
@@ -97,37 +99,6 @@ pub record AllAxes (t : Tree Axes) (p : ℕ) (y : Order) : Type 0 where
   pub few : length (axisEntries t) ≤ most-dimensions
 
 -- ---- the entries of the three groups, read as one run
-
-bind-ext : {A B : Type 0} (x : Got A) {f g : A → List ℕ → ℕ → Got B} → ((t : A) (r : List ℕ) (p : ℕ) → f t r p ≡ g t r p) → bind x f ≡ bind x g
-unfolding bind
-bind-ext (got t r p) h = h t r p
-bind-ext (no k q) h = refl
-
--- those before, put in front
-times-from : {A : Type 0} (g : List A → List ℕ → ℕ → Got A) (before : List A) (n : ℕ) (done : List A) (s : List ℕ) (at : ℕ)
-    → checkTimes (λ done s₁ at₁. g (done ++ before) s₁ at₁) done n s at ≡ checkTimes g (done ++ before) n s at
-unfolding checkTimes bind
-times-from g before zero done s at = refl
-times-from g before (suc n) done s at =
-    bind-ext (g (done ++ before) s at) (λ t s₁ at₁. rw (times-from g before n (t ∷ done) s₁ at₁))
-
--- n and then m times is n + m times
-bind-again : {A : Type 0} (x : Got A) → bind x (λ u s₂ at₂. got u s₂ at₂) ≡ x
-unfolding bind
-bind-again (got u r p) = refl
-bind-again (no k q) = refl
-
-module _ {A : Type 0} (g : List A → List ℕ → ℕ → Got A) (b : ℕ) where
-  times-add : (a : ℕ) (done : List A) (s : List ℕ) (at : ℕ) → checkTimes g done (a + b) s at
-      ≡ bind (checkTimes g done a s at) (λ ts s₁ at₁. bind (checkTimes g (onto done ts) b s₁ at₁) (λ us s₂ at₂. got (ts ++ us) s₂ at₂))
-  unfolding checkTimes bind
-  times-add zero done s at = rw zero-add (sym (bind-again (checkTimes g done b s at)))
-  times-add (suc a) done s at =
-      rw suc-add (bind-ext (g done s at) (λ t s₁ at₁. rw (times-add a (t ∷ done) s₁ at₁) (simp bind-assoc)) ∙ sym (bind-assoc (g done s at) _ _))
-
-onto-append : {A : Type 0} (done xs ys : List A) → onto done (xs ++ ys) ≡ onto (onto done xs) ys
-onto-append done [] ys = refl
-onto-append done (x ∷ xs) ys = onto-append (x ∷ done) xs ys
 
 module _ (d l r c : ℕ) (s : List ℕ) (at : ℕ) where
   abbrev E : List (Tree int32) → List ℕ → ℕ → Got (Tree int32)
@@ -284,9 +255,9 @@ module _ (s : List ℕ) (b : Bytes s) (at d : ℕ) {one two st : Step} (r₁ : R
           let sum : l + r + c ≡ d = eqb-true _ _ t in
           let all : length (y .tree .0 .0 ++ y .tree .0 .1 ++ y .tree .1) ≡ length (k .tree) = ap length (y .of) in
           let kept : AllAxes (l-of (three .tree), (r-of (three .tree), (c-of (three .tree), y .tree))) p record { layers = word32 l; rows = word32 r; columns = word32 c; order = os } = record {
-            layers = kept-word l (omega arith) ∙ sym l-is;
-            rows = kept-word r (omega arith) ∙ sym r-is;
-            columns = kept-word c (omega arith) ∙ sym c-is;
+            layers = word-same l (omega arith) ∙ sym l-is;
+            rows = word-same r (omega arith) ∙ sym r-is;
+            columns = word-same c (omega arith) ∙ sym c-is;
             order = w .stored ∙ ap (λ (l : List ℕ). sets (replicate most-dimensions 0) 0 l) (entry-words f (k .tree) ∙ ap (λ (ts : List (Tree int32)). map entryIndex ts) (sym (y .of)));
             few = omega (arith, all, w .count);
           } in

@@ -12,7 +12,7 @@ use lib.Seq.{sets, length-sets}
 use Rattle.sizes.specs.Sizes.{member-bytes, most-cells, cell-words}
 use Rattle.layout.specs.declared.Step.{Step}
 use Rattle.layout.specs.declared.Step.the-variants.{Next, Refused}
-use Rattle.layout.specs.Layout.{any-number, little, Tree, spell, Bytes, pick}
+use Rattle.layout.specs.Layout.{any-number, little, Tree, spell, Bytes, pick, size}
 use Rattle.layout.specs.Conventions.{int64}
 use Rattle.layout.specs.Rule.{Rule, plain, _▸▸_, items, tested}
 use Rattle.layout.specs.Read.{bind}
@@ -21,15 +21,16 @@ use Rattle.layout.specs.Reads.{Reads, peek}
 use Rattle.layout.specs.Laws.{digits-length}
 use Rattle.layout.specs.Keeps.{Out, on, off, Keeps, keeps-on, keeps-off, Each}
 use Rattle.layout.specs.Steps.Keeping.{kept-on}
+use Rattle.layout.specs.Steps.Spelt.{found-by, Read, read-on, read-off, ends-inside, stays-inside, read-number, ReadNumber}
+use Rattle.layout.specs.Words.{word32}
+use Rattle.layout.specs.Laws.Words.{word-same}
 use Rattle.value.specs.Value.{Value}
 use Rattle.once.specs.Once.{word, fresh, firsts}
 use Rattle.once.specs.Laws.{is-fresh}
 use Rattle.table.specs.declared.Walk.{Walk}
 use Rattle.table.specs.declared.Walk.the-variants as walk
 use Rattle.table.specs.Table.{Cell, Cells}
-use Rattle.table.specs.Records.{size, cellIndex, cellWords, rowsWords, cellValue, cellsOf, cellRecord}
-use Rattle.table.specs.Laws.Spelt.{found-by, Read, read-on, read-off, ends-inside, stays-inside, read-number, ReadNumber}
-use Rattle.table.specs.Laws.Words.{word32, kept-word}
+use Rattle.table.specs.Records.{cellIndex, cellWords, rowsWords, cellValue, cellsOf, cellRecord}
 use Rattle.table.specs.Laws.LeastBytes.{cell-bytes, least-cell}
 use Rattle.table.specs.Laws.Within.{RecordSizes, needed, Room}
 use Rattle.cells.specs.Laws.Rows.{Kind, words, Row, Rows, all-rows, rowOf, after, firsts-before}
@@ -89,9 +90,9 @@ module _ (s : List ℕ) (b : Bytes s) (short : length s ≤ member-bytes) (at pl
         let long : q ≤ length s = stays-inside (val .there) (num .says .inside (omega arith)) in
         let below : x < places = is-fresh places (firsts cell-words ws j) x .0 f .0 in
         let e₁ : q - p ≡ z = omega arith in
-        let index : word32 x ≡ num .found .tree .0 = kept-word x (omega arith) ∙ sym (num .is) in
-        let place : word32 p ≡ at + 8 = kept-word p (omega arith) ∙ num .says .place in
-        let length-is : word32 (q - p) ≡ z = ap word32 e₁ ∙ kept-word z (omega arith) in
+        let index : word32 x ≡ num .found .tree .0 = word-same x (omega arith) ∙ sym (num .is) in
+        let place : word32 p ≡ at + 8 = word-same p (omega arith) ∙ num .says .place in
+        let length-is : word32 (q - p) ≡ z = ap word32 e₁ ∙ word-same z (omega arith) in
         let same : cellRecord (word32 x) (word32 p) (word32 (q - p)) ≡ cellRecord (num .found .tree .0) (at + 8) z =
         rw (index, place, length-is) in
         let kept : Row cell-kind at (j, ws) t q (j + 1, vs) = record {

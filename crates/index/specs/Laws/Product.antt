@@ -1,20 +1,19 @@
 -- The law of the product.
 use mathlib.Core.Path.{_≡_}
-use mathlib.Core.Bool.{true, _||_}
+use mathlib.Core.Bool.{true, _||_, false≢true}
 use mathlib.Core.List.{List, [], _∷_}
-use Prim.Native.Nat.{ℕ, zero, suc, _*_}
+use Prim.Native.Nat.{ℕ, zero, suc}
 use native.Mathlib.Nat.{mul-zero, zero-mul}
 use native.Mathlib.Omega.{arith}
 use borrow.Author.Tests.{ne-eqb}
 use lib.Dec.{eqb}
 use Rattle.layout.specs.Layout.{among}
-use Rattle.once.specs.Laws.Tests.{false-is-true}
 use Rattle.index.specs.Index.{product}
 
 -- Zero: a product with a factor 0 is 0, whatever the others are
 pub product-zero : (ns : List ℕ) → among 0 ns ≡ true → product ns ≡ 0
 unfolding product among
-product-zero [] e = absurd (false-is-true e)
+product-zero [] e = absurd (false≢true e)
 product-zero (zero ∷ ns) e = zero-mul (product ns)
 product-zero (suc n ∷ ns) e =
     let f : (eqb 0 (suc n) || among 0 ns) ≡ true = e in

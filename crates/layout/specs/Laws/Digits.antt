@@ -1,16 +1,20 @@
 -- A number's bytes, over every width and both orders.
 use mathlib.Core.Path.{_≡_, refl, ap, _∙_}
-use mathlib.Core.List.{List, [], _∷_, reverse, reverseAux, reverse-reverse}
+use mathlib.Core.List.{List, reverse, reverseAux, reverse-reverse}
 use Prim.Native.Nat.{ℕ, zero, suc, _+_, _*_, _/_, _%_, _^_, _<_}
 use native.Mathlib.Nat.{pow-suc}
 use native.Mathlib.Omega.{arith}
 use lib.ListN.{length, length-reverse}
 use Rattle.layout.specs.Layout.{Order, little, big, le, digits, Bytes, no-bytes, byte, undigit, undigits}
 
-length-le : (w n : ℕ) → length (le w n) ≡ w
+pub length-le : (w n : ℕ) → length (le w n) ≡ w
 unfolding le
 length-le zero n = refl
 length-le (suc w) n = ap suc (length-le w (n / 256))
+
+pub pow-pos : (w : ℕ) → 0 < 256 ^ w
+pow-pos zero = omega arith
+pow-pos (suc w) = let ih : 0 < 256 ^ w = pow-pos w in rw pow-suc (omega arith)
 
 undigit-le : (w n : ℕ) → n < 256 ^ w → undigit (le w n) ≡ n
 unfolding le undigit

@@ -1,16 +1,15 @@
 -- Where a reading ends and what is left there; a reading at another start.
-use mathlib.Core.Path.{_≡_, refl, sym, ap, _∙_, subst}
+use mathlib.Core.Path.{_≡_, refl, sym, ap, _∙_}
 use mathlib.Core.Bool.{Bool, true, false}
 use mathlib.Core.Option.{some}
 use mathlib.Core.List.{List, [], _∷_}
 use Prim.Native.Nat.{ℕ, zero, suc, _+_, _-_, _≤_, _<_}
-use native.Mathlib.Nat.{add-assoc}
 use native.Mathlib.Omega.{arith}
 use lib.ListN.{length, take, drop, length-drop}
-use lib.Seq.{drop-drop, drop-length, length-take-le}
+use lib.Seq.{drop-drop, length-take-le}
 use lib.Dec.{leb, ltb}
 use borrow.Author.Tests.{leb-true, ltb-true, ltb-false, lt-ltb, le-ltb}
-use Rattle.layout.specs.Layout.{Order, Fill, exact, optional, open-ended, Filled, Layout, empty, number, string, _▸_, times, leading, region, nothing, Tree, passes, pick, undigits}
+use Rattle.layout.specs.Layout.{Order, Fill, exact, optional, open-ended, Layout, empty, number, string, _▸_, times, leading, region, nothing, passes, pick, undigits}
 use Rattle.layout.specs.Read.{Got, got, no, bind, readNumber, readCounted, readTimes, lead, readLeading, ends, readFill, read, refusal, too-short, differs, limit-passed}
 use Rattle.layout.specs.Laws.Lead.{lead-short}
 

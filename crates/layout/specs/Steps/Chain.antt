@@ -54,10 +54,19 @@ unfolding chain
 chain-ext (Next at) h = h at
 chain-ext (Refused r p) h = refl
 
-chain-next : (st : Step) → chain st (λ at. Next at) ≡ st
+pub chain-next : (st : Step) → chain st (λ at. Next at) ≡ st
 unfolding chain
 chain-next (Next at) = refl
 chain-next (Refused r p) = refl
+
+-- a step that is a refusal
+pub data Refuses : Step → Type 0 where
+  refuses : {r p : ℕ} → Refuses (Refused r p)
+
+-- it stays
+pub chain-refuses : {x : Step} (k : ℕ → Step) → Refuses x → chain x k ≡ x
+unfolding chain
+chain-refuses k refuses = refl
 
 -- a law of `step` as a law of `Reads`: if g is a and then b, at every position
 split : {g a b : Layout} {s : List ℕ} {st q r : Step} → ((at : ℕ) → step g s at ≡ chain (step a s at) (step b s))

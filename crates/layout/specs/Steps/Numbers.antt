@@ -2,7 +2,7 @@
 use mathlib.Core.Path.{_≡_, refl, sym, _∙_}
 use mathlib.Core.Bool.{Bool, true, false}
 use mathlib.Core.List.{List, [], _∷_}
-use Prim.Native.Nat.{ℕ, _+_, _-_}
+use Prim.Native.Nat.{ℕ, _+_}
 use lib.ListN.{length, take, drop}
 use lib.Seq.{drop-drop}
 use lib.Dec.{eqb, leb}
@@ -12,9 +12,10 @@ use Rattle.layout.specs.Layout.{Order, little, Test, any-number, the-num
 use borrow.Author.Tests.{ne-eqb}
 use Rattle.layout.specs.Read.{Got, got, no, refusal, too-short, bind, readNumber, read}
 use Rattle.layout.specs.Reads.{forget, step, chain, Reads, numberOf, peek, verdict, judged, field}
-use Rattle.layout.specs.Steps.Chain.{forget-map, kept}
+use Rattle.layout.specs.Steps.Chain.{forget-map, Refuses, refuses, kept}
 
-broken : (test : Test) (v : ℕ) → passes test v ≡ false → eqb (refusal test) 0 ≡ false
+-- a test that is broken gives a refusal
+pub broken : (test : Test) (v : ℕ) → passes test v ≡ false → eqb (refusal test) 0 ≡ false
 unfolding passes refusal
 broken any-number v e = cc
 broken (the-number k) v e = refl
@@ -133,9 +134,6 @@ pub arm-of : {o : Order} {w : ℕ} {test : Test} {k : ℕ → Layout} {s : List 
     → Reads (number o w test k) s st r
 arm-of {test = test} {k = k} {v = v} e t h f g =
     switch-key {k = k} e h f (tested-of (free-field g) (verdict-passed test v (rw e t)) f)
-
-data Refuses : Step → Type 0 where
-  refuses : {r p : ℕ} → Refuses (Refused r p)
 
 broken-refuses : (w c : ℕ) (s : List ℕ) (st : Step) → eqb c 0 ≡ false → Refuses (field w c s st)
 unfolding field pick

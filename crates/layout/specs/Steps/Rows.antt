@@ -13,16 +13,13 @@ use Rattle.layout.specs.declared.Step.the-variants.{Next, Refused}
 use Rattle.layout.specs.Layout.{Order, little, any-number, passes, Layout, empty, number, _▸_, times, pick, undigits}
 use Rattle.layout.specs.Read.{got, no, too-short, readNumber, readTimes, read}
 use Rattle.layout.specs.Reads.{step, chain, Reads, verdict, judged, field, fitting, rows}
-use Rattle.layout.specs.Steps.Chain.{step-then, step-times}
+use Rattle.layout.specs.Steps.Chain.{step-then, step-times, Refuses, refuses, chain-refuses}
 use Rattle.layout.specs.Steps.Numbers.{step-tested}
 
 -- a row of such fields, and its size
 pub data Flat : Layout → ℕ → Type 0 where
   flat-field : {o : Order} {w : ℕ} → Flat (number o w any-number (λ _. empty)) w
   flat-then : {a b : Layout} {m n : ℕ} → Flat a m → Flat b n → Flat (a ▸ b) (m + n)
-
-data Refuses : Step → Type 0 where
-  refuses : {r p : ℕ} → Refuses (Refused r p)
 
 field-step : (o : Order) (w : ℕ) (s : List ℕ) (at : ℕ)
     → step (number o w any-number (λ _. empty)) s at ≡ pick (leb w (length s - at)) (Next (at + w)) (Refused too-short at)
@@ -41,10 +38,6 @@ flat-fits (flat-then {a} {b} {m} {n} f g) s at h =
     step-then a b s at
     ∙ rw (flat-fits f s at (omega arith), flat-fits g s (at + m) (omega arith)) (ap Next (add-assoc at m n))
 
-kept-by : {x : Step} (k : ℕ → Step) → Refuses x → Refuses (chain x k)
-unfolding chain
-kept-by k refuses = refuses
-
 -- one of the two does not fit
 pair-stops : {a : Layout} (b : Layout) {m : ℕ} → Flat a m → (s : List ℕ) (at : ℕ) → (length s - at < m → Refuses (step a s at))
     → (m ≤ length s - at → Refuses (step b s (at + m))) → Refuses (step (a ▸ b) s at)
@@ -53,7 +46,7 @@ pair-stops {a} b {m} f s at first second = rw (step-then a b s at) (go (leb m (l
   where
     go : (c : Bool) → leb m (length s - at) ≡ c → Refuses (chain (step a s at) (step b s))
     go true e = let l = leb-true m (length s - at) e in rw (flat-fits f s at l) (second l)
-    go false e = kept-by (step b s) (first (leb-false m (length s - at) e))
+    go false e = let r = first (leb-false m (length s - at) e) in rw (chain-refuses (step b s) r) r
 
 flat-stops : {a : Layout} {m : ℕ} → Flat a m → (s : List ℕ) (at : ℕ) → length s - at < m → Refuses (step a s at)
 unfolding pick
@@ -63,10 +56,6 @@ flat-stops (flat-then {a} {b} {m} {n} f g) s at h = pair-stops b f s at (λ l. f
 -- n rows are those that fit, and where these are not all, the first that does not
 unfoldable Rows : Layout → ℕ → ℕ → List ℕ → ℕ → ℕ → Type 0
 Rows a size n s at k = (k ≡ n → step (times n a) s at ≡ Next (at + n * size)) × (k < n → step (times n a) s at ≡ step a s (at + k * size))
-
-stops-at : {x : Step} (k : ℕ → Step) → Refuses x → chain x k ≡ x
-unfolding chain
-stops-at k refuses = refl
 
 module _ {a : Layout} {size : ℕ} (flat : Flat a size) (s : List ℕ) where
   rows-zero : (at k : ℕ) → k ≤ 0 → Rows a size 0 s at k
@@ -86,7 +75,7 @@ module _ {a : Layout} {size : ℕ} (flat : Flat a size) (s : List ℕ) where
   unfolding Rows
   rows-stops n at h = (
     λ e. absurd (omega arith),
-    λ l. step-times a n s at ∙ stops-at (step (times n a) s) (flat-stops flat s at h) ∙ ap (step a s) (omega arith),
+    λ l. step-times a n s at ∙ chain-refuses (step (times n a) s) (flat-stops flat s at h) ∙ ap (step a s) (omega arith),
   )
 
   rows-step : 0 < size → (n at : ℕ) → Rows a size n s (at + size) (min n ((length s - (at + size)) / size)) → (c : Bool) → leb size (length s - at) ≡ c

@@ -1,7 +1,7 @@
 -- The elements of a slice of bytes are bytes.
 use mathlib.Core.List.{List, [], _∷_}
 use Prim.Native.Nat.{ℕ, zero, suc}
-use lib.ListN.{drop, getD}
+use lib.ListN.{take, drop, getD}
 use mir.Syntax.{w8}
 use mir.Val.{Fits}
 use Rattle.layout.specs.Layout.{Bytes, no-bytes, byte}
@@ -15,3 +15,8 @@ pub drop-bytes : (n : ℕ) {s : List ℕ} → Bytes s → Bytes (drop n s)
 drop-bytes zero b = b
 drop-bytes (suc n) no-bytes = no-bytes
 drop-bytes (suc n) (byte h hs) = drop-bytes n hs
+
+pub take-bytes : (n : ℕ) {s : List ℕ} → Bytes s → Bytes (take n s)
+take-bytes zero h = no-bytes
+take-bytes (suc n) no-bytes = no-bytes
+take-bytes (suc n) (byte h hs) = byte h (take-bytes n hs)

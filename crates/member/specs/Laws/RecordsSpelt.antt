@@ -12,12 +12,12 @@ use lib.Seq.{take-at, drop-at}
 use lib.Dec.{leb}
 use borrow.Author.Tests.{le-leb}
 use Rattle.sizes.specs.Sizes.{node-words, cell-words, dimension-words, name-place, name-length}
-use Rattle.layout.specs.Layout.{little, _▸_, Tree, digits, spellAll, spell, pick}
+use Rattle.layout.specs.Layout.{little, _▸_, Tree, digits, spellAll, spell, pick, size}
 use Rattle.value.specs.Value.{Value}
 use Rattle.sections.specs.Sections.{Front}
 use Rattle.once.specs.Once.{word}
 use Rattle.table.specs.Table.{Dimension, Dimensions, Axes, Cell, Cells}
-use Rattle.table.specs.Records.{size, cellWords, dimName, cellValue}
+use Rattle.table.specs.Records.{cellWords, dimName, cellValue}
 use Rattle.table.specs.Laws.RecordsPoint.{categoryNames, all-names, Points, Pointing, record-of, after-digits, dims-point, entries-point, cells-point}
 use Rattle.member.specs.Member.{Member, final, dimensions, cells, nodes, dimensionsAt, cellsStart, nodeRecords, dimensionEntries, cellRecords, MemberDerivation, frontSection, axesSection, cellsSection}
 use Rattle.member.specs.Part.{partOf}

@@ -12,22 +12,25 @@ use borrow.Author.Tests.{leb-true, leb-false, le-leb, lt-leb}
 use Rattle.sizes.specs.Sizes.{member-bytes, most-dimensions, most-nodes, most-cells, most-places, node-words, cell-words, dimension-words, node-area, cell-area, dimension-area, dimension-n}
 use Rattle.layout.specs.declared.Step.{Step}
 use Rattle.layout.specs.declared.Step.the-variants.{Next, Refused}
-use Rattle.layout.specs.Layout.{Tree, spell, passes, Bytes, Valid, pick}
+use Rattle.layout.specs.Layout.{Tree, spell, passes, Bytes, Valid, pick, size}
 use Rattle.layout.specs.Read.{Got, got, no, bind, lead, read}
 use Rattle.layout.specs.Check.{check}
 use Rattle.layout.specs.Reads.{Reads}
 use Rattle.layout.specs.Keeps.{Out, on, off, Keeps, keeps-on, keeps-off}
 use Rattle.layout.specs.Steps.Keeping.{Reached, kept-on, kept-off}
+use Rattle.layout.specs.Steps.Spelt.{Found, found-by, Read, read-on, read-off, stays-inside}
+use Rattle.layout.specs.Laws.Binds.{bind-assoc}
+use Rattle.layout.specs.Words.{word32}
+use Rattle.layout.specs.Laws.Words.{word-same}
 use Rattle.sections.specs.Sections.{Front}
 use Rattle.once.specs.Once.{word}
 use Rattle.index.specs.Index.{sizes, product}
 use Rattle.table.specs.Table.{Dimension, Dimensions, Axes, Cell, Cells}
-use Rattle.table.specs.Records.{size, dimNodes, dimLeaves, dimEntry, dimsWords, dimsEntries, entryIndex, cellWords, rowsWords, axisEntries, dimsOf, axisLayers, axisRows, axisColumns, cellsOf}
+use Rattle.table.specs.Records.{dimNodes, dimLeaves, dimEntry, dimsWords, dimsEntries, entryIndex, cellWords, rowsWords, axisEntries, dimsOf, axisLayers, axisRows, axisColumns, cellsOf}
 use Rattle.table.specs.Rules.{dimensionsRule, placesOf, countsRule, axesRule, cellsRule}
-use Rattle.table.specs.Laws.Spelt.{Found, found-by, Read, read-on, read-off, stays-inside, bind-assoc}
 use Rattle.table.specs.Laws.Lengths.{size-all}
 use Rattle.table.specs.Laws.LeastBytes.{cells-bytes, least-cell}
-use Rattle.table.specs.Laws.Words.{word32, kept-word, width-rows}
+use Rattle.table.specs.Laws.Words.{width-rows}
 use Rattle.table.specs.Laws.Within.{needed, within, is-within}
 use Rattle.table.specs.Laws.Dims.{Kept, kept, AllDims, width-dims, node-records, node-room, width-entries}
 use Rattle.cells.specs.declared.AxisCounts.the-variants as counts
@@ -398,7 +401,7 @@ module _ (s : List ℕ) (b : Bytes s) (ns cs : List ℕ) (room : ReadyLists s ns
                 place = p;
                 is = rw (in-sections s (room .short), start .is, dims .is, f);
                 answer =
-                    same-answer (kept-word d (omega arith) ∙ d-is) (kept-word used (omega arith) ∙ used-is) (kept-word (t .cells) (omega (arith, k .count, k .few)) ∙ k .count) entries-is
+                    same-answer (word-same d (omega arith) ∙ d-is) (word-same used (omega arith) ∙ used-is) (word-same (t .cells) (omega (arith, k .count, k .few)) ∙ k .count) entries-is
                     (sym l-is ∙ k .on-layers) (sym r-is ∙ k .on-rows) (sym c-is ∙ k .on-columns) order-is;
                 nodes-stored =
                     ap (take (node-words * nodes tree)) (dims .keeps .words)

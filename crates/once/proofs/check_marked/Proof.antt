@@ -7,7 +7,8 @@ use Rattle.sizes.specs.Sizes.{most-nodes}
 use Rattle.once.specs.Once as spec
 use mathlib.Core.Logic.{⊎-elim}
 use Rattle.once.specs.declared.Verdict.the-variants.{Bad}
-use Rattle.once.proofs.Marks.{Checking, at-start, at-end, past-group, past-leaf, too-big, met-before}
+use Rattle.once.proofs.Walk.{at-end, past-group}
+use Rattle.once.proofs.Marks.{Marking, unmarked, past-leaf, too-big, met-before}
 use Rattle.once.proofs.check_marked.Statement.{statement}
 use Rattle.once.proofs.check_marked.Tie as tie
 
@@ -17,9 +18,9 @@ check-marked-spec =
     tie.close
     (tie.spec
     (λ nodes first k n end marks₀ i₀ left₀ marks i left.
-    (i + left ≤ most-nodes + most-nodes) × Checking nodes (min n most-nodes) (min first most-nodes) (min k most-nodes) marks i left)
+    (i + left ≤ most-nodes + most-nodes) × Marking nodes (min n most-nodes) (min first most-nodes) (min k most-nodes) marks i left)
     (λ nodes first k n end marks₀ i₀ left₀ marks i left. left) (λ _ _. tt) (λ _ _. tt) (λ _ _. tt)
-    (λ c. (omega arith, at-start _ _ _ _ _ _ (c .before .at-most2 .ensures) (c .at-most3 .ensures))) (λ c. omega arith)
+    (λ c. (omega arith, unmarked _ _ _ _ _ _ (c .before .at-most2 .ensures) (c .at-most3 .ensures))) (λ c. omega arith)
     (λ _ _. tt) (λ c. omega arith) (λ c. omega arith) (λ _ _. tt) (λ c. search needs) (λ c κs. omega arith)
     (λ c.
     let a = c .before .before .before .before in

@@ -7,7 +7,8 @@ use borrow.Author.Needs.{needs}
 use native.Mathlib.Omega.{arith}
 use Rattle.sizes.specs.Sizes.{most-nodes}
 use Rattle.once.specs.Once as spec
-use Rattle.once.proofs.Ordered.{Ordered, at-start, at-end, past-group, past-leaf}
+use Rattle.once.proofs.Walk.{at-end, past-group}
+use Rattle.once.proofs.Ordered.{Ordered, none-seen, past-leaf}
 use Rattle.once.proofs.in_order.Statement.{statement}
 use Rattle.once.proofs.in_order.Tie as tie
 
@@ -17,7 +18,7 @@ in-order-spec =
     tie.close
     (tie.spec
     (λ nodes first k end i₀ left₀ next₀ i left next. (i + left ≤ most-nodes + most-nodes) × (next + left ≤ most-nodes) × Ordered nodes end first k next i left)
-    (λ nodes first k end i₀ left₀ next₀ i left next. left) (λ c. (omega arith, omega arith, at-start _ _ _ _)) (λ c. omega arith)
+    (λ nodes first k end i₀ left₀ next₀ i left next. left) (λ c. (omega arith, omega arith, none-seen _ _ _ _)) (λ c. omega arith)
     (λ _ _. tt) (λ c. omega arith) (λ c. omega arith) (λ _ _. tt) (λ c. search needs) (λ c e. absurd (false≢true e))
     (λ c e. absurd (false≢true e)) (λ c. omega arith) (λ c. omega arith) (λ c. omega arith) (λ c. omega arith)
     (λ c.

@@ -9,7 +9,7 @@ use lib.Dec.{eqb}
 use lib.ListN.{length}
 use Rattle.layout.specs.Layout.{among, All, all-none, all-more, pick}
 use Rattle.once.specs.Once.{Distinct}
-use Rattle.once.specs.Laws.Tests.{or-is-false}
+use Rattle.layout.specs.Laws.Tests.{or-is-false}
 
 -- the list without the first m
 without : ℕ → List ℕ → List ℕ

@@ -8,7 +8,7 @@ use lib.Seq.{sets}
 use Rattle.sizes.specs.Sizes.{member-bytes, most-nodes, category-depth, node-words, dimension-words, no-parent}
 use Rattle.layout.specs.declared.Step.{Step}
 use Rattle.layout.specs.declared.Step.the-variants.{Next, Refused}
-use Rattle.layout.specs.Layout.{little, Layout, _▸_, times, Tree, spell, passes, Bytes, pick}
+use Rattle.layout.specs.Layout.{little, Layout, _▸_, times, Tree, spell, passes, Bytes, pick, size}
 use Rattle.layout.specs.Conventions.{int32}
 use Rattle.layout.specs.Read.{Got, got, no, bind, read}
 use Rattle.layout.specs.Rule.{Rule, items}
@@ -18,6 +18,10 @@ use Rattle.layout.specs.Keeps.{Out, on, off, Keeps, keeps-on, keeps-off, Each, 
 use Rattle.layout.specs.Laws.{digits-length}
 use Rattle.layout.specs.Steps.Chain.{_◂_}
 use Rattle.layout.specs.Steps.Keeping.{kept-on, kept-off, Going, going, goes-on, goes-no, goes-to}
+use Rattle.layout.specs.Steps.Spelt.{step-spelt, Found, found-by, Read, read-on, read-off, ends-inside, stays-inside, peeked}
+use Rattle.layout.specs.Laws.Binds.{bind-assoc}
+use Rattle.layout.specs.Words.{word32}
+use Rattle.layout.specs.Laws.Words.{word-same}
 use Rattle.value.specs.Value.{Value}
 use Rattle.once.specs.declared.Verdict.{Verdict}
 use Rattle.once.specs.declared.Verdict.the-variants.{Fine, Bad}
@@ -27,11 +31,10 @@ use Rattle.table.specs.declared.Walk.the-variants as walk
 use Rattle.table.specs.declared.Section.{Section}
 use Rattle.table.specs.declared.Section.the-variants as section
 use Rattle.table.specs.Table.{DimProperties, Dimension, Dimensions, Category}
-use Rattle.table.specs.Records.{sum, nodes, size, treeWords, dimNodes, dimWords, dimEntry, dimsWords, dimsEntries, dimOwn, dimCategories, dimsOf, dimRecord}
+use Rattle.table.specs.Records.{sum, nodes, treeWords, dimNodes, dimWords, dimEntry, dimsWords, dimsEntries, dimOwn, dimCategories, dimsOf, dimRecord}
 use Rattle.table.specs.Rules.{categoriesRule, leavesOf, placeOf, dimensionRule}
-use Rattle.table.specs.Laws.Spelt.{step-spelt, Found, found-by, Read, read-on, read-off, ends-inside, stays-inside, peeked, bind-assoc}
-use Rattle.table.specs.Laws.Within.{RecordSizes, needed, Room}
-use Rattle.table.specs.Laws.Words.{word32, kept-word, sets-append, width-all, width-tree}
+use Rattle.table.specs.Laws.Within.{needed, Room, RecordSizes}
+use Rattle.table.specs.Laws.Words.{sets-append, width-all, width-tree}
 use Rattle.table.specs.Laws.Lengths.{size-dimension}
 use Rattle.table.specs.Laws.LeastBytes.{categories-bytes, least-category}
 use Rattle.table.specs.Laws.KeptTable.{leaf-count}
@@ -203,8 +206,8 @@ module _ (s : List ℕ) (b : Bytes s) (short : length s ≤ member-bytes) (at : 
           let z = size Value (start .tree .0 .0) in
           let long : at + z ≤ length s = omega (arith, inside .0, start .there .place, size-name (start .tree)) in
           let a : at + z - at ≡ z = omega arith in
-          let named : nameLength at name ≡ z = ap (nameLength at) name-is ∙ ap word32 a ∙ kept-word z (omega arith) in
-          rw (named, kept-word at (omega arith), kept-word (length ls) (omega (arith, most-leaves)), kept-word (x .used) (omega arith), n-leaves, leaf-count tree)
+          let named : nameLength at name ≡ z = ap (nameLength at) name-is ∙ ap word32 a ∙ word-same z (omega arith) in
+          rw (named, word-same at (omega arith), word-same (length ls) (omega (arith, most-leaves)), word-same (x .used) (omega arith), n-leaves, leaf-count tree)
 
       pub close-dim : {w : Walk} {es : List ℕ} → Closed (x .number) at (nameLength at name) (x .used) q u ms (x .entries) w es
           → Keeps s One reading (dimsOut (x .number + 1) w ms es)

@@ -9,19 +9,20 @@ use lib.Dec.{eqb}
 use borrow.Author.Tests.{eqb-true, eqb-false}
 use Rattle.layout.specs.declared.Step.{Step}
 use Rattle.layout.specs.declared.Step.the-variants.{Next, Refused}
-use Rattle.layout.specs.Layout.{little, one-of, Layout, empty, _▸_, Tree, digits, spell, Bytes, Valid}
+use Rattle.layout.specs.Layout.{little, one-of, Layout, empty, _▸_, Tree, digits, spell, Bytes, Valid, size}
 use Rattle.layout.specs.Conventions.{field, i, int32}
 use Rattle.layout.specs.Read.{Got, got, no, read}
 use Rattle.layout.specs.Reads.{step, chain, peek, Reads}
 use Rattle.layout.specs.Steps.Chain.{then}
 use Rattle.layout.specs.Steps.Numbers.{switch-of}
+use Rattle.layout.specs.Steps.Spelt.{after, step-spelt, peek-spelt, field-spelt, Found, Read, read-on, read-off}
+use Rattle.layout.specs.Words.{word32}
+use Rattle.layout.specs.Laws.Words.{word-same}
 use Rattle.value.specs.Value.{Value}
 use Rattle.table.specs.declared.NodeStart.{NodeStart}
 use Rattle.table.specs.declared.NodeStart.the-variants as start
 use Rattle.table.specs.Table.{kinds, Leaf, GroupOf, KindOf, minus-one}
-use Rattle.table.specs.Records.{Head, kindOf, wordOf, belowOf, size}
-use Rattle.table.specs.Laws.Spelt.{after, step-spelt, peek-spelt, field-spelt, Found, Read, read-on, read-off}
-use Rattle.table.specs.Laws.Words.{word32, kept-word}
+use Rattle.table.specs.Records.{Head, kindOf, wordOf, belowOf}
 
 -- reading a category without what is below it, and what is answered for it
 pub data HeadRead (s : List ℕ) (at : ℕ) : Got (Tree Head) → NodeStart → Type 0 where
@@ -99,10 +100,10 @@ node-known : (m : Tree Value) (k : ℕ) (t : Tree (KindOf none k)) (at e p w : �
 unfolding nodeOf
 node-known m zero t at e p w a b c d =
     let l : e - at ≡ size Value m = omega arith in
-    rw (l, c, kept-word (size Value m) b, kept-word _ d)
+    rw (l, c, word-same (size Value m) b, word-same _ d)
 node-known m (suc k) t at e p w a b c d =
     let l : e - at ≡ size Value m = omega arith in
-    rw (l, c, kept-word (size Value m) b, kept-word _ d)
+    rw (l, c, word-same (size Value m) b, word-same _ d)
 
 -- a category at the place `at`, whose name ends at `name`, whose three bytes end at `st`, and whose own part ends at `end`
 module _ {s : List ℕ} {at : ℕ} {name st : Step} (b : Bytes s) (small : length s < 2 ^ 32) (v : Reads Value s (Next at) name)

@@ -10,7 +10,7 @@ use native.Mathlib.Omega.{arith}
 use lib.ListN.{length, length-map}
 use borrow.Author.Tests.{ltb-true, lt-ltb, leb-true, le-leb, eqb-true, eq-eqb}
 use Rattle.sizes.specs.Sizes.{most-nodes, category-depth, most-places}
-use Rattle.layout.specs.Layout.{_▸_, Tree, All, all-none, all-more, pick, spellAll}
+use Rattle.layout.specs.Layout.{_▸_, Tree, All, all-none, all-more, pick, spellAll, size}
 use Rattle.layout.specs.Conventions.{int32}
 use Rattle.layout.specs.Rule.{onto, KeptAll, Kept}
 use Rattle.once.specs.declared.Verdict.{Verdict}
@@ -19,7 +19,7 @@ use Rattle.once.specs.Once.{OnceEach, AllFresh, Leaf, indexes, fresh, firstBad}
 use Rattle.once.specs.Laws.{all-fresh, none-bad}
 use Rattle.value.specs.Value.{Value}
 use Rattle.table.specs.Table.{CategoryIn, DimProperties, Dimension, Dimensions, Axes, Cell, Cells, Category}
-use Rattle.table.specs.Records.{Head, sum, nodes, size, leafIndexes, dimNodes, dimLeaves, LeavesOnce, entryIndex, cellIndex, leafIndex, dimOwn, dimCategories, dimsOf, axisLayers, axisRows, axisColumns, axisEntries, cellsOf}
+use Rattle.table.specs.Records.{Head, sum, nodes, leafIndexes, dimNodes, dimLeaves, LeavesOnce, entryIndex, cellIndex, leafIndex, dimOwn, dimCategories, dimsOf, axisLayers, axisRows, axisColumns, axisEntries, cellsOf}
 use Rattle.table.specs.Rules.{categoryRule, leavesAll, treeLeaves, leavesOf, placeOf, dimensionRule, dimensionsRule, placesOf, entryRule, axesRule, cellRule, cellsRule}
 
 -- ---- the number of nodes

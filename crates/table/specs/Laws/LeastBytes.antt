@@ -5,12 +5,12 @@ use Prim.Native.Nat.{ℕ, zero, suc, _+_, _*_, _≤_}
 use native.Mathlib.Nat.{mul-zero, mul-add}
 use native.Mathlib.Omega.{arith}
 use lib.ListN.{length, length-append}
-use Rattle.layout.specs.Layout.{Tree, spell, All, all-none, all-more, Valid}
+use Rattle.layout.specs.Layout.{Tree, spell, All, all-none, all-more, Valid, size}
 use Rattle.layout.specs.Laws.{digits-length}
 use Rattle.layout.specs.Steps.Least.{least, least-spelt}
 use Rattle.value.specs.Value.{Value, ValueIn}
 use Rattle.table.specs.Table.{Leaf, CategoryIn, Cell}
-use Rattle.table.specs.Records.{sum, nodes, size}
+use Rattle.table.specs.Records.{sum, nodes}
 use Rattle.table.specs.Laws.Lengths.{size-all}
 
 -- a category node: a Value of a byte, three bytes, and what a leaf has after them

@@ -8,13 +8,13 @@ use lib.ListN.{length, drop, getD}
 use lib.Seq.{getD-drop, drop-drop, sets}
 use lib.Dec.{eqb}
 use Rattle.sizes.specs.Sizes.{most-nodes, category-depth, node-words, name-place, name-length, leaf-index, name-to-index}
-use Rattle.layout.specs.Layout.{Tree, pick}
+use Rattle.layout.specs.Layout.{Tree, pick, size}
 use Rattle.once.specs.declared.Verdict.{Verdict}
 use Rattle.once.specs.declared.Verdict.the-variants.{Fine, Bad}
 use Rattle.once.specs.Once.{word, Leaf, leaf, isLeaf, leaves, fresh, firstBad}
 use Rattle.value.specs.Value.{Value}
 use Rattle.table.specs.Table.{CategoryIn, Category}
-use Rattle.table.specs.Records.{Head, sum, nodes, size, wordsAll, treeWords}
+use Rattle.table.specs.Records.{Head, sum, nodes, wordsAll, treeWords}
 use Rattle.table.specs.Rules.{leavesAll, treeLeaves}
 use Rattle.table.specs.Laws.Words.{drop-sets, width-all, width-tree}
 

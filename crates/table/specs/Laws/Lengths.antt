@@ -3,11 +3,11 @@ use mathlib.Core.Path.{_≡_, refl, sym}
 use mathlib.Core.List.{List, [], _∷_, _++_, append-nil, append-assoc}
 use Prim.Native.Nat.{ℕ, zero, suc, _+_}
 use lib.ListN.{length, length-append}
-use Rattle.layout.specs.Layout.{little, Layout, _▸_, Tree, digits, spellAll, spell}
+use Rattle.layout.specs.Layout.{little, Layout, _▸_, Tree, digits, spellAll, spell, size}
 use Rattle.layout.specs.Laws.{digits-length}
 use Rattle.value.specs.Value.{Value}
 use Rattle.table.specs.Table.{CategoryIn, DimProperties, Dimension, Category}
-use Rattle.table.specs.Records.{Head, front, children, sum, size, dimOwn, dimCategories}
+use Rattle.table.specs.Records.{Head, front, children, sum, dimOwn, dimCategories}
 
 -- ---- what they spell
 

@@ -8,7 +8,7 @@ use lib.ListN.{length, drop, length-append, length-drop}
 use lib.Seq.{sets}
 use borrow.Author.Tests.{lt-ltb, le-ltb}
 use Rattle.sizes.specs.Sizes.{most-nodes, node-words}
-use Rattle.layout.specs.Layout.{empty, Tree, passes, spell, pick}
+use Rattle.layout.specs.Layout.{empty, Tree, passes, spell, pick, size}
 use Rattle.layout.specs.Conventions.{i}
 use Rattle.layout.specs.Read.{Got, got, no, bind, read}
 use Rattle.layout.specs.Rule.{Rule, items}
@@ -16,16 +16,19 @@ use Rattle.layout.specs.Check.{checkTimes, check}
 use Rattle.layout.specs.Keeps.{Out, on, off, Keeps, keeps-on, keeps-off, Each, each-none, each-more}
 use Rattle.layout.specs.Laws.{digits-length}
 use Rattle.layout.specs.Steps.Keeping.{kept-on, kept-off, Going, going, goes-on, goes-no, goes-to}
+use Rattle.layout.specs.Steps.Spelt.{Found}
+use Rattle.layout.specs.Laws.Binds.{bind-assoc, bind-pick}
+use Rattle.layout.specs.Words.{word32}
+use Rattle.layout.specs.Laws.Words.{word-same}
 use Rattle.value.specs.Value.{Value}
 use Rattle.table.specs.declared.Walk.{Walk}
 use Rattle.table.specs.declared.Walk.the-variants.{On, Refused}
 use Rattle.table.specs.declared.NodeStart.the-variants as start
 use Rattle.table.specs.Table.{KindOf, CategoryIn}
-use Rattle.table.specs.Records.{Head, belowOf, sum, nodes, size, wordsAll, nodeWords, treeWords, nodeRecord}
+use Rattle.table.specs.Records.{Head, belowOf, sum, nodes, wordsAll, nodeWords, treeWords, nodeRecord}
 use Rattle.table.specs.Rules.{kindRule, nodeRule, categoryRule, categoriesRule}
-use Rattle.table.specs.Laws.Spelt.{Found, bind-assoc, bind-pick}
 use Rattle.table.specs.Laws.Lengths.{size-category}
-use Rattle.table.specs.Laws.Words.{word32, kept-word, sets-append, width-tree}
+use Rattle.table.specs.Laws.Words.{sets-append, width-tree}
 use Rattle.table.specs.Laws.Heads.{HeadRead, head-there}
 
 -- an answer of the code, and the node words with it
@@ -89,7 +92,7 @@ inside : {s : List ℕ} → length s < 2 ^ 32 → {at : ℕ} {h : Tree Head} {r 
 unfolding spell
 inside {s} small {at} q =
     let l = simp (length-append, digits-length) at (ap length (q .spelt)) in
-    kept-word at (omega (arith, length-drop at s, l))
+    word-same at (omega (arith, length-drop at s, l))
 
 module _ (d : ℕ) (s : List ℕ) (dim par at used : ℕ) (ns : List ℕ) where
   abbrev next : List (Tree (CategoryIn d)) → Rule (CategoryIn d)

@@ -8,12 +8,12 @@ use native.Mathlib.Omega.{arith}
 use lib.ListN.{length, drop, getD, getElem?, length-append, List·getD-append}
 use lib.Seq.{getD-append-add}
 use Rattle.sizes.specs.Sizes.{category-depth, node-words, cell-words, dimension-words, no-parent, name-place, name-length}
-use Rattle.layout.specs.Layout.{Order, little, one-of, Layout, empty, number, _▸_, Tree, digits, spellAll, spell}
+use Rattle.layout.specs.Layout.{Order, little, one-of, Layout, empty, number, _▸_, Tree, digits, spellAll, spell, size}
 use Rattle.layout.specs.Laws.{digits-length}
+use Rattle.layout.specs.Steps.Spelt.{after}
 use Rattle.value.specs.Value.{Value}
 use Rattle.table.specs.Table.{kinds, KindOf, CategoryIn, DimProperties, Dimension, Cell, Category}
-use Rattle.table.specs.Records.{Head, front, children, sum, nodes, size, wordsAll, nodeWords, treeWords, dimNodes, dimWords, dimEntry, dimsWords, dimsEntries, cellWords, rowsWords, headName, dimOwn, dimName, dimCategories, cellValue}
-use Rattle.table.specs.Laws.Spelt.{after}
+use Rattle.table.specs.Records.{Head, front, children, sum, nodes, wordsAll, nodeWords, treeWords, dimNodes, dimWords, dimEntry, dimsWords, dimsEntries, cellWords, rowsWords, headName, dimOwn, dimName, dimCategories, cellValue}
 use Rattle.table.specs.Laws.Lengths.{spell-category, spell-dimension}
 
 -- ---- the Values, in file order

@@ -7,7 +7,7 @@ use Prim.Native.Nat.{ℕ, zero, suc, _+_, _≤_}
 use native.Mathlib.Omega.{arith}
 use lib.ListN.{length-append}
 use Rattle.sizes.specs.Sizes.{category-depth, name-to-index}
-use Rattle.layout.specs.Layout.{_▸_, Tree, spell, among, All, all-none, all-more, pick}
+use Rattle.layout.specs.Layout.{_▸_, Tree, spell, among, All, all-none, all-more, pick, size}
 use Rattle.layout.specs.Conventions.{int32}
 use Rattle.layout.specs.Rule.{Rule}
 use Rattle.layout.specs.Laws.{digits-length}
@@ -17,7 +17,7 @@ use Rattle.once.specs.declared.Verdict.the-variants.{Bad}
 use Rattle.once.specs.Once.{fresh, firstBad}
 use Rattle.once.specs.Once as once
 use Rattle.table.specs.Table.{CategoryIn, DimProperties, Dimension, Category}
-use Rattle.table.specs.Records.{Head, sum, size, dimOwn, dimCategories}
+use Rattle.table.specs.Records.{Head, sum, dimOwn, dimCategories}
 use Rattle.table.specs.Rules.{kindRule, categoryRule, leavesAll, treeLeaves, leavesOf, placeOf, dimensionRule, dimensionsRule, entryRule, axesRule, cellRule, cellsRule}
 use Rattle.table.specs.Laws.Lengths.{size-category, size-dimension}
 

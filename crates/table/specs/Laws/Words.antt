@@ -1,24 +1,15 @@
 -- Words of records: where they are stored, and how many there are.
 use mathlib.Core.Path.{_≡_, refl, sym, ap, _∙_}
 use mathlib.Core.List.{List, [], _∷_, _++_, append-assoc}
-use Prim.Native.Nat.{ℕ, zero, suc, _+_, _*_, _%_, _^_, _≤_, _<_}
-use native.Mathlib.Nat.{mod-eq-of-lt, mul-zero, mul-suc, add-comm}
+use Prim.Native.Nat.{ℕ, zero, suc, _+_, _*_, _≤_}
+use native.Mathlib.Nat.{mul-zero, mul-suc, add-comm}
 use native.Mathlib.Omega.{arith}
 use lib.ListN.{length, drop, take, set, length-append}
 use lib.Seq.{sets, sets-eq, drop-at, length-take-le}
 use Rattle.sizes.specs.Sizes.{node-words}
-use Rattle.layout.specs.Layout.{Tree}
+use Rattle.layout.specs.Layout.{Tree, size}
 use Rattle.table.specs.Table.{CategoryIn}
-use Rattle.table.specs.Records.{Head, front, children, sum, nodes, size, wordsAll, treeWords, rowsWords}
-
--- ---- words
-
--- a number as a 32-bit word. In a member every place and every number that is stored is smaller, so nothing is lost
-abbrev pub word32 : ℕ → ℕ
-word32 n = n % 2 ^ 32
-
-pub kept-word : (n : ℕ) → n < 2 ^ 32 → word32 n ≡ n
-kept-word n h = mod-eq-of-lt h
+use Rattle.table.specs.Records.{Head, front, children, sum, nodes, wordsAll, treeWords, rowsWords}
 
 -- a store past the end of a list changes nothing
 pub set-past : (xs : List ℕ) (i x : ℕ) → length xs ≤ i → set xs i x ≡ xs

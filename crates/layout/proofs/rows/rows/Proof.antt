@@ -1,6 +1,5 @@
 use borrow.Author.Needs.{needs}
 use native.Mathlib.Omega.{arith}
-use Rattle.layout.specs.Layout.{pick}
 use Rattle.layout.specs.Reads as spec
 use Rattle.layout.proofs.Rooms.{fitting-room}
 use Rattle.layout.proofs.rows.rows.Statement.{statement}

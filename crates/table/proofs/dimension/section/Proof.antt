@@ -2,8 +2,8 @@ use borrow.Author.Needs.{needs}
 use Rattle.sizes.specs.Sizes.{most-dimensions}
 use Rattle.layout.specs.Steps.Keeping.{kept-on, kept-off}
 use Rattle.layout.specs.Steps.Slices.{bytes-of}
+use Rattle.layout.specs.Steps.Numbered.{in-limit, ends-at, no-number, no-items, the-items}
 use Rattle.table.specs.Rules.{dimensionsRule}
-use Rattle.table.specs.Laws.Counted.{in-limit, ends-at, no-number, no-items, the-items}
 use Rattle.table.specs.Laws.Dims.{nextDim, AllDims, the-dims}
 use Rattle.table.proofs.dimension.section.Statement.{statement}
 use Rattle.table.proofs.dimension.section.Tie as tie

@@ -1,19 +1,19 @@
--- A section that is a number, with a limit of document 01, and as many items: what is kept of it is what is kept of the items.
+-- A number with a limit, and as many items by a rule: what is kept of it is what is kept of the items.
 use mathlib.Core.Path.{_≡_, refl}
 use mathlib.Core.List.{List}
 use Prim.Native.Nat.{ℕ, _+_, _≤_}
 use lib.ListN.{drop}
 use borrow.Author.Tests.{leb-true}
 use Rattle.layout.specs.declared.Step.{Step}
 use Rattle.layout.specs.declared.Step.the-variants.{Next, Refused}
 use Rattle.layout.specs.Layout.{little, at-most, Layout, times, Tree, passes, Bytes}
 use Rattle.layout.specs.Conventions.{field, at-most-many}
 use Rattle.layout.specs.Rule.{Rule, numbered, items}
 use Rattle.layout.specs.Read.{got, no, bind}
 use Rattle.layout.specs.Check.{check}
 use Rattle.layout.specs.Reads.{Reads, peek}
 use Rattle.layout.specs.Keeps.{Out, on, off, Keeps, keeps-on, keeps-off}
-use Rattle.table.specs.Laws.Spelt.{read-off, number-check, read-number, ReadNumber}
+use Rattle.layout.specs.Steps.Spelt.{read-off, number-check, read-number, ReadNumber}
 
 module _ {a : Layout} {X : Type 0} (limit : ℕ) (k : List (Tree a) → Rule a) (s : List ℕ) (b : Bytes s) (at : ℕ) (Q : Tree (at-most-many limit a) → ℕ → X → Type 0)
     {st : Step} (r : Reads (field little 4 (at-most limit)) s (Next at) st) where

@@ -1,6 +1,6 @@
 -- Bytes that a derivation spells, and what `step` and `peek` give there.
 use mathlib.Core.Path.{_≡_, refl, sym, ap, _∙_}
-use mathlib.Core.Bool.{Bool, true, false}
+use mathlib.Core.Bool.{true}
 use mathlib.Core.List.{List, [], _++_, append-nil, append-assoc}
 use Prim.Native.Nat.{ℕ, _+_, _^_, _≤_, _<_}
 use native.Mathlib.Omega.{arith}
@@ -8,17 +8,17 @@ use lib.ListN.{length, drop, length-append, length-drop}
 use lib.Seq.{drop-drop, drop-at, take-at}
 use lib.Dec.{leb}
 use borrow.Author.Tests.{le-leb}
 use Rattle.layout.specs.declared.Step.{Step}
 use Rattle.layout.specs.declared.Step.the-variants.{Next, Refused}
-use Rattle.layout.specs.Layout.{Order, little, Test, passes, digits, Layout, _▸_, Tree, spell, Bytes, Valid, pick}
+use Rattle.layout.specs.Layout.{Order, little, Test, passes, digits, Layout, _▸_, Tree, spell, size, Bytes, Valid, pick}
 use Rattle.layout.specs.Conventions.{field}
 use Rattle.layout.specs.Rule.{Rule, numbered}
 use Rattle.layout.specs.Read.{Got, got, no, bind, readNumber, read}
 use Rattle.layout.specs.Check.{check}
 use Rattle.layout.specs.Reads.{forget, step, chain, peek, Reads}
 use Rattle.layout.specs.Laws.{number-spelt, complete, sound, digits-length, passes-exactly}
 use Rattle.layout.specs.Steps.Slices.{drop-bytes}
-use Rattle.table.specs.Records.{size}
+use Rattle.layout.specs.Laws.Binds.{bind-assoc, bind-pick}
 
 -- what is left after the bytes xs at a place
 pub after : (s : List ℕ) (at : ℕ) (xs r : List ℕ) → drop at s ≡ xs ++ r → drop (at + length xs) s ≡ r
@@ -165,19 +165,6 @@ read-number {w} {test} {s} {at} {p = p} b r e pk =
     let n = number-at w test s at (f .tree .0) (drop p s) p (f .there) in
     let i = sym (pk ∙ n .peeked) in
     record { found = f; is = i; says = rw i at n }
-
--- ---- reading in parts
-
-pub bind-assoc : {A B C : Type 0} (x : Got A) (f : A → List ℕ → ℕ → Got B) (g : B → List ℕ → ℕ → Got C)
-    → bind (bind x f) g ≡ bind x (λ t s at. bind (f t s at) g)
-unfolding bind
-bind-assoc (got t s at) f g = refl
-bind-assoc (no r p) f g = refl
-
-pub bind-pick : {A B : Type 0} (b : Bool) (x y : Got A) (g : A → List ℕ → ℕ → Got B) → bind (pick b x y) g ≡ pick b (bind x g) (bind y g)
-unfolding pick
-bind-pick true x y g = refl
-bind-pick false x y g = refl
 
 -- a number by a rule: the number alone, and then what it asks for
 pub number-check : (o : Order) (w : ℕ) (test : Test) (l : ℕ → Layout) (k : (n : ℕ) → Rule (l n)) (s : List ℕ) (at : ℕ)

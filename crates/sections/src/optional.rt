@@ -1,0 +1,18 @@
+// A Value that may be there.
+ghost use Rattle.layout.specs.Conventions as notation;
+ghost use Rattle.layout.specs.Reads.{Reads};
+ghost use Rattle.value.specs.Value as values;
+use layout::LITTLE;
+use layout::Step;
+use layout::number::one_of_two;
+use layout::number::peek;
+use value::value;
+
+pub fn optional_value(s: &[u8], st: Step) -> Step
+    ensures { λ r. ⌜ Reads (notation.if31 values.Value) (now (s .entry)) st r ⌝ }
+{
+    let x = peek(s, st, LITTLE, 1);
+    let at = one_of_two(s, st, 0x31, 0x58);
+    let present = x == 0x31;
+    if present { value(s, at) } else { at }
+}
