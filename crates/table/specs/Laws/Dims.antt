@@ -33,7 +33,7 @@ use Rattle.table.specs.declared.Section.the-variants as section
 use Rattle.table.specs.Table.{DimProperties, Dimension, Dimensions, Category}
 use Rattle.table.specs.Records.{sum, nodes, treeWords, dimNodes, dimWords, dimEntry, dimsWords, dimsEntries, dimOwn, dimCategories, dimsOf, dimRecord}
 use Rattle.table.specs.Rules.{categoriesRule, leavesOf, placeOf, dimensionRule}
-use Rattle.table.specs.Laws.Within.{RecordSizes, needed, Room}
+use Rattle.table.specs.Laws.Within.{needed, Room, RecordSizes}
 use Rattle.table.specs.Laws.Words.{sets-append, width-all, width-tree}
 use Rattle.table.specs.Laws.Lengths.{size-dimension}
 use Rattle.table.specs.Laws.LeastBytes.{categories-bytes, least-category}
