@@ -17,8 +17,8 @@ use crate::Entries;
 use layout::LITTLE;
 use layout::Step;
 use layout::number::any;
+use layout::number::at_most;
 use layout::number::peek;
-use once::at_most;
 use once::seen_before;
 use sizes::MOST_DIMENSIONS;
 

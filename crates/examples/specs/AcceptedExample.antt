@@ -16,7 +16,7 @@ use Rattle.sections.specs.Sections.{HeaderFlags, HeaderNumbers, Header, Titles,
 use Rattle.once.specs.Once.{fresh, firstBad}
 use Rattle.index.specs.Index.{product}
 use Rattle.table.specs.Table.{DimProperties}
-use Rattle.table.specs.Records.{sum, nodes as categoryNodes, leafIndexes, dimNodes, dimLeaves, mapAll}
+use Rattle.table.specs.Records.{sum, nodes as categoryNodes, leafIndexes, dimNodes, dimLeaves}
 use Rattle.table.specs.Rules.{categoryRule, leavesAll, treeLeaves, leavesOf, dimensionRule, dimensionsRule, entryRule, axesRule, cellRule, cellsRule}
 use Rattle.member.specs.Member.{Member, dimensions, nodes, cells, MemberDerivation, AsDemanded}
 use Rattle.member.specs.Refused.{memberRule}
@@ -154,7 +154,7 @@ unfolding toLine checked ended check read passes among refusal pick lead spell d
     FontStyle CellStyle StylePair TemplatePrefix TemplateString Modifiers ValueMod ArgumentOf TemplateOf
     Form01 Form02 Form03 Form04 Form05 Form06 RawValueOf ValueIn Value
     DimProperties memberRule dimensionsRule dimensionRule categoryRule leavesOf leavesAll treeLeaves entryRule axesRule cellRule cellsRule
-    fresh firstBad product sum categoryNodes size leafIndexes dimNodes dimLeaves mapAll
+    fresh firstBad product sum categoryNodes size leafIndexes dimNodes dimLeaves
 line bs = toLine (checked bs)
 
 -- a derivation of bytes that is as demanded, with so many dimensions, nodes and cells

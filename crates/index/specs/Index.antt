@@ -32,5 +32,5 @@ abbrev pub shape : List (ℕ × ℕ) → List ℕ
 shape ds = map (λ d. d .0) ds
 
 -- each coordinate is below its n
-abbrev pub Below : List (ℕ × ℕ) → Type 0
-Below ds = All (λ d. d .1 < d .0) ds
+abbrev pub Inside : List (ℕ × ℕ) → Type 0
+Inside ds = All (λ d. d .1 < d .0) ds

@@ -2,9 +2,8 @@
 ghost use mathlib.Core.Path.{_≡_};
 ghost use Prim.Native.Nat.{_+_, _*_, _≤_, min};
 ghost use Rattle.sizes.specs.Sizes.{most-dimensions, most-places};
-ghost use Rattle.layout.specs.Layout.{among};
 ghost use Rattle.index.specs.Index as spec;
-use once::at_most;
+use layout::number::at_most;
 use once::word;
 use sizes::DIMENSION_N;
 use sizes::DIMENSION_WORDS;
@@ -13,23 +12,6 @@ use sizes::MOST_PLACES;
 
 // The first product that is too large.
 const TOO_MANY: u64 = MOST_PLACES + 1;
-
-// Whether one of the n of d dimensions is 0.
-fn has_zero(dims: &[u32], d: usize) -> bool
-    requires { ⌜ d ≤ most-dimensions ⌝ }
-    ensures { λ r. ⌜ r ≡ among 0 (spec.sizes (now (dims .entry)) 0 d) ⌝ }
-{
-    let mut i = 0;
-    let mut left = d;
-    while 0 < left {
-        if word(dims, DIMENSION_WORDS * i + DIMENSION_N) == 0 {
-            return true;
-        }
-        i += 1;
-        left -= 1;
-    }
-    false
-}
 
 // The product of two numbers, as far as one too large.
 fn times(p: u64, n: u32) -> u64
@@ -40,14 +22,11 @@ fn times(p: u64, n: u32) -> u64
     if q <= TOO_MANY { q } else { TOO_MANY }
 }
 
-// The product of the n of d dimensions, as far as one too large. A 0 is looked for before anything is multiplied.
+// The product of the n of d dimensions, as far as one too large. An n of 0 makes it 0, even after the limit was met.
 pub fn product_of(dims: &[u32], d: usize) -> u64
     ensures { λ r. ⌜ r ≡ min (spec.product (spec.sizes (now (dims .entry)) 0 (min d most-dimensions))) (most-places + 1) ⌝ }
 {
     let d = at_most(d, MOST_DIMENSIONS);
-    if has_zero(dims, d) {
-        return 0;
-    }
     let mut p: u64 = 1;
     let mut i = 0;
     let mut left = d;

@@ -16,6 +16,13 @@ pub fn between(a: usize, e: usize) -> usize
     if a <= e { e - a } else { 0 }
 }
 
+// x, as far as limit.
+pub fn at_most(x: usize, limit: usize) -> usize
+    ensures { λ r. ⌜ r ≡ min x limit ⌝ }
+{
+    if x <= limit { x } else { limit }
+}
+
 // How many bytes there are from a position on.
 pub fn left(s: &[u8], at: usize) -> usize
     ensures { λ r. ⌜ r ≡ length (now (s .entry)) - at ⌝ }
@@ -55,7 +62,7 @@ fn high_first(s: &[u8], at: usize, w: usize) -> u64
 pub fn width(w: usize) -> usize
     ensures { λ r. ⌜ r ≡ min w 8 ⌝ }
 {
-    if w <= 8 { w } else { 8 }
+    at_most(w, 8)
 }
 
 fn number(s: &[u8], st: Step, high: bool, w: usize) -> u64

@@ -8,7 +8,8 @@ use lib.Dec.{leb}
 use Rattle.sizes.specs.Sizes.{node-words, cell-words, node-area, cell-area}
 use Rattle.layout.specs.Layout.{pick}
 use Rattle.member.specs.declared.Answer.{Answer}
-use Rattle.member.specs.Answer.{refusal, Filled}
+use Rattle.member.specs.Answer.{refusal}
+use Rattle.member.specs.Laws.Whole.{Filled}
 
 module _ (a : Answer) (ns cs nodes cells : List ℕ) where
   pub both : leb (node-words * a .nodes) (length nodes) ≡ true → leb (cell-words * a .cells) (length cells) ≡ true

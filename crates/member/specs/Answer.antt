@@ -4,7 +4,7 @@ use mathlib.Core.Bool.{Bool}
 use mathlib.Core.List.{List, _++_}
 use mathlib.Core.Path.{_≡_}
 use Prim.Native.Nat.{ℕ, _-_, _*_}
-use lib.ListN.{length, take, drop, replicate}
+use lib.ListN.{length, drop, replicate}
 use lib.Dec.{leb}
 use Rattle.sizes.specs.Sizes.{most-dimensions, node-words, cell-words, dimension-area}
 use Rattle.layout.specs.Layout.{Tree, pick}
@@ -37,7 +37,7 @@ accepted t =
       order = order t ++ zeros (most-dimensions - length (order t));
     }
 
--- areas of those lengths are large enough for the records of t: 6 words a node, 3 words a cell
+-- areas of those lengths are large enough for the records of t
 abbrev pub wide : Tree Member → ℕ → Bool
 wide t node-length = leb (node-words * nodes t) node-length
 
@@ -67,9 +67,3 @@ pub record Delivered (y : Got (Tree Member)) (nodes cells : List ℕ) (r : Answe
   pub answer : r ≡ answerOf y (length nodes) (length cells)
   pub node-area : nodes′ ≡ nodesAfter y nodes (length cells)
   pub cell-area : cells′ ≡ cellsAfter y (length nodes) cells
-
--- what is delivered of an answer a that accepts, with its records in front of two lists of words
-pub record Filled (a : Answer) (node-list cell-list nodes cells : List ℕ) (r : Answer) (nodes′ cells′ : List ℕ) : Type 0 where
-  pub answer : r ≡ pick (leb (node-words * a .nodes) (length nodes)) (pick (leb (cell-words * a .cells) (length cells)) a (refusal 13 0 (a .nodes) (a .cells))) (refusal 12 0 (a .nodes) (a .cells))
-  pub node-area : nodes′ ≡ pick (leb (node-words * a .nodes) (length nodes)) (pick (leb (cell-words * a .cells) (length cells)) (take (node-words * a .nodes) node-list ++ drop (node-words * a .nodes) nodes) nodes) nodes
-  pub cell-area : cells′ ≡ pick (leb (node-words * a .nodes) (length nodes)) (pick (leb (cell-words * a .cells) (length cells)) (take (cell-words * a .cells) cell-list ++ drop (cell-words * a .cells) cells) cells) cells

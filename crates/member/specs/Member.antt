@@ -2,7 +2,7 @@
 -- in it. Then what a derivation says: its dimensions, category nodes and cells, and what demand 3 asks of it.
 use mathlib.Core.Path.{_≡_}
 use mathlib.Core.Bool.{Bool, true, false}
-use mathlib.Core.List.{List, [], _∷_, _++_}
+use mathlib.Core.List.{List, [], _∷_, _++_, map}
 use Prim.Native.Nat.{ℕ, _+_, _*_, _≤_}
 use lib.ListN.{length}
 use Rattle.sizes.specs.Sizes.{member-bytes, most-nodes, most-places, node-words, cell-words}
@@ -11,7 +11,7 @@ use Rattle.sections.specs.Sections.{Front}
 use Rattle.once.specs.Once.{OnceEach}
 use Rattle.index.specs.Index.{product}
 use Rattle.table.specs.Table.{Dimension, Dimensions, Axes, Cell, Cells}
-use Rattle.table.specs.Records.{dimNodes, dimLeaves, LeavesOnce, dimsWords, dimsEntries, entryIndex, cellIndex, cellWords, mapAll, rowsWords, sum, dimsOf, axisLayers, axisRows, axisColumns, axisEntries, cellsOf}
+use Rattle.table.specs.Records.{dimNodes, dimLeaves, LeavesOnce, dimsWords, dimsEntries, entryIndex, cellIndex, cellWords, rowsWords, sum, dimsOf, axisLayers, axisRows, axisColumns, axisEntries, cellsOf}
 
 -- ---- the grammar
 
@@ -53,7 +53,7 @@ columns t = axisColumns (axesSection t)
 
 -- the axis entries: layers, then rows, then columns
 abbrev pub order : Tree Member → List ℕ
-order t = mapAll entryIndex (axisEntries (axesSection t))
+order t = map entryIndex (axisEntries (axesSection t))
 
 abbrev pub cells : Tree Member → List (Tree Cell)
 cells t = cellsOf (cellsSection t)
@@ -64,7 +64,7 @@ nodes t = sum dimNodes (dimensions t)
 
 -- n of each dimension, and their product
 abbrev pub ns : Tree Member → List ℕ
-ns t = mapAll (λ d. length (dimLeaves d)) (dimensions t)
+ns t = map (λ d. length (dimLeaves d)) (dimensions t)
 
 abbrev pub places : Tree Member → ℕ
 places t = product (ns t)
@@ -107,7 +107,7 @@ pub record AsDemanded (t : Tree Member) : Type 0 where
   -- each dimension is named once on the axes
   pub entries : OnceEach (length (dimensions t)) (order t)
   -- every cell is inside the table, and no cell index stands twice
-  pub inside : OnceEach (places t) (mapAll cellIndex (cells t))
+  pub inside : OnceEach (places t) (map cellIndex (cells t))
 
 -- the two lent areas are large enough
 pub record LargeEnough (t : Tree Member) (node-length cell-length : ℕ) : Type 0 where

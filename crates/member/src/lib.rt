@@ -1,7 +1,7 @@
 // The whole member.
 ghost use mathlib.Core.Path.{_≡_};
 ghost use mathlib.Core.List.{_++_};
-ghost use Prim.Native.Nat.{_+_, _*_, _≤_};
+ghost use Prim.Native.Nat.{_*_, _≤_};
 ghost use lib.ListN.{length, take, drop};
 ghost use Rattle.sizes.specs.Sizes.{member-bytes, most-nodes, most-cells, node-words, cell-words};
 ghost use Rattle.layout.specs.Keeps.{Keeps};
@@ -205,7 +205,7 @@ fn deliver(
     cells: &mut [u32],
 ) -> Answer
     requires { ⌜ (node-words * (a .nodes) ≤ length (now «node_list»)) × (cell-words * (a .cells) ≤ length (now «cell_list»)) × (a .nodes ≤ most-nodes) × (a .cells ≤ most-cells) ⌝ }
-    ensures { λ r. ⌜ spec.Filled a (now («node_list» .entry)) (now («cell_list» .entry)) (now (nodes .entry)) (now (cells .entry)) r (now (nodes .exit)) (now (cells .exit)) ⌝ }
+    ensures { λ r. ⌜ whole.Filled a (now («node_list» .entry)) (now («cell_list» .entry)) (now (nodes .entry)) (now (cells .entry)) r (now (nodes .exit)) (now (cells .exit)) ⌝ }
 {
     let used = a.nodes as usize;
     let m = a.cells as usize;

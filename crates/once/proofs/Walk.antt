@@ -7,7 +7,7 @@ use native.Mathlib.Numerals.{sub-one}
 use native.Mathlib.Omega.{arith}
 use borrow.Author.Tests.{eq-eqb, ne-eqb}
 use Rattle.sizes.specs.Sizes.{node-words}
-use Rattle.layout.specs.Layout.{pick}
+use Rattle.layout.specs.Layout.{among, pick}
 use Rattle.once.specs.declared.Verdict.the-variants.{Fine, Bad}
 use Rattle.once.specs.Once.{word, fresh, isLeaf, leaf, leaves, firstBad, firsts}
 
@@ -26,6 +26,15 @@ pub at-first : (step : ℕ) (ws : List ℕ) (k : ℕ) → 0 < k → firsts step 
 unfolding firsts
 at-first step ws zero h = absurd (omega arith)
 at-first step ws (suc k) h = rw sub-one
+
+-- a search for x in a list of which y comes first, where b is what the whole search has to find
+pub found : {x y : ℕ} {l rest : List ℕ} {b : Bool} → among x l ≡ b → l ≡ y ∷ rest → y ≡ x → true ≡ b
+unfolding among
+found {x} {y} {l} {rest} {b} i e h = rw (e, eq-eqb x y (sym h)) at i
+
+pub passed : {x y : ℕ} {l rest : List ℕ} {b : Bool} → among x l ≡ b → l ≡ y ∷ rest → (y ≡ x → ⊥) → among x rest ≡ b
+unfolding among
+passed {x} {y} {l} {rest} {b} i e n = rw (e, ne-eqb x y (λ h. n (sym h))) at i
 
 -- ---- what the code knows of the leaf indexes seen so far, and that what is left has the answer of the whole
 

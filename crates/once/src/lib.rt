@@ -9,6 +9,7 @@ ghost use Rattle.sizes.specs.Sizes.{most-nodes, most-cells, node-words};
 ghost use Rattle.layout.specs.Layout.{among};
 ghost use Rattle.once.specs.Once as spec;
 ghost use Rattle.once.specs.declared.Verdict.the-variants.{Fine};
+use layout::number::at_most;
 use sizes::LEAF_INDEX;
 use sizes::MOST_CELLS;
 use sizes::MOST_NODES;
@@ -29,13 +30,6 @@ pub fn word(ws: &[u32], i: usize) -> u32
     ensures { λ r. ⌜ r ≡ spec.word (now (ws .entry)) i ⌝ }
 {
     if i < ws.len() { ws[i] } else { 0 }
-}
-
-// x, as far as limit.
-pub fn at_most(x: usize, limit: usize) -> usize
-    ensures { λ r. ⌜ r ≡ min x limit ⌝ }
-{
-    if x <= limit { x } else { limit }
 }
 
 // ---- leaves

@@ -148,9 +148,12 @@ unfoldable pub dimWords : ℕ → ℕ → ℕ → Tree Dimension → List ℕ
 dimWords i used at t =
     wordsAll (nodes category-depth) (size Category) (treeWords category-depth i no-parent) used (at + size (Value ▸ DimProperties) (dimOwn t) + 4) (dimCategories t)
 
--- place and length of its name, n, first node
+-- the words of a dimension's entry: place and length of its name, n, first node
+abbrev pub dimRecord : ℕ → ℕ → ℕ → ℕ → List ℕ
+dimRecord place long n first = place ∷ long ∷ n ∷ first ∷ []
+
 unfoldable pub dimEntry : ℕ → ℕ → Tree Dimension → List ℕ
-dimEntry used at t = at ∷ size Value (dimName t) ∷ length (dimLeaves t) ∷ used ∷ []
+dimEntry used at t = dimRecord at (size Value (dimName t)) (length (dimLeaves t)) used
 
 -- the same of dimensions that follow each other, from number i on
 unfoldable pub dimsWords : ℕ → ℕ → ℕ → List (Tree Dimension) → List ℕ
@@ -163,13 +166,13 @@ dimsEntries used at (t ∷ ts) = dimEntry used at t ++ dimsEntries (used + dimNo
 
 -- ---- axes and cells
 
--- index; place and length of the Value
-abbrev pub cellWords : ℕ → Tree Cell → List ℕ
-cellWords at t = cellIndex t ∷ (at + 8) ∷ size Value (cellValue t) ∷ []
+-- the words of a cell: index; place and length of the Value
+abbrev pub cellRecord : ℕ → ℕ → ℕ → List ℕ
+cellRecord index place long = index ∷ place ∷ long ∷ []
 
-unfoldable pub mapAll : {A : Type 0} → (A → ℕ) → List A → List ℕ
-mapAll f [] = []
-mapAll f (t ∷ ts) = f t ∷ mapAll f ts
+-- those of a cell at the place `at`: its index takes 8 bytes
+abbrev pub cellWords : ℕ → Tree Cell → List ℕ
+cellWords at t = cellRecord (cellIndex t) (at + 8) (size Value (cellValue t))
 
 -- the words of records that follow each other, from the place `at` on
 unfoldable pub rowsWords : {A : Type 0} → (A → ℕ) → (ℕ → A → List ℕ) → ℕ → List A → List ℕ

@@ -1,6 +1,5 @@
 // Dimensions: a name, properties and categories; when one ends, its n is known and its leaf indexes are tested.
 ghost use mathlib.Core.Path.{_≡_};
-ghost use mathlib.Core.List.{[], _∷_};
 ghost use Prim.Native.Nat.{_<_, _≤_, _+_, _*_};
 ghost use lib.ListN.{length, drop};
 ghost use lib.Seq.{sets};
@@ -14,6 +13,7 @@ ghost use Rattle.table.specs.Rules.{dimensionRule, dimensionsRule};
 ghost use Rattle.table.specs.Laws.Dims as spec;
 ghost use Rattle.table.specs.Laws.Within.{Room, Scratch, needed, within};
 ghost use Rattle.table.specs.Laws.LeastBytes.{least-category};
+ghost use Rattle.table.specs.Records.{dimRecord};
 use crate::LEAST_CATEGORY;
 use crate::Section;
 use crate::Walk;
@@ -65,10 +65,10 @@ fn name_length(at: usize, name: Step) -> u32
     }
 }
 
-// The four words of dimension i.
+// The entry of dimension i.
 fn store(dims: &mut [u32; DIMENSION_AREA], i: usize, place: u32, length: u32, n: u32, first: u32)
     requires { ⌜ i < most-dimensions ⌝ }
-    ensures { λ _. ⌜ now (dims .exit) ≡ sets (now (dims .entry)) (dimension-words * i) (place ∷ length ∷ n ∷ first ∷ []) ⌝ }
+    ensures { λ _. ⌜ now (dims .exit) ≡ sets (now (dims .entry)) (dimension-words * i) (dimRecord place length n first) ⌝ }
 {
     let at = DIMENSION_WORDS * i;
     dims[at] = place;

@@ -2,7 +2,7 @@
 use mathlib.Core.Path.{_≡_, refl, sym, ap, _∙_}
 use mathlib.Core.Bool.{true, false}
 use mathlib.Core.Option.{none, some}
-use mathlib.Core.List.{List, [], _∷_, _++_}
+use mathlib.Core.List.{List, [], _∷_, _++_, map}
 use Prim.Native.Nat.{ℕ, _+_, _-_, _*_, _≤_}
 use native.Mathlib.Nat.{add-zero}
 use native.Mathlib.Omega.{arith}
@@ -29,7 +29,7 @@ use Rattle.layout.specs.Words.{word32}
 use Rattle.layout.specs.Laws.Words.{word-same}
 use Rattle.once.specs.Once.{fresh, firsts}
 use Rattle.table.specs.Table.{Axes}
-use Rattle.table.specs.Records.{entryIndex, mapAll, rowsWords, sum, axisLayers, axisRows, axisColumns, axisEntries}
+use Rattle.table.specs.Records.{entryIndex, rowsWords, sum, axisLayers, axisRows, axisColumns, axisEntries}
 use Rattle.table.specs.Rules.{entryRule, threeRule, countsRule}
 use Rattle.cells.specs.declared.AxisCounts.{AxisCounts}
 use Rattle.cells.specs.declared.AxisCounts.the-variants as counts
@@ -95,7 +95,7 @@ pub record AllAxes (t : Tree Axes) (p : ℕ) (y : Order) : Type 0 where
   pub layers : y .layers ≡ axisLayers t
   pub rows : y .rows ≡ axisRows t
   pub columns : y .columns ≡ axisColumns t
-  pub order : y .order ≡ sets (replicate most-dimensions 0) 0 (mapAll entryIndex (axisEntries t))
+  pub order : y .order ≡ sets (replicate most-dimensions 0) 0 (map entryIndex (axisEntries t))
   pub few : length (axisEntries t) ≤ most-dimensions
 
 -- ---- the entries of the three groups, read as one run
@@ -163,8 +163,8 @@ unfolding check read bind passes pick
 check-counts d s at = simp (bind-assoc, bind-pick)
 
 -- the words of entries are their numbers
-entry-words : (at : ℕ) (ts : List (Tree int32)) → rowsWords (size int32) (λ at t. t .0 ∷ []) at ts ≡ mapAll entryIndex ts
-unfolding rowsWords mapAll
+entry-words : (at : ℕ) (ts : List (Tree int32)) → rowsWords (size int32) (λ at t. t .0 ∷ []) at ts ≡ map entryIndex ts
+unfolding rowsWords
 entry-words at [] = refl
 entry-words at (t ∷ ts) = ap (λ (l : List ℕ). t .0 ∷ l) (entry-words (at + size int32 t) ts)
 
@@ -258,7 +258,7 @@ module _ (s : List ℕ) (b : Bytes s) (at d : ℕ) {one two st : Step} (r₁ : R
             layers = word-same l (omega arith) ∙ sym l-is;
             rows = word-same r (omega arith) ∙ sym r-is;
             columns = word-same c (omega arith) ∙ sym c-is;
-            order = w .stored ∙ ap (λ (l : List ℕ). sets (replicate most-dimensions 0) 0 l) (entry-words f (k .tree) ∙ ap (λ (ts : List (Tree int32)). mapAll entryIndex ts) (sym (y .of)));
+            order = w .stored ∙ ap (λ (l : List ℕ). sets (replicate most-dimensions 0) 0 l) (entry-words f (k .tree) ∙ ap (λ (ts : List (Tree int32)). map entryIndex ts) (sym (y .of)));
             few = omega (arith, all, w .count);
           } in
           rw (check-counts d (drop at s) at, three .is, summed, y .is) (keeps-on refl kept)

@@ -12,7 +12,7 @@ use lib.Seq.{sets, length-sets}
 use Rattle.sizes.specs.Sizes.{member-bytes, most-cells, cell-words}
 use Rattle.layout.specs.declared.Step.{Step}
 use Rattle.layout.specs.declared.Step.the-variants.{Next, Refused}
-use Rattle.layout.specs.Layout.{any-number, little, _▸_, Tree, spell, Bytes, pick, size}
+use Rattle.layout.specs.Layout.{any-number, little, Tree, spell, Bytes, pick, size}
 use Rattle.layout.specs.Conventions.{int64}
 use Rattle.layout.specs.Rule.{Rule, plain, _▸▸_, items, tested}
 use Rattle.layout.specs.Read.{bind}
@@ -30,9 +30,9 @@ use Rattle.once.specs.Laws.{is-fresh}
 use Rattle.table.specs.declared.Walk.{Walk}
 use Rattle.table.specs.declared.Walk.the-variants as walk
 use Rattle.table.specs.Table.{Cell, Cells}
-use Rattle.table.specs.Records.{cellIndex, cellWords, rowsWords, cellValue, cellsOf}
+use Rattle.table.specs.Records.{cellIndex, cellWords, rowsWords, cellValue, cellsOf, cellRecord}
 use Rattle.table.specs.Laws.LeastBytes.{cell-bytes, least-cell}
-use Rattle.table.specs.Laws.Within.{Records, needed, Room}
+use Rattle.table.specs.Laws.Within.{RecordSizes, needed, Room}
 use Rattle.cells.specs.Laws.Rows.{Kind, words, Row, Rows, all-rows, rowOf, after, firsts-before}
 
 -- ---- a cell
@@ -54,7 +54,7 @@ cellOf places seen = tested (plain int64) 10 (λ t. pick (fresh places seen (t .
 
 -- the record of cell j, whose index is x and whose Value is read from p on
 pub data Recorded (s : List ℕ) (p j x : ℕ) (ws : List ℕ) : Step → List ℕ → Type 0 where
-  recorded : {q : ℕ} {vs : List ℕ} → Reads Value s (Next p) (Next q) → vs ≡ sets ws (cell-words * j) (word32 x ∷ word32 p ∷ word32 (q - p) ∷ []) → Recorded s p j x ws (Next q) vs
+  recorded : {q : ℕ} {vs : List ℕ} → Reads Value s (Next p) (Next q) → vs ≡ sets ws (cell-words * j) (cellRecord (word32 x) (word32 p) (word32 (q - p))) → Recorded s p j x ws (Next q) vs
   not-recorded : {n q : ℕ} {vs : List ℕ} → Reads Value s (Next p) (Refused n q) → Recorded s p j x ws (Refused n q) vs
 
 size-cell : (t : Tree Cell) → size Cell t ≡ 8 + size Value (cellValue t)
@@ -93,7 +93,7 @@ module _ (s : List ℕ) (b : Bytes s) (short : length s ≤ member-bytes) (at pl
         let index : word32 x ≡ num .found .tree .0 = word-same x (omega arith) ∙ sym (num .is) in
         let place : word32 p ≡ at + 8 = word-same p (omega arith) ∙ num .says .place in
         let length-is : word32 (q - p) ≡ z = ap word32 e₁ ∙ word-same z (omega arith) in
-        let same : word32 x ∷ word32 p ∷ word32 (q - p) ∷ [] ≡ num .found .tree .0 ∷ (at + 8) ∷ z ∷ [] =
+        let same : cellRecord (word32 x) (word32 p) (word32 (q - p)) ≡ cellRecord (num .found .tree .0) (at + 8) z =
         rw (index, place, length-is) in
         let kept : Row cell-kind at (j, ws) t q (j + 1, vs) = record {
           place = omega (arith, num .says .place, size-cell t);
@@ -108,7 +108,7 @@ module _ (s : List ℕ) (b : Bytes s) (short : length s ≤ member-bytes) (at pl
 -- ---- cells that follow each other
 
 -- the cell records
-abbrev pub cell-records : Records
+abbrev pub cell-records : RecordSizes
 cell-records = record { width = cell-words; least = least-cell; most = most-cells; number = 13 }
 
 abbrev pub AllRead : List ℕ → ℕ → ℕ → ℕ → List ℕ → Step → List ℕ → Type 0

@@ -1,7 +1,7 @@
 -- Records of a fixed number of words, one after the other, each of which begins with a number that those before it must not have: axis
 -- entries and cells. What is kept is how many there are, and their words.
 use mathlib.Core.Path.{_≡_, refl, sym, ap, _∙_, subst}
-use mathlib.Core.List.{List, [], _∷_}
+use mathlib.Core.List.{List, [], _∷_, map}
 use Prim.Native.Nat.{ℕ, zero, suc, _+_, _*_, _≤_, _<_}
 use native.Mathlib.Nat.{mul-suc}
 use native.Mathlib.Numerals.{add-one}
@@ -16,7 +16,7 @@ use Rattle.layout.specs.Check.{check}
 use Rattle.layout.specs.Keeps.{Out, on, off, Keeps, Each, each-none, each-more}
 use Rattle.layout.specs.Steps.Keeping.{kept-on, kept-off, Going, going, goes-on, goes-no, goes-to}
 use Rattle.once.specs.Once.{word, firsts}
-use Rattle.table.specs.Records.{sum, mapAll, rowsWords}
+use Rattle.table.specs.Records.{sum, rowsWords}
 use Rattle.table.specs.Laws.Words.{sets-append}
 
 -- an answer of the code, once there are j, and the words with it
@@ -90,18 +90,18 @@ all-rows k {at} {x} {y = y} (each-more {t = t} {p = m} {y = z} {ts = ts} {q = e}
 
 module _ {a : Layout} (k : Kind a) (u : List ℕ → Rule a) where
   abbrev pub after : List (Tree a) → Rule a
-  after done = u (mapAll (k .number) done)
+  after done = u (map (k .number) done)
 
   module _ (s : List ℕ) (n at : ℕ) (ws : List ℕ) where
     -- after i of them
     pub record Storing (i at′ : ℕ) (ws′ : List ℕ) : Type 0 where
       pub done : List (Tree a)
-      pub seen : firsts (k .width) ws′ i ≡ mapAll (k .number) done
+      pub seen : firsts (k .width) ws′ i ≡ map (k .number) done
       pub most : i ≤ n
       pub going : Going s after (Row k) n at (0, ws) i at′ (i, ws′) done
 
     pub storing : Storing 0 at ws
-    unfolding firsts mapAll
+    unfolding firsts
     storing = record { done = []; seen = refl; most = omega arith; going = going s after (Row k) n at (0, ws) }
 
     abbrev All : Out (ℕ × List ℕ) → Type 0
@@ -112,7 +112,6 @@ module _ {a : Layout} (k : Kind a) (u : List ℕ → Rule a) where
       Next-row = Keeps s (Row k at′ (i, ws′)) (check (u (firsts (k .width) ws′ i)) (drop at′ s) at′)
 
       pub stores-on : i < n → {p : ℕ} {vs : List ℕ} → k .width * i + k .width ≤ length ws′ → Next-row (on p (i + 1, vs)) → Storing (i + 1) p vs
-      unfolding mapAll
       stores-on h {p} {vs} room r₀ =
           let r = kept-on (rw (w .seen) at r₀) in
           let t = r .tree in

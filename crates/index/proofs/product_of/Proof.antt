@@ -6,7 +6,6 @@ use Rattle.sizes.specs.Sizes.{most-dimensions, most-places}
 use Rattle.index.specs.Index as spec
 use native.Mathlib.Nat.{min-eq-left, mul-one, one-mul}
 use Rattle.index.proofs.Capped.{more}
-use Rattle.index.specs.Laws.Product.{product-zero}
 use lib.Dec.{lit≤}
 use Rattle.index.proofs.Walk.{at-size}
 use Rattle.index.proofs.product_of.Statement.{statement}
@@ -21,15 +20,12 @@ product-of-spec =
     (i + left ≤ most-dimensions)
     × (p ≤ most-places + 1)
     × (min (p * spec.product (spec.sizes dims i left)) (most-places + 1) ≡ min (spec.product (spec.sizes dims 0 (min d most-dimensions))) (most-places + 1)))
-    (λ dims d d′ p₀ i₀ left₀ p i left. left) (λ _ _. tt) (λ c κs. omega arith)
-    (λ c.
-    let d = c .before .before .at-most .ensures in
-    rw (product-zero _ (rw d at (sym (c .before .has-zero .ensures) ∙ c .if1 .taken))))
-    (λ c. (omega arith, lit≤ tt, simp (one-mul, c .before .before .at-most .ensures))) (λ c. omega arith)
+    (λ dims d d′ p₀ i₀ left₀ p i left. left) (λ _ _. tt)
+    (λ c. (omega arith, lit≤ tt, simp (one-mul, c .at-most .ensures))) (λ c. omega arith)
     (λ c. omega arith) (λ _ _. tt) (λ c κs. omega arith) (λ c. omega arith) (λ c. omega arith) (λ c. omega arith)
     (λ c.
     let l = c .before .before .before in
-    let s = at-size (l .before .before .before .before .before .args .dims .now) (l .loop .i) (l .loop .left) (omega arith) in
+    let s = at-size (l .before .before .before .args .dims .now) (l .loop .i) (l .loop .left) (omega arith) in
     (omega arith, omega arith, more (most-places + 1) (l .loop .p) (c .times .ensures) (c .before .word .ensures) s (l .loop .inv .2)))
     (λ c.
     let l = c .before .loop in

@@ -6,7 +6,7 @@ use Prim.Native.Nat.{ℕ, zero, suc, _+_, _*_, _/_, _%_, _≤_, _<_}
 use native.Mathlib.Nat.{zero-mul, mul-comm, mul-one, one-mul, mul-assoc, mul-le-mul-left, mul-suc, mod-lt, div-add-mod, div-lt-iff-lt-mul, mul-add-div, mul-add-mod-self-left, mod-eq-of-lt, div-eq-of-lt, add-zero}
 use native.Mathlib.Omega.{arith}
 use Rattle.layout.specs.Layout.{all-none, all-more}
-use Rattle.index.specs.Index.{product, index-from, index, shape, Below}
+use Rattle.index.specs.Index.{product, index-from, index, shape, Inside}
 
 -- ---- below the product
 
@@ -20,13 +20,13 @@ step-below n p k x h l =
 turned : (p n q : ℕ) → p * (n * q) ≡ n * p * q
 turned p n q = sym (mul-assoc p n q) ∙ ap (λ (m : ℕ). m * q) (mul-comm p n)
 
-from-below : (k p : ℕ) → k < p → {ds : List (ℕ × ℕ)} → Below ds → index-from k ds < p * product (shape ds)
+from-below : (k p : ℕ) → k < p → {ds : List (ℕ × ℕ)} → Inside ds → index-from k ds < p * product (shape ds)
 unfolding product
 from-below k p h all-none = rw (mul-one p) h
 from-below k p h (all-more {x = d} {xs = ds} l ls) =
     rw (turned p (d .0) (product (shape ds))) (from-below (d .0 * k + d .1) (d .0 * p) (step-below (d .0) p k (d .1) h l) ls)
 
-pub index-below : {ds : List (ℕ × ℕ)} → Below ds → index ds < product (shape ds)
+pub index-below : {ds : List (ℕ × ℕ)} → Inside ds → index ds < product (shape ds)
 index-below {ds} b = rw (one-mul (product (shape ds))) at (from-below 0 1 (omega arith) b)
 
 -- ---- one set of coordinates
@@ -52,7 +52,7 @@ last-one n k x l y h h′ e =
 pair-one : (d e : ℕ × ℕ) → d .0 ≡ e .0 → d .1 ≡ e .1 → d ≡ e
 pair-one (n, x) (m, y) p q = rw (p, q)
 
-from-one : (k l : ℕ) {ds es : List (ℕ × ℕ)} → Below ds → Below es → shape ds ≡ shape es → index-from k ds ≡ index-from l es → (k ≡ l) × (ds ≡ es)
+from-one : (k l : ℕ) {ds es : List (ℕ × ℕ)} → Inside ds → Inside es → shape ds ≡ shape es → index-from k ds ≡ index-from l es → (k ≡ l) × (ds ≡ es)
 from-one k l all-none all-none s i = (i, refl)
 from-one k l all-none (all-more {x = e} {xs = es} h hs) s i = absurd (let s′ : [] ≡ e .0 ∷ shape es = s in let z : _≡_ {A = ℕ} 0 1 = cc in omega arith)
 from-one k l (all-more {x = d} {xs = ds} h hs) all-none s i = absurd (let s′ : d .0 ∷ shape ds ≡ [] = s in let z : _≡_ {A = ℕ} 0 1 = cc in omega arith)
@@ -65,7 +65,7 @@ from-one k l (all-more {x = d} {xs = ds} h hs) (all-more {x = e} {xs = es} h′ 
     (p .before, rw (pair-one d e same-n (p .same), q .1))
 
 -- Different coordinates have different indexes
-pub index-one : {ds es : List (ℕ × ℕ)} → Below ds → Below es → shape ds ≡ shape es → index ds ≡ index es → ds ≡ es
+pub index-one : {ds es : List (ℕ × ℕ)} → Inside ds → Inside es → shape ds ≡ shape es → index ds ≡ index es → ds ≡ es
 index-one b b′ e i = from-one 0 0 b b′ e i .1
 
 -- ---- each index
@@ -80,7 +80,7 @@ record Made (p : ℕ) (ns : List ℕ) (k : ℕ) : Type 0 where
   small : from < p
   coordinates : List (ℕ × ℕ)
   of-these : shape coordinates ≡ ns
-  below : Below coordinates
+  below : Inside coordinates
   is : index-from from coordinates ≡ k
 
 made : (p : ℕ) (ns : List ℕ) (k : ℕ) → k < p * product ns → Made p ns k
@@ -101,7 +101,7 @@ made p (n ∷ ns) k h = one-more (made (n * p) ns k (rw (turned p n (product ns)
         }
 
 -- Each index below the product is that of coordinates
-pub each-index : (ns : List ℕ) (k : ℕ) → k < product ns → (ds : List (ℕ × ℕ)) × (shape ds ≡ ns) × Below ds × (index ds ≡ k)
+pub each-index : (ns : List ℕ) (k : ℕ) → k < product ns → (ds : List (ℕ × ℕ)) × (shape ds ≡ ns) × Inside ds × (index ds ≡ k)
 each-index ns k h =
     let m = made 1 ns k (rw (one-mul (product ns)) h) in
     let first : m .from ≡ 0 = omega (arith, m .small) in

@@ -63,7 +63,7 @@ unfolding pick
 picked true x n q t r p e = (refl, e)
 picked false x n q t r p e = absurd (let z : _≡_ {A = ℕ} 0 1 = cc in omega arith)
 
-ended-got : (x : Got (Tree Member)) (t : Tree Member) (r : List ℕ) (p : ℕ) → ended x ≡ got t r p → (x ≡ got t r p) × (length r ≤ lead 0x01 1 r)
+pub ended-got : {A : Type 0} (x : Got A) (t : A) (r : List ℕ) (p : ℕ) → ended x ≡ got t r p → (x ≡ got t r p) × (length r ≤ lead 0x01 1 r)
 unfolding ended
 ended-got (no n q) t r p e = absurd (let z : _≡_ {A = ℕ} 0 1 = cc in omega arith)
 ended-got (got u s q) t r p e =

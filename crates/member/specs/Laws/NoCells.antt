@@ -1,18 +1,17 @@
 -- Document 01, "n of 3, 0, 5: only an empty cell list".
 use mathlib.Core.Path.{_≡_, refl}
 use mathlib.Core.Bool.{true}
-use mathlib.Core.List.{List, [], _∷_}
+use mathlib.Core.List.{List, [], _∷_, map}
 use Prim.Native.Nat.{ℕ}
 use native.Mathlib.Omega.{arith}
 use Rattle.layout.specs.Layout.{Tree, among}
 use Rattle.once.specs.Laws.{none-below}
 use Rattle.index.specs.Laws.Product.{product-zero}
 use Rattle.table.specs.Table.{Cell}
-use Rattle.table.specs.Records.{cellIndex, mapAll}
+use Rattle.table.specs.Records.{cellIndex}
 use Rattle.member.specs.Member.{Member, cells, ns, AsDemanded}
 
-no-more : (ts : List (Tree Cell)) → mapAll cellIndex ts ≡ [] → ts ≡ []
-unfolding mapAll
+no-more : (ts : List (Tree Cell)) → map cellIndex ts ≡ [] → ts ≡ []
 no-more [] e = refl
 no-more (t ∷ ts) e = absurd (let z : _≡_ {A = ℕ} 0 1 = cc in omega arith)
 

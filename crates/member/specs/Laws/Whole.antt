@@ -1,11 +1,11 @@
 -- The member, section by section, against its rule.
 use mathlib.Core.Path.{_≡_, refl, sym, ap, _∙_}
 use mathlib.Core.Bool.{Bool, true, false}
-use mathlib.Core.List.{List, [], _∷_, _++_}
+use mathlib.Core.List.{List, [], _∷_, _++_, map}
 use Prim.Native.Nat.{ℕ, zero, suc, _+_, _-_, _*_, _^_, _≤_, _<_, min}
 use native.Mathlib.Nat.{zero-add, sub-zero, zero-sub, suc-sub-suc}
 use native.Mathlib.Omega.{arith}
-use lib.ListN.{length, take, drop, getD, replicate, length-append, length-drop, length-replicate}
+use lib.ListN.{length, take, drop, getD, replicate, length-append, length-drop, length-replicate, length-map}
 use lib.Seq.{sets, length-sets, sets-eq, take-at, drop-drop, getD-drop}
 use lib.Dec.{leb}
 use borrow.Author.Tests.{leb-true, leb-false, le-leb, lt-leb}
@@ -26,7 +26,7 @@ use Rattle.sections.specs.Sections.{Front}
 use Rattle.once.specs.Once.{word}
 use Rattle.index.specs.Index.{sizes, product}
 use Rattle.table.specs.Table.{Dimension, Dimensions, Axes, Cell, Cells}
-use Rattle.table.specs.Records.{dimNodes, dimLeaves, dimEntry, dimsWords, dimsEntries, entryIndex, cellWords, mapAll, rowsWords, axisEntries, dimsOf, axisLayers, axisRows, axisColumns, cellsOf}
+use Rattle.table.specs.Records.{dimNodes, dimLeaves, dimEntry, dimsWords, dimsEntries, entryIndex, cellWords, rowsWords, axisEntries, dimsOf, axisLayers, axisRows, axisColumns, cellsOf}
 use Rattle.table.specs.Rules.{dimensionsRule, placesOf, countsRule, axesRule, cellsRule}
 use Rattle.table.specs.Laws.Lengths.{size-all}
 use Rattle.table.specs.Laws.LeastBytes.{cells-bytes, least-cell}
@@ -41,7 +41,8 @@ use Rattle.member.specs.declared.Tail.{Tail}
 use Rattle.member.specs.Member.{Member, order, cells, nodes, cellsStart, nodeRecords, dimensionEntries, cellRecords, frontSection, dimensionsSection, axesSection}
 use Rattle.member.specs.Refused.{memberRule}
 use Rattle.member.specs.Checked.{ended, checked}
-use Rattle.member.specs.Answer.{zeros, refusal, accepted, answerOf, nodesAfter, cellsAfter, Delivered, Filled}
+use Rattle.member.specs.Answer.{zeros, refusal, accepted, answerOf, nodesAfter, cellsAfter, Delivered}
+use Rattle.member.specs.Laws.Demanded.{ended-got}
 
 -- ---- the end
 
@@ -103,7 +104,7 @@ pub record Kept-tail (s : List ℕ) (at : ℕ) (ws : List ℕ) (a : Tree Axes) (
   pub on-layers : layers ≡ axisLayers a
   pub on-rows : rows ≡ axisRows a
   pub on-columns : columns ≡ axisColumns a
-  pub order : t .order ≡ sets (replicate most-dimensions 0) 0 (mapAll entryIndex (axisEntries a))
+  pub order : t .order ≡ sets (replicate most-dimensions 0) 0 (map entryIndex (axisEntries a))
   pub few-entries : length (axisEntries a) ≤ most-dimensions
   pub count : t .cells ≡ length (cellsOf c)
   pub stored : vs ≡ sets ws 0 (rowsWords (size Cell) cellWords (at + size Axes a + 4) (cellsOf c))
@@ -114,16 +115,6 @@ pub data TailIs (s : List ℕ) (at : ℕ) (ws : List ℕ) : Got (Tree Axes × Tr
   tail-on : {a : Tree Axes} {c : Tree Cells} {r : List ℕ} {p : ℕ} {t : Tail} {vs : List ℕ} (l rs cs q : ℕ) → t .axes ≡ counts.Of l rs cs q
       → Kept-tail s at ws a c l rs cs t vs → TailIs s at ws (got (a, c) r p) t vs
   tail-off : {n p : ℕ} {t : Tail} {vs : List ℕ} → t .axes ≡ counts.Refused n p → TailIs s at ws (no n p) t vs
-
--- a section before the end
-ended-is : {A : Type 0} (y : Got A) {t : A} {r : List ℕ} {p : ℕ} → ended y ≡ got t r p → y ≡ got t r p
-unfolding ended pick
-ended-is (no n q) h = absurd (let z : _≡_ {A = ℕ} 0 1 = cc in omega arith)
-ended-is (got u s q) {t} {r} {p} h = go (leb (length s) (lead 0x01 1 s)) h
-  where
-    go : (b : Bool) → pick b (got u s q) (no 11 (q + lead 0x01 1 s)) ≡ got t r p → got u s q ≡ got t r p
-    go true e = e
-    go false e = absurd (let z : _≡_ {A = ℕ} 0 1 = cc in omega arith)
 
 few-cells : (c : Tree Cells) → Valid Cells c → length (cellsOf c) ≤ most-cells
 unfolding passes
@@ -138,11 +129,11 @@ many-bytes c v f h =
 -- the code has the n of the d dimensions in the words ds
 abbrev pub TailRead : List ℕ → ℕ → ℕ → List ℕ → List ℕ → Tail → List ℕ → Type 0
 TailRead s at d ds ws t vs =
-    (ts : List (Tree Dimension)) → length ts ≤ most-dimensions → d ≡ length ts → sizes ds 0 d ≡ mapAll (λ t. length (dimLeaves t)) ts → at ≤ length s
+    (ts : List (Tree Dimension)) → length ts ≤ most-dimensions → d ≡ length ts → sizes ds 0 d ≡ map (λ t. length (dimLeaves t)) ts → at ≤ length s
     → TailIs s at ws (afterDims ts (drop at s) at) t vs
 
 module _ (s : List ℕ) (b : Bytes s) (at d : ℕ) (ds : List ℕ) {places : ℕ} (p-is : places ≡ min (product (sizes ds 0 (min d most-dimensions))) (2 ^ 32))
-    (ts : List (Tree Dimension)) (few : length ts ≤ most-dimensions) (d-is : d ≡ length ts) (ns : sizes ds 0 d ≡ mapAll (λ t. length (dimLeaves t)) ts) (inside : at ≤ length s) where
+    (ts : List (Tree Dimension)) (few : length ts ≤ most-dimensions) (d-is : d ≡ length ts) (ns : sizes ds 0 d ≡ map (λ t. length (dimLeaves t)) ts) (inside : at ≤ length s) where
   d-few : min d most-dimensions ≡ d
   d-few = omega arith
 
@@ -191,7 +182,7 @@ module _ (s : List ℕ) (b : Bytes s) (at d : ℕ) (ds : List ℕ) {places : ℕ
       with-cells {ws} {q} {m} {vs} k₀ {t} h₁ h₂ h₃ =
           let k = kept-on k₀ in
           let c = k .tree in
-          let is = ended-is (check (cellsRule places) (drop next s) next) (k .is) in
+          let is = ended-got (check (cellsRule places) (drop next s) next) c (drop q s) q (k .is) .0 in
           let f = found-by (cellsRule places) s b next c (drop q s) q is in
           let v = f .valid in
           let n-is : length (cellsOf c) ≡ c .0 = v .2 .0 in
@@ -225,14 +216,14 @@ sizes-drop ws (suc k) i =
     rw (e, getD-drop (dimension-words * i) ws dimension-n 0) (ap (λ (l : List ℕ). getD ws (dimension-words * i + dimension-n) 0 ∷ l) (sizes-drop ws k (i + 1)))
 
 sizes-entries : (used at : ℕ) (ts : List (Tree Dimension)) (R : List ℕ)
-    → sizesOf (length ts) (dimsEntries used at ts ++ R) ≡ mapAll (λ d. length (dimLeaves d)) ts
-unfolding sizesOf dimsEntries dimEntry mapAll
+    → sizesOf (length ts) (dimsEntries used at ts ++ R) ≡ map (λ d. length (dimLeaves d)) ts
+unfolding sizesOf dimsEntries dimEntry
 sizes-entries used at [] R = refl
 sizes-entries used at (t ∷ ts) R =
     ap (λ (l : List ℕ). length (dimLeaves t) ∷ l) (sizes-entries (used + dimNodes t) (at + size Dimension t) ts R)
 
 sizes-there : (at : ℕ) (ts : List (Tree Dimension)) → length ts ≤ most-dimensions
-    → sizes (sets (replicate dimension-area 0) 0 (dimsEntries 0 at ts)) 0 (length ts) ≡ mapAll (λ d. length (dimLeaves d)) ts
+    → sizes (sets (replicate dimension-area 0) 0 (dimsEntries 0 at ts)) 0 (length ts) ≡ map (λ d. length (dimLeaves d)) ts
 sizes-there at ts h =
     let W = dimsEntries 0 at ts in
     let fit : 0 + length W ≤ length (replicate {A = ℕ} dimension-area 0) = rw length-replicate (omega (arith, width-entries 0 at ts)) in
@@ -292,11 +283,6 @@ taken : (ws W : List ℕ) (k : ℕ) → ws ≡ replicate (length ws) 0 → lengt
 taken ws W k clear e h =
     let l : length W ≤ length ws = omega (arith, e, h) in
     ap (λ (zs : List ℕ). take k (sets zs 0 W)) clear ∙ ap (take k) (in-front (length ws) W l) ∙ take-at W (replicate (length ws - length W) 0) k e
-
-length-mapAll : {A : Type 0} (f : A → ℕ) (ts : List A) → length (mapAll f ts) ≡ length ts
-unfolding mapAll
-length-mapAll f [] = refl
-length-mapAll f (t ∷ ts) = ap suc (length-mapAll f ts)
 
 -- where the cells start
 cells-start : (t : Tree Member) → cellsStart t ≡ size Front (frontSection t) + size Dimensions (dimensionsSection t) + size Axes (axesSection t) + 4
@@ -406,7 +392,7 @@ module _ (s : List ℕ) (b : Bytes s) (ns cs : List ℕ) (room : ReadyLists s ns
               dims .keeps .entries ∙ in-front dimension-area (dimsEntries 0 (at + 4) ts) (omega (arith, all))
               ∙ ap (λ (n : ℕ). dimsEntries 0 (n + 4) ts ++ zeros (dimension-area - length (dimsEntries 0 (n + 4) ts))) at-is in
               let order-is : t .order ≡ order tree ++ zeros (most-dimensions - length (order tree)) =
-              k .order ∙ in-front most-dimensions (mapAll entryIndex (axisEntries a)) (omega (arith, length-mapAll entryIndex (axisEntries a), k .few-entries)) in
+              k .order ∙ in-front most-dimensions (map entryIndex (axisEntries a)) (omega (arith, length-map (axisEntries a) entryIndex, k .few-entries)) in
               let node-fit : node-words * nodes tree ≤ length ns = node-room s (length ns) (room .for-nodes) (nodes tree) (omega arith) (omega arith) in
               let cell-fit : cell-words * length (cells tree) ≤ length cs = cell-room s (length cs) (room .for-cells) (length (cells tree)) (k .few) (k .bytes) in
               record {
@@ -431,6 +417,14 @@ module _ (s : List ℕ) (b : Bytes s) (ns cs : List ℕ) (room : ReadyLists s ns
                 cell-room = omega (arith, cell-fit, ap length (k .stored), length-sets cs 0 (rowsWords (size Cell) cellWords (next + size Axes a + 4) (cellsOf x)));
               }
           go (tail-off x) f g = absurd (let z : _≡_ {A = ℕ} 0 1 = cc in omega arith)
+
+-- ---- what is delivered
+
+-- what is delivered of an answer a that accepts, with its records in front of two lists of words
+pub record Filled (a : Answer) (node-list cell-list nodes cells : List ℕ) (r : Answer) (nodes′ cells′ : List ℕ) : Type 0 where
+  pub answer : r ≡ pick (leb (node-words * a .nodes) (length nodes)) (pick (leb (cell-words * a .cells) (length cells)) a (refusal 13 0 (a .nodes) (a .cells))) (refusal 12 0 (a .nodes) (a .cells))
+  pub node-area : nodes′ ≡ pick (leb (node-words * a .nodes) (length nodes)) (pick (leb (cell-words * a .cells) (length cells)) (take (node-words * a .nodes) node-list ++ drop (node-words * a .nodes) nodes) nodes) nodes
+  pub cell-area : cells′ ≡ pick (leb (node-words * a .nodes) (length nodes)) (pick (leb (cell-words * a .cells) (length cells)) (take (cell-words * a .cells) cell-list ++ drop (cell-words * a .cells) cells) cells) cells
 
 pub delivered : {s : List ℕ} {a : Answer} {ms vs : List ℕ} → Told s a ms vs → {N C : List ℕ} {r : Answer} {N′ C′ : List ℕ} → Filled a ms vs N C r N′ C′ → Delivered (checked s) N C r N′ C′
 unfolding accepted answerOf nodesAfter cellsAfter

@@ -6,10 +6,9 @@ use native.Mathlib.Omega.{arith}
 use Rattle.sizes.specs.Sizes.{most-cells, node-words}
 use Rattle.layout.specs.Layout.{among}
 use Rattle.once.specs.Once as spec
-use Rattle.once.specs.Laws.Search.{found, passed}
 use native.Mathlib.Nat.{mul-le-mul}
 use mir.Facts.{fits-le, fits-lit}
-use Rattle.once.proofs.Walk.{at-first}
+use Rattle.once.proofs.Walk.{at-first, found, passed}
 use Rattle.once.proofs.seen_before.Statement.{statement}
 use Rattle.once.proofs.seen_before.Tie as tie
 

@@ -31,9 +31,9 @@ use Rattle.table.specs.declared.Walk.the-variants as walk
 use Rattle.table.specs.declared.Section.{Section}
 use Rattle.table.specs.declared.Section.the-variants as section
 use Rattle.table.specs.Table.{DimProperties, Dimension, Dimensions, Category}
-use Rattle.table.specs.Records.{sum, nodes, treeWords, dimNodes, dimWords, dimEntry, dimsWords, dimsEntries, dimOwn, dimCategories, dimsOf}
+use Rattle.table.specs.Records.{sum, nodes, treeWords, dimNodes, dimWords, dimEntry, dimsWords, dimsEntries, dimOwn, dimCategories, dimsOf, dimRecord}
 use Rattle.table.specs.Rules.{categoriesRule, leavesOf, placeOf, dimensionRule}
-use Rattle.table.specs.Laws.Within.{Records, needed, Room}
+use Rattle.table.specs.Laws.Within.{needed, Room, RecordSizes}
 use Rattle.table.specs.Laws.Words.{sets-append, width-all, width-tree}
 use Rattle.table.specs.Laws.Lengths.{size-dimension}
 use Rattle.table.specs.Laws.LeastBytes.{categories-bytes, least-category}
@@ -68,7 +68,7 @@ pub record Dim (at : ℕ) (x : Kept) (t : Tree Dimension) (p : ℕ) (y : Kept) :
   pub entries : y .entries ≡ sets (x .entries) (dimension-words * x .number) (dimEntry (x .used) at t)
 
 -- the node records
-abbrev pub node-records : Records
+abbrev pub node-records : RecordSizes
 node-records = record { width = node-words; least = least-category; most = most-nodes; number = 12 }
 
 -- ---- a dimension ends
@@ -88,7 +88,7 @@ verdictOf ls = firstBad (min (length ls) most-nodes) [] ls
 -- dimension i, whose name has the place `at` and the length n, ends at p, with u nodes in all
 pub data Closed (i at n used p u : ℕ) (ns ds : List ℕ) : Walk → List ℕ → Type 0 where
   closed : {es : List ℕ} → verdictOf (leavesFrom ns used u) ≡ Fine
-      → es ≡ sets ds (dimension-words * i) (word32 at ∷ n ∷ word32 (length (leavesFrom ns used u)) ∷ word32 used ∷ []) → Closed i at n used p u ns ds (walk.On p u) es
+      → es ≡ sets ds (dimension-words * i) (dimRecord (word32 at) n (word32 (length (leavesFrom ns used u))) (word32 used)) → Closed i at n used p u ns ds (walk.On p u) es
   bad-leaf : {q : ℕ} {es : List ℕ} → verdictOf (leavesFrom ns used u) ≡ Bad q → Closed i at n used p u ns ds (walk.Refused 8 q) es
 
 -- ---- a dimension
@@ -200,7 +200,7 @@ module _ (s : List ℕ) (b : Bytes s) (short : length s ≤ member-bytes) (at : 
           let e₁ = simp append-assoc at (start .there .spelt) in
           v .is ∙ step-spelt Value (h .0 .0) (start .there .valid .0 .0) s at _ e₁
 
-      entry-is : word32 at ∷ nameLength at name ∷ word32 (length ls) ∷ word32 (x .used) ∷ [] ≡ dimEntry (x .used) at tree
+      entry-is : dimRecord (word32 at) (nameLength at name) (word32 (length ls)) (word32 (x .used)) ≡ dimEntry (x .used) at tree
       unfolding dimEntry
       entry-is =
           let z = size Value (start .tree .0 .0) in

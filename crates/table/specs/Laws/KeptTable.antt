@@ -4,7 +4,7 @@ use mathlib.Core.Path.{_≡_, refl, sym, ap, _∙_}
 use mathlib.Core.Logic.{_↔_}
 use mathlib.Core.Bool.{Bool, true, false}
 use mathlib.Core.Option.{none, some}
-use mathlib.Core.List.{List, [], _∷_, _++_}
+use mathlib.Core.List.{List, [], _∷_, _++_, map}
 use Prim.Native.Nat.{ℕ, zero, suc, _+_, _≤_}
 use native.Mathlib.Omega.{arith}
 use lib.ListN.{length, length-map}
@@ -19,12 +19,12 @@ use Rattle.once.specs.Once.{OnceEach, AllFresh, Leaf, indexes, fresh, firstBad}
 use Rattle.once.specs.Laws.{all-fresh, none-bad}
 use Rattle.value.specs.Value.{Value}
 use Rattle.table.specs.Table.{CategoryIn, DimProperties, Dimension, Dimensions, Axes, Cell, Cells, Category}
-use Rattle.table.specs.Records.{Head, sum, nodes, leafIndexes, dimNodes, dimLeaves, LeavesOnce, entryIndex, cellIndex, mapAll, leafIndex, dimOwn, dimCategories, dimsOf, axisLayers, axisRows, axisColumns, axisEntries, cellsOf}
+use Rattle.table.specs.Records.{Head, sum, nodes, leafIndexes, dimNodes, dimLeaves, LeavesOnce, entryIndex, cellIndex, leafIndex, dimOwn, dimCategories, dimsOf, axisLayers, axisRows, axisColumns, axisEntries, cellsOf}
 use Rattle.table.specs.Rules.{categoryRule, leavesAll, treeLeaves, leavesOf, placeOf, dimensionRule, dimensionsRule, placesOf, entryRule, axesRule, cellRule, cellsRule}
 
 -- ---- the number of nodes
 
--- trees that follow each other, each of which passes exactly when Q holds of it and the nodes up to its end are at most 4,096
+-- trees that follow each other, each of which passes exactly when Q holds of it and the nodes up to its end are at most `most-nodes`
 module _ {A : Type 0} (count : A → ℕ) (Q : A → Type 0) (P : List A → A → Type 0) (used : ℕ)
     (one : (done : List A) (t : A) → used + sum count done ≤ most-nodes → P done t ↔ ((used + sum count done + count t ≤ most-nodes) × Q t)) where
   few : (done ts : List A) → used + sum count done ≤ most-nodes → KeptAll P done ts → (used + sum count done + sum count ts ≤ most-nodes) × All Q ts
@@ -45,7 +45,7 @@ anything : {A : Type 0} (ts : List A) → All (λ _. Unit {0}) ts
 anything [] = all-none
 anything (t ∷ ts) = all-more tt (anything ts)
 
--- Nodes: a category after `used` others passes exactly when the nodes up to its end are at most 4,096
+-- Nodes: a category after `used` others passes exactly when the nodes up to its end are at most `most-nodes`
 category-kept : (d used : ℕ) (t : Tree (CategoryIn d)) → Kept (categoryRule d used) t ↔ (used + nodes d t ≤ most-nodes)
 unfolding categoryRule nodes sum
 category-kept zero used t = absurd t
@@ -121,7 +121,7 @@ dimension-kept used t l =
           ((tt, so-few (nodes category-depth) (λ _. Unit {0}) P used one [] (dimCategories t) (omega arith) (anything (dimCategories t))), leaves-once t .1 (m .1)),
     )
 
--- Dimensions: at most 4,096 nodes in all, and the leaf indexes of each once each
+-- Dimensions: at most `most-nodes` nodes in all, and the leaf indexes of each once each
 pub dimensions-kept : (t : Tree Dimensions) → Kept dimensionsRule t ↔ ((sum dimNodes (dimsOf t) ≤ most-nodes) × All LeavesOnce (dimsOf t))
 unfolding dimensionsRule sum
 dimensions-kept t =
@@ -155,20 +155,18 @@ module _ {A : Type 0} (P : List A → A → Type 0) where
       let h = kept-apart before (t ∷ done) ts in
       (λ k. (k .0, h .0 (k .1)), λ k. (k .0, h .1 (k .1)))
 
-  module _ (n : ℕ) (x : A → ℕ) (one : (done : List A) (t : A) → P done t ↔ (fresh n (mapAll x done) (x t) ≡ true)) where
-    fresh-kept : (done ts : List A) → KeptAll P done ts ↔ AllFresh n (mapAll x done) (mapAll x ts)
-    unfolding mapAll
+  module _ (n : ℕ) (x : A → ℕ) (one : (done : List A) (t : A) → P done t ↔ (fresh n (map x done) (x t) ≡ true)) where
+    fresh-kept : (done ts : List A) → KeptAll P done ts ↔ AllFresh n (map x done) (map x ts)
     fresh-kept done [] = (λ k. k, λ k. k)
     fresh-kept done (t ∷ ts) =
         let h = fresh-kept (t ∷ done) ts in
         (λ k. (one done t .0 (k .0), h .0 (k .1)), λ k. (one done t .1 (k .0), h .1 (k .1)))
 
     -- each is fresh in its turn exactly when they stand once each
-    once-kept : (ts : List A) → KeptAll P [] ts ↔ OnceEach n (mapAll x ts)
-    unfolding mapAll
+    once-kept : (ts : List A) → KeptAll P [] ts ↔ OnceEach n (map x ts)
     once-kept ts =
         let h = fresh-kept [] ts in
-        let a = all-fresh n (mapAll x ts) in
+        let a = all-fresh n (map x ts) in
         (λ k. a .0 (h .0 k), λ o. h .1 (a .1 o))
 
 by-test : (b : Bool) (q : ℕ) → (pick b none (some q) ≡ none) ↔ (b ≡ true)
@@ -181,17 +179,17 @@ by-test false q = (λ e. absurd (let z : _≡_ {A = ℕ} 0 1 = cc in omega arith
 abbrev EntryKept : ℕ → List (Tree int32) → Tree int32 → Type 0
 EntryKept d done t = Kept (entryRule d done) t
 
-entry-kept : (d : ℕ) (done : List (Tree int32)) (t : Tree int32) → EntryKept d done t ↔ (fresh d (mapAll entryIndex done) (entryIndex t) ≡ true)
+entry-kept : (d : ℕ) (done : List (Tree int32)) (t : Tree int32) → EntryKept d done t ↔ (fresh d (map entryIndex done) (entryIndex t) ≡ true)
 unfolding entryRule
 entry-kept d done t =
-    let h = by-test (fresh d (mapAll entryIndex done) (entryIndex t)) 0 in
+    let h = by-test (fresh d (map entryIndex done) (entryIndex t)) 0 in
     (λ k. h .0 (k .1), λ e. (tt, h .1 e))
 
 -- the three groups are one list of entries
 three-kept : (d : ℕ) (ls rs cs : List (Tree int32))
     → ((KeptAll (EntryKept d) [] ls × KeptAll (λ done t. EntryKept d (done ++ onto [] ls) t) [] rs)
     × KeptAll (λ done t. EntryKept d (done ++ onto (onto [] ls) rs) t) [] cs)
-    ↔ OnceEach d (mapAll entryIndex (ls ++ rs ++ cs))
+    ↔ OnceEach d (map entryIndex (ls ++ rs ++ cs))
 three-kept d ls rs cs =
     let P = EntryKept d in
     let two = kept-joined P [] ls rs in
@@ -206,12 +204,12 @@ three-kept d ls rs cs =
           ((l .0, r .1 (l .1)), c .1 (rw e at (k .1))),
     )
 
--- Axes: the product is at most 4,294,967,295, the counts add up, each dimension is named once
+-- Axes: the product is at most `most-places`, the counts add up, each dimension is named once
 pub axes-kept : (ts : List (Tree Dimension)) (t : Tree Axes)
     → Kept (axesRule ts) t
     ↔ ((placesOf ts ≤ most-places)
     × (axisLayers t + axisRows t + axisColumns t ≡ length ts)
-    × OnceEach (length ts) (mapAll entryIndex (axisEntries t)))
+    × OnceEach (length ts) (map entryIndex (axisEntries t)))
 unfolding axesRule
 axes-kept ts t =
     let e = t .1 .1 .1 in
@@ -222,13 +220,13 @@ axes-kept ts t =
 
 -- ---- cells
 
-cell-kept : (n : ℕ) (done : List (Tree Cell)) (t : Tree Cell) → Kept (cellRule n done) t ↔ (fresh n (mapAll cellIndex done) (cellIndex t) ≡ true)
+cell-kept : (n : ℕ) (done : List (Tree Cell)) (t : Tree Cell) → Kept (cellRule n done) t ↔ (fresh n (map cellIndex done) (cellIndex t) ≡ true)
 unfolding cellRule
 cell-kept n done t =
-    let h = by-test (fresh n (mapAll cellIndex done) (cellIndex t)) 0 in
+    let h = by-test (fresh n (map cellIndex done) (cellIndex t)) 0 in
     (λ k. h .0 (k .0 .1), λ e. ((tt, h .1 e), tt))
 
 -- Cells: each is inside the table of n places, and no index stands twice
-pub cells-kept : (n : ℕ) (t : Tree Cells) → Kept (cellsRule n) t ↔ OnceEach n (mapAll cellIndex (cellsOf t))
+pub cells-kept : (n : ℕ) (t : Tree Cells) → Kept (cellsRule n) t ↔ OnceEach n (map cellIndex (cellsOf t))
 unfolding cellsRule
 cells-kept n t = once-kept (λ done c. Kept (cellRule n done) c) n cellIndex (cell-kept n) (cellsOf t)

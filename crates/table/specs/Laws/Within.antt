@@ -12,18 +12,18 @@ use Rattle.layout.specs.Read.{Got, no}
 
 -- records of so many words, of which each takes so many bytes or more and a member has at most so many, and the refusal of a list that is
 -- too short
-pub record Records : Type 0 where
+pub record RecordSizes : Type 0 where
   pub width : ℕ
   pub least : ℕ
   pub most : ℕ
   pub number : ℕ
 
 -- how many words the records of n bytes have at most
-abbrev pub needed : Records → ℕ → ℕ
+abbrev pub needed : RecordSizes → ℕ → ℕ
 needed r n = r .width * min (n / r .least) (r .most)
 
 -- a list of n words holds the records of all that the bytes of s can have
-abbrev pub Room : Records → ℕ → List ℕ → Type 0
+abbrev pub Room : RecordSizes → ℕ → List ℕ → Type 0
 Room r n s = (u : ℕ) → u ≤ r .most → r .least * u ≤ length s → r .width * u ≤ n
 
 -- What is known of scratch words after a call: their number. They are lists of the reader of members, and no area that a caller of it lent;
@@ -31,10 +31,10 @@ Room r n s = (u : ℕ) → u ≤ r .most → r .least * u ≤ length s → r .wi
 abbrev pub Scratch : List ℕ → List ℕ → Type 0
 Scratch before after = length after ≡ length before
 
-unfoldable pub within : {A : Type 0} → Records → List ℕ → ℕ → Got A → Got A
+unfoldable pub within : {A : Type 0} → RecordSizes → List ℕ → ℕ → Got A → Got A
 within r s room y = pick (leb (length s) member-bytes) (pick (leb (needed r (length s)) room) y (no (r .number) 0)) (no 1 0)
 
-module _ {A : Type 0} (r : Records) (s : List ℕ) (room : ℕ) (y : Got A) where
+module _ {A : Type 0} (r : RecordSizes) (s : List ℕ) (room : ℕ) (y : Got A) where
   pub too-long : member-bytes < length s → within r s room y ≡ no 1 0
   unfolding within pick
   too-long h = rw (lt-leb (length s) member-bytes h)
