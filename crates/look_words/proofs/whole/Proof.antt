@@ -7,14 +7,11 @@ use Rattle.look_words.proofs.whole.Tie as tie
 returns : tie.Need-returns
 unfolding lookWords
 returns c =
-    let c₁ = c .before .before .before .before in
-    let c₂ = c₁ .before .before .before .before in
-    let c₃ = c₂ .before .before .before .before in
-    let c₄ = c₃ .before .before .before .before in
-    let c₅ = c₄ .before .before .before .before in
-    let c₆ = c₅ .before .before .before .before in
-    c₆ .before .before .put .ensures ⟩ c₅ .before .before .lines .ensures ⟩ c₄ .before .before .lines2 .ensures
-    ⟩ c₃ .before .before .area .ensures ⟩ c₂ .before .before .most-areas .ensures ⟩ c₁ .before .before .frames .ensures
+    let c₂ = c .before .before .before .before .before .before .before .before in
+    let c₄ = c₂ .before .before .before .before .before .before .before .before in
+    let c₆ = c₄ .before .before .before .before .before .before .before .before in
+    c₆ .before .before .put .ensures ⟩ c₄ .before .before .before .before .before .before .lines .ensures ⟩ c₄ .before .before .lines2 .ensures
+    ⟩ c₂ .before .before .before .before .before .before .area .ensures ⟩ c₂ .before .before .most-areas .ensures ⟩ c .before .before .before .before .before .before .frames .ensures
     ⟩ c .before .before .v2-numbers .ensures
 
 pub whole-spec : {M : Type 1} → statement M

@@ -11,8 +11,6 @@ area-spec =
     (tie.spec
     (λ _ _. tt) (λ _ _. tt) (λ _ _. tt) (λ _ _. tt) (λ c. search needs)
     (λ c.
-    let c₁ = c .before .before .before .before in
-    let c₂ = c₁ .before .before .before .before in
-    let c₃ = c₂ .before .before .before .before in
-    c₃ .before .before .area-color .ensures ⟩ c₂ .before .before .alignment .ensures ⟩ c₁ .before .before .font .ensures
+    let c₂ = c .before .before .before .before .before .before .before .before in
+    c₂ .before .before .before .before .before .before .area-color .ensures ⟩ c₂ .before .before .alignment .ensures ⟩ c .before .before .before .before .before .before .font .ensures
     ⟩ c .before .before .typeface .ensures))

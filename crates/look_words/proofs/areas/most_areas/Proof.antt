@@ -6,14 +6,11 @@ use Rattle.look_words.proofs.areas.most_areas.Tie as tie
 returns : tie.Need-returns
 unfolding most-areas
 returns c =
-    let c₁ = c .before .before .before .before in
-    let c₂ = c₁ .before .before .before .before in
-    let c₃ = c₂ .before .before .before .before in
-    let c₄ = c₃ .before .before .before .before in
-    let c₅ = c₄ .before .before .before .before in
-    let c₆ = c₅ .before .before .before .before in
-    c₆ .before .before .area .ensures ⟩ c₅ .before .before .area2 .ensures ⟩ c₄ .before .before .area3 .ensures
-    ⟩ c₃ .before .before .area4 .ensures ⟩ c₂ .before .before .area5 .ensures ⟩ c₁ .before .before .area6 .ensures
+    let c₂ = c .before .before .before .before .before .before .before .before in
+    let c₄ = c₂ .before .before .before .before .before .before .before .before in
+    let c₆ = c₄ .before .before .before .before .before .before .before .before in
+    c₆ .before .before .area .ensures ⟩ c₄ .before .before .before .before .before .before .area2 .ensures ⟩ c₄ .before .before .area3 .ensures
+    ⟩ c₂ .before .before .before .before .before .before .area4 .ensures ⟩ c₂ .before .before .area5 .ensures ⟩ c .before .before .before .before .before .before .area6 .ensures
     ⟩ c .before .before .area7 .ensures
 
 pub most-areas-spec : {M : Type 1} → statement M

@@ -11,8 +11,6 @@ four-spec =
     (tie.spec
     (λ _ _. tt) (λ _ _. tt) (λ _ _. tt) (λ _ _. tt) (λ c. search needs)
     (λ c.
-    let c₁ = c .before .before .before .before in
-    let c₂ = c₁ .before .before .before .before in
-    let c₃ = c₂ .before .before .before .before in
-    c₃ .before .before .separator .ensures ⟩ c₂ .before .before .separator2 .ensures ⟩ c₁ .before .before .separator3 .ensures
+    let c₂ = c .before .before .before .before .before .before .before .before in
+    c₂ .before .before .before .before .before .before .separator .ensures ⟩ c₂ .before .before .separator2 .ensures ⟩ c .before .before .before .before .before .before .separator3 .ensures
     ⟩ c .before .before .separator4 .ensures))

@@ -6,12 +6,10 @@ use Rattle.look_words.proofs.borders.frames.Tie as tie
 returns : tie.Need-returns
 unfolding frames
 returns c =
-    let c₁ = c .before .before .before .before in
-    let c₂ = c₁ .before .before .before .before in
-    let c₃ = c₂ .before .before .before .before in
-    let c₄ = c₃ .before .before .before .before in
-    c₄ .before .before .separator .ensures ⟩ c₃ .before .before .frame .ensures ⟩ c₂ .before .before .frame2 .ensures
-    ⟩ c₁ .before .before .separator2 .ensures ⟩ c .before .before .separator3 .ensures
+    let c₂ = c .before .before .before .before .before .before .before .before in
+    let c₄ = c₂ .before .before .before .before .before .before .before .before in
+    c₄ .before .before .separator .ensures ⟩ c₂ .before .before .before .before .before .before .frame .ensures ⟩ c₂ .before .before .frame2 .ensures
+    ⟩ c .before .before .before .before .before .before .separator2 .ensures ⟩ c .before .before .separator3 .ensures
 
 pub frames-spec : {M : Type 1} → statement M
 frames-spec =

@@ -4,15 +4,12 @@ use Rattle.look_write.proofs.put.area.Tie as tie
 
 returns : tie.Need-returns
 returns c =
-    let c₁ = c .before .before .before .before in
-    let c₂ = c₁ .before .before .before .before in
-    let c₃ = c₂ .before .before .before .before in
-    let c₄ = c₃ .before .before .before .before in
-    let c₅ = c₄ .before .before .before .before in
-    let c₆ = c₅ .before .before .before .before in
-    plain (c₆ .before .before .mark .ensures) ⟫ plain (c₅ .before .before .mark2 .ensures)
-    ⟫ plain (c₄ .before .before .area-color .ensures) ⟫ plain (c₃ .before .before .mark3 .ensures)
-    ⟫ plain (c₂ .before .before .mark4 .ensures) ⟫ plain (c₁ .before .before .mark5 .ensures)
+    let c₂ = c .before .before .before .before .before .before .before .before in
+    let c₄ = c₂ .before .before .before .before .before .before .before .before in
+    let c₆ = c₄ .before .before .before .before .before .before .before .before in
+    plain (c₆ .before .before .mark .ensures) ⟫ plain (c₄ .before .before .before .before .before .before .mark2 .ensures)
+    ⟫ plain (c₄ .before .before .area-color .ensures) ⟫ plain (c₂ .before .before .before .before .before .before .mark3 .ensures)
+    ⟫ plain (c₂ .before .before .mark4 .ensures) ⟫ plain (c .before .before .before .before .before .before .mark5 .ensures)
     ⟫ c .before .before .area-style .ensures
 
 pub area-spec : {M : Type 1} → statement M

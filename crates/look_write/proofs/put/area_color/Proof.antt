@@ -4,14 +4,11 @@ use Rattle.look_write.proofs.put.area_color.Tie as tie
 
 returns : tie.Need-returns
 returns c =
-    let c₁ = c .before .before .before .before in
-    let c₂ = c₁ .before .before .before .before in
-    let c₃ = c₂ .before .before .before .before in
-    let c₄ = c₃ .before .before .before .before in
-    let c₅ = c₄ .before .before .before .before in
-    let c₆ = c₅ .before .before .before .before in
-    c₆ .before .before .mark .ensures ⊳ c₅ .before .before .mark2 .ensures ⊳ c₄ .before .before .mark3 .ensures
-    ⊳ c₃ .before .before .color .ensures ⊳ c₂ .before .before .color2 .ensures ⊳ c₁ .before .before .small .ensures
+    let c₂ = c .before .before .before .before .before .before .before .before in
+    let c₄ = c₂ .before .before .before .before .before .before .before .before in
+    let c₆ = c₄ .before .before .before .before .before .before .before .before in
+    c₆ .before .before .mark .ensures ⊳ c₄ .before .before .before .before .before .before .mark2 .ensures ⊳ c₄ .before .before .mark3 .ensures
+    ⊳ c₂ .before .before .before .before .before .before .color .ensures ⊳ c₂ .before .before .color2 .ensures ⊳ c .before .before .before .before .before .before .small .ensures
     ⊳ c .before .before .mark4 .ensures
 
 pub area-color-spec : {M : Type 1} → statement M

@@ -7,18 +7,15 @@ use Rattle.look_write.proofs.put.font.Tie as tie
 
 returns : tie.Need-returns
 returns c =
-    let c₁ = c .before .before .before .before in
-    let c₂ = c₁ .before .before .before .before in
-    let c₃ = c₂ .before .before .before .before in
-    let c₄ = c₃ .before .before .before .before in
-    let c₅ = c₄ .before .before .before .before in
-    let c₆ = c₅ .before .before .before .before in
+    let c₂ = c .before .before .before .before .before .before .before .before in
+    let c₄ = c₂ .before .before .before .before .before .before .before .before in
+    let c₆ = c₄ .before .before .before .before .before .before .before .before in
     let a = c₆ .before .before .before .before .before .before in
     let f : SFits w32 (a .args .x .«font_size») = record { sfits = a .good .1 .1 .0 .1 .1 .0 .1 } in
     (rw (toZ-ofZ w32 (a .args .x .«font_size») f) at (c₆ .before .before .signed .ensures))
-    ⊳ c₅ .before .before .int16 .ensures ⊳ c₄ .before .before .two-zeros .ensures
-    ⊳ c₃ .before .before .int32 .ensures ⊳ c₂ .before .before .four-zeros .ensures
-    ⊳ c₁ .before .before .int162 .ensures ⊳ c .before .before .two-zeros2 .ensures
+    ⊳ c₄ .before .before .before .before .before .before .int16 .ensures ⊳ c₄ .before .before .two-zeros .ensures
+    ⊳ c₂ .before .before .before .before .before .before .int32 .ensures ⊳ c₂ .before .before .four-zeros .ensures
+    ⊳ c .before .before .before .before .before .before .int162 .ensures ⊳ c .before .before .two-zeros2 .ensures
 
 pub font-spec : {M : Type 1} → statement M
 font-spec =

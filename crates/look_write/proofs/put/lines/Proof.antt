@@ -9,11 +9,9 @@ lines-spec =
     (tie.spec
     (λ _ _. tt) (λ _ _. tt) (λ _ _. tt) (λ _ _. tt) (λ c. search needs)
     (λ c.
-    let c₁ = c .before .before .before .before in
-    let c₂ = c₁ .before .before .before .before in
-    let c₃ = c₂ .before .before .before .before in
-    (plain-more {n = 3} (c₃ .before .before .separator .ensures)
+    let c₂ = c .before .before .before .before .before .before .before .before in
+    (plain-more {n = 3} (c₂ .before .before .before .before .before .before .separator .ensures)
     (plain-more {n = 2} (c₂ .before .before .separator2 .ensures)
-    (plain-more {n = 1} (c₁ .before .before .separator3 .ensures)
+    (plain-more {n = 1} (c .before .before .before .before .before .before .separator3 .ensures)
     (plain-more {n = 0} (c .before .before .separator4 .ensures)
     plain-none))))))

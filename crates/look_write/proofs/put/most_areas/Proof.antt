@@ -4,18 +4,15 @@ use Rattle.look_write.proofs.put.most_areas.Tie as tie
 
 returns : tie.Need-returns
 returns c =
-    let c₁ = c .before .before .before .before in
-    let c₂ = c₁ .before .before .before .before in
-    let c₃ = c₂ .before .before .before .before in
-    let c₄ = c₃ .before .before .before .before in
-    let c₅ = c₄ .before .before .before .before in
-    let c₆ = c₅ .before .before .before .before in
+    let c₂ = c .before .before .before .before .before .before .before .before in
+    let c₄ = c₂ .before .before .before .before .before .before .before .before in
+    let c₆ = c₄ .before .before .before .before .before .before .before .before in
     (more-puts {n = 6} (c₆ .before .before .area .ensures)
-    (more-puts {n = 5} (c₅ .before .before .area2 .ensures)
+    (more-puts {n = 5} (c₄ .before .before .before .before .before .before .area2 .ensures)
     (more-puts {n = 4} (c₄ .before .before .area3 .ensures)
-    (more-puts {n = 3} (c₃ .before .before .area4 .ensures)
+    (more-puts {n = 3} (c₂ .before .before .before .before .before .before .area4 .ensures)
     (more-puts {n = 2} (c₂ .before .before .area5 .ensures)
-    (more-puts {n = 1} (c₁ .before .before .area6 .ensures)
+    (more-puts {n = 1} (c .before .before .before .before .before .before .area6 .ensures)
     (more-puts {n = 0} (c .before .before .area7 .ensures)
     none-puts)))))))
 

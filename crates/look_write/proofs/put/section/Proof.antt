@@ -9,9 +9,7 @@ section-spec =
     (tie.spec
     (λ _ _. tt) (λ _ _. tt) (λ _ _. tt) (λ _ _. tt) (λ _ _. tt) (λ c. search needs)
     (λ c.
-    let c₁ = c .before .before .before .before in
-    let c₂ = c₁ .before .before .before .before in
-    let c₃ = c₂ .before .before .before .before in
-    let c₄ = c₃ .before .before .before .before in
-    c₄ .before .before .mark .ensures ⊳ c₃ .before .before .mark2 .ensures ⊳ c₂ .before .before .mark3 .ensures
-    ⊳ c₁ .before .before .mark4 .ensures ⊳ c .before .before .plain-letters .ensures))
+    let c₂ = c .before .before .before .before .before .before .before .before in
+    let c₄ = c₂ .before .before .before .before .before .before .before .before in
+    c₄ .before .before .mark .ensures ⊳ c₂ .before .before .before .before .before .before .mark2 .ensures ⊳ c₂ .before .before .mark3 .ensures
+    ⊳ c .before .before .before .before .before .before .mark4 .ensures ⊳ c .before .before .plain-letters .ensures))

@@ -7,14 +7,11 @@ use Rattle.look_write.proofs.put.separator_style.Tie as tie
 returns : tie.Need-returns
 unfolding PVSeparatorStyle-name
 returns c =
-    let c₁ = c .before .before .before .before in
-    let c₂ = c₁ .before .before .before .before in
-    let c₃ = c₂ .before .before .before .before in
-    let c₄ = c₃ .before .before .before .before in
-    let c₅ = c₄ .before .before .before .before in
-    let c₆ = c₅ .before .before .before .before in
-    c₆ .before .before .section .ensures ⊳ c₅ .before .before .mark .ensures ⊳ c₄ .before .before .lines .ensures
-    ⊳ c₃ .before .before .mark2 .ensures ⊳ c₂ .before .before .mark3 .ensures ⊳ c₁ .before .before .mark4 .ensures
+    let c₂ = c .before .before .before .before .before .before .before .before in
+    let c₄ = c₂ .before .before .before .before .before .before .before .before in
+    let c₆ = c₄ .before .before .before .before .before .before .before .before in
+    c₆ .before .before .section .ensures ⊳ c₄ .before .before .before .before .before .before .mark .ensures ⊳ c₄ .before .before .lines .ensures
+    ⊳ c₂ .before .before .before .before .before .before .mark2 .ensures ⊳ c₂ .before .before .mark3 .ensures ⊳ c .before .before .before .before .before .before .mark4 .ensures
     ⊳ c .before .before .lines2 .ensures
 
 pub separator-style-spec : {M : Type 1} → statement M

@@ -4,17 +4,13 @@ use Rattle.look_write.proofs.put.settings.Tie as tie
 
 returns : tie.Need-returns
 returns c =
-    let c₁ = c .before .before .before .before in
-    let c₂ = c₁ .before .before .before .before in
-    let c₃ = c₂ .before .before .before .before in
-    let c₄ = c₃ .before .before .before .before in
-    let c₅ = c₄ .before .before .before .before in
-    let c₆ = c₅ .before .before .before .before in
-    let c₇ = c₆ .before .before .before .before in
-    let c₈ = c₇ .before .before .before .before in
-    c₈ .before .before .int16 .ensures ⊳ c₇ .before .before .mark .ensures ⊳ c₆ .before .before .mark2 .ensures
-    ⊳ c₅ .before .before .flag .ensures ⊳ c₄ .before .before .mark3 .ensures ⊳ c₃ .before .before .flag2 .ensures
-    ⊳ c₂ .before .before .mark4 .ensures ⊳ c₁ .before .before .int32-of .ensures
+    let c₂ = c .before .before .before .before .before .before .before .before in
+    let c₄ = c₂ .before .before .before .before .before .before .before .before in
+    let c₆ = c₄ .before .before .before .before .before .before .before .before in
+    let c₈ = c₆ .before .before .before .before .before .before .before .before in
+    c₈ .before .before .int16 .ensures ⊳ c₆ .before .before .before .before .before .before .mark .ensures ⊳ c₆ .before .before .mark2 .ensures
+    ⊳ c₄ .before .before .before .before .before .before .flag .ensures ⊳ c₄ .before .before .mark3 .ensures ⊳ c₂ .before .before .before .before .before .before .flag2 .ensures
+    ⊳ c₂ .before .before .mark4 .ensures ⊳ c .before .before .before .before .before .before .int32-of .ensures
     ⊳ c .before .before .int32-of2 .ensures
 
 pub settings-spec : {M : Type 1} → statement M

@@ -9,18 +9,15 @@ use Rattle.look_write.proofs.put.table_look.Tie as tie
 returns : tie.Need-returns
 unfolding PTTableLook-name
 returns c =
-    let c₁ = c .before .before .before .before in
-    let c₂ = c₁ .before .before .before .before in
-    let c₃ = c₂ .before .before .before .before in
-    let c₄ = c₃ .before .before .before .before in
-    let c₅ = c₄ .before .before .before .before in
-    let k = c₅ .before .before in
+    let c₂ = c .before .before .before .before .before .before .before .before in
+    let c₄ = c₂ .before .before .before .before .before .before .before .before in
+    let k = c₄ .before .before .before .before .before .before in
     let a = k .before .before .before .before .before .before .before .before .before .before .before .before .before .before .before .before .before .before .before .good in
     plain (k .before .before .before .before .before .section .ensures)
     ⟫ switch-puts (λ version. grammar.settings ▸ grammar.sections version) (a .1 .1 .1 .0 .1 .1 .0 .1) (k .before .known-two .ensures) (k .number .ensures)
     (plain (c₄ .before .before .settings .ensures)
-    ⟫ (plain (c₃ .before .before .separator-style .ensures) ⟫ plain (c₂ .before .before .cell-style .ensures)
-    ⟫ c₁ .before .before .text-style .ensures ⟫ c .before .before .v2-styles-if .ensures))
+    ⟫ (plain (c₂ .before .before .before .before .before .before .separator-style .ensures) ⟫ plain (c₂ .before .before .cell-style .ensures)
+    ⟫ c .before .before .before .before .before .before .text-style .ensures ⟫ c .before .before .v2-styles-if .ensures))
 
 pub table-look-spec : {M : Type 1} → statement M
 table-look-spec =

@@ -7,11 +7,9 @@ use Rattle.look_write.proofs.put.text_style.Tie as tie
 returns : tie.Need-returns
 unfolding PVTextStyle-name
 returns c =
-    let c₁ = c .before .before .before .before in
-    let c₂ = c₁ .before .before .before .before in
-    let c₃ = c₂ .before .before .before .before in
-    plain (c₃ .before .before .section .ensures) ⟫ plain (c₂ .before .before .mark .ensures)
-    ⟫ c₁ .before .before .area-style .ensures ⟫ c .before .before .most-areas .ensures
+    let c₂ = c .before .before .before .before .before .before .before .before in
+    plain (c₂ .before .before .before .before .before .before .section .ensures) ⟫ plain (c₂ .before .before .mark .ensures)
+    ⟫ c .before .before .before .before .before .before .area-style .ensures ⟫ c .before .before .most-areas .ensures
 
 pub text-style-spec : {M : Type 1} → statement M
 text-style-spec =

@@ -4,17 +4,13 @@ use Rattle.look_write.proofs.put.typeface.Tie as tie
 
 returns : tie.Need-returns
 returns c =
-    let c₁ = c .before .before .before .before in
-    let c₂ = c₁ .before .before .before .before in
-    let c₃ = c₂ .before .before .before .before in
-    let c₄ = c₃ .before .before .before .before in
-    let c₅ = c₄ .before .before .before .before in
-    let c₆ = c₅ .before .before .before .before in
-    let c₇ = c₆ .before .before .before .before in
-    plain (c₇ .before .before .flag .ensures) ⟫ plain (c₆ .before .before .flag2 .ensures)
-    ⟫ plain (c₅ .before .before .flag3 .ensures) ⟫ plain (c₄ .before .before .int32 .ensures)
-    ⟫ plain (c₃ .before .before .byte .ensures) ⟫ c₂ .before .before .name .ensures
-    ⟫ plain (c₁ .before .before .color .ensures) ⟫ plain (c .before .before .two-zeros .ensures)
+    let c₂ = c .before .before .before .before .before .before .before .before in
+    let c₄ = c₂ .before .before .before .before .before .before .before .before in
+    let c₆ = c₄ .before .before .before .before .before .before .before .before in
+    plain (c₆ .before .before .before .before .before .before .flag .ensures) ⟫ plain (c₆ .before .before .flag2 .ensures)
+    ⟫ plain (c₄ .before .before .before .before .before .before .flag3 .ensures) ⟫ plain (c₄ .before .before .int32 .ensures)
+    ⟫ plain (c₂ .before .before .before .before .before .before .byte .ensures) ⟫ c₂ .before .before .name .ensures
+    ⟫ plain (c .before .before .before .before .before .before .color .ensures) ⟫ plain (c .before .before .two-zeros .ensures)
 
 pub typeface-spec : {M : Type 1} → statement M
 typeface-spec =

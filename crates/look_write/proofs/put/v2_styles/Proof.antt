@@ -4,14 +4,11 @@ use Rattle.look_write.proofs.put.v2_styles.Tie as tie
 
 returns : tie.Need-returns
 returns c =
-    let c₁ = c .before .before .before .before in
-    let c₂ = c₁ .before .before .before .before in
-    let c₃ = c₂ .before .before .before .before in
-    let c₄ = c₃ .before .before .before .before in
-    let c₅ = c₄ .before .before .before .before in
-    plain (c₅ .before .before .frames .ensures) ⟫ c₄ .before .before .name .ensures
-    ⟫ plain (c₃ .before .before .int32 .ensures) ⟫ plain (c₂ .before .before .int322 .ensures)
-    ⟫ plain (c₁ .before .before .int323 .ensures) ⟫ plain (c .before .before .int324 .ensures)
+    let c₂ = c .before .before .before .before .before .before .before .before in
+    let c₄ = c₂ .before .before .before .before .before .before .before .before in
+    plain (c₄ .before .before .before .before .before .before .frames .ensures) ⟫ c₄ .before .before .name .ensures
+    ⟫ plain (c₂ .before .before .before .before .before .before .int32 .ensures) ⟫ plain (c₂ .before .before .int322 .ensures)
+    ⟫ plain (c .before .before .before .before .before .before .int323 .ensures) ⟫ plain (c .before .before .int324 .ensures)
 
 pub v2-styles-spec : {M : Type 1} → statement M
 v2-styles-spec =
