@@ -138,7 +138,7 @@ pub fn flag(s: &[u8], st: Step) -> GotBool
 }
 
 // The number that 32 bits are in two's complement.
-pub fn from_bits(v: u32) -> i32
+fn from_bits(v: u32) -> i32
     ensures { λ r. ⌜ (twos r ≡ v) × SFits w32 r ⌝ }
 {
     if v < 2147483648 {

@@ -3,7 +3,7 @@
 mod areas; // colors and styles
 mod borders; // separators
 
-ghost use Rattle.sizes.specs.Sizes.{look-words, look-answer-words};
+ghost use Rattle.sizes.specs.Sizes.{look-answer-words};
 ghost use Rattle.layout.specs.Read.{read};
 ghost use Rattle.look.specs.Look.{TableLook};
 ghost use Rattle.look.specs.Answers.{expected};
@@ -70,19 +70,6 @@ fn whole(out: &mut [u32], st: Step, x: Look) -> Step
     let st = most_areas(out, st, most);
     let st = frames(out, st, frames_of);
     v2_numbers(out, st, v2)
-}
-
-// Puts the words of a look at the front of an area and gives how many they are; 0, with nothing changed, if the area is shorter.
-pub fn look_words(look: Look, area: &mut [u32]) -> usize
-    ensures { λ r. ⌜ AtFront look-words (lookWords look) (now (area .entry)) r (now (area .exit)) ⌝ }
-{
-    let room = LOOK_WORDS <= area.len();
-    if room {
-        whole(area, Step::Next(0), look);
-        LOOK_WORDS
-    } else {
-        0
-    }
 }
 
 // Reads a look and puts its answer at the front of an area: the refusal, 0 if the look is accepted, and its place; then the words of the

@@ -22,7 +22,7 @@ use layout::slice::part;
 // ---- any field
 
 // Bytes as one field, which gets the refusal c unless it is 0.
-pub fn raw(buf: &mut [u8], st: Step, text: &[u8], c: u32) -> Step
+fn raw(buf: &mut [u8], st: Step, text: &[u8], c: u32) -> Step
     ensures { λ r. ⌜ Stores c (now (text .entry)) (now (buf .entry)) st (now (buf .exit)) r ⌝ }
 {
     let Step::Next(at) = st else {
