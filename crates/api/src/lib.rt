@@ -10,7 +10,7 @@ ghost use Rattle.sizes.specs.Sizes.{look-answer-words};
 ghost use Rattle.layout.specs.Layout.{pick};
 ghost use Rattle.layout.specs.Read.{read};
 ghost use Rattle.units.specs.Units.{in-pixels, in-points, height};
-ghost use Rattle.member.specs.Part.{partOf};
+ghost use Rattle.layout.specs.Part.{partOf};
 ghost use Rattle.desk.specs.Desk.{filledOf, nameOf};
 ghost use Rattle.look.specs.Look.{TableLook};
 ghost use Rattle.look.specs.Answers.{expected};

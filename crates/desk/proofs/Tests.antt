@@ -6,7 +6,7 @@ use lib.ListN.{length, take, getD}
 use borrow.Author.Tests.{le-leb, lt-leb}
 use Rattle.sizes.specs.Sizes.{node-words, name-place, name-length}
 use Rattle.layout.specs.Layout.{pick}
-use Rattle.member.specs.Part.{partOf}
+use Rattle.layout.specs.Part.{partOf}
 use Rattle.desk.specs.Desk.{filledOf, nameOf}
 
 pub enough : (area : List ℕ) (count : ℕ) → node-words * count ≤ length area → take (node-words * count) area ≡ filledOf area count

@@ -6,7 +6,7 @@ use lib.ListN.{length, take, getD}
 use lib.Dec.{leb}
 use Rattle.sizes.specs.Sizes.{node-words, name-place, name-length}
 use Rattle.layout.specs.Layout.{pick}
-use Rattle.member.specs.Part.{partOf}
+use Rattle.layout.specs.Part.{partOf}
 
 -- the words of the first `count` records of an area; none where the area has fewer
 unfoldable pub filledOf : List ℕ → ℕ → List ℕ

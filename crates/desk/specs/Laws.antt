@@ -11,7 +11,7 @@ use borrow.Author.Tests.{le-leb, lt-leb}
 use Rattle.sizes.specs.Sizes.{node-words, name-place, name-length}
 use Rattle.layout.specs.Layout.{pick}
 use Rattle.member.specs.declared.Answer.{Answer}
-use Rattle.member.specs.Part.{partOf}
+use Rattle.layout.specs.Part.{partOf}
 use Rattle.member.specs.Member.{nodes, nodeRecords}
 use Rattle.member.specs.Laws.RecordsSpelt.{node-width}
 use Rattle.member.specs.Demand3.{Accepted, Demand3}

@@ -1,4 +1,3 @@
 mod Areas
 mod Copied
 mod Ends
-mod Parts

@@ -4,6 +4,7 @@ ghost use mathlib.Core.List.{_++_};
 ghost use Prim.Native.Nat.{_*_, _≤_};
 ghost use lib.ListN.{length, take, drop};
 ghost use Rattle.sizes.specs.Sizes.{member-bytes, most-nodes, most-cells, node-words, cell-words};
+ghost use Rattle.layout.specs.Part.{partOf};
 ghost use Rattle.layout.specs.Keeps.{Keeps};
 ghost use Rattle.layout.specs.Check.{check};
 ghost use Rattle.table.specs.Rules.{cellsRule};
@@ -12,7 +13,6 @@ ghost use Rattle.cells.specs.Laws.Cells.{AllCells, cellsOut, cell-records};
 ghost use Rattle.member.specs.Answer as spec;
 ghost use Rattle.member.specs.Answer.{Delivered};
 ghost use Rattle.member.specs.Demand3.{Demand3};
-ghost use Rattle.member.specs.Part.{partOf};
 ghost use Rattle.member.specs.Checked.{ended, checked};
 ghost use Rattle.member.specs.Laws.Whole as whole;
 ghost use Rattle.member.specs.Laws.Whole.{short-member};
@@ -23,6 +23,7 @@ use cells::cells as cells_section;
 use index::product_of;
 use layout::Step;
 use layout::run::skip;
+use layout::slice::part as part_of;
 use sections::front;
 use sizes::CELL_AREA;
 use sizes::CELL_WORDS;
@@ -184,16 +185,7 @@ fn copy(from: &[u32], to: &mut [u32], n: usize)
 pub fn part(member: &[u8], place: usize, length: usize) -> &[u8]
     ensures { λ r. ⌜ now r ≡ partOf (now (member .entry)) place length ⌝ }
 {
-    if place <= member.len() {
-        if length <= member.len() - place {
-            let end = place + length;
-            &member[place..end]
-        } else {
-            &member[..0]
-        }
-    } else {
-        &member[..0]
-    }
+    part_of(member, place, length)
 }
 
 // The answer a, and its records into the lent areas, where these are large enough.

@@ -10,7 +10,7 @@ use lib.Dec.{leb}
 use borrow.Author.Tests.{leb-true, le-leb}
 use Rattle.sizes.specs.Sizes.{node-words, name-place, name-length, write-answer-words}
 use Rattle.layout.specs.Layout.{Bytes, pick}
-use Rattle.member.specs.Part.{partOf}
+use Rattle.layout.specs.Part.{partOf}
 use Rattle.desk.specs.Desk.{nameOf}
 use Rattle.look.specs.declared.Look.{Look}
 use Rattle.look.specs.declared.Answer.the-variants as look

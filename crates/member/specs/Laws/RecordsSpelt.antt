@@ -20,7 +20,7 @@ use Rattle.table.specs.Table.{Dimension, Dimensions, Axes, Cell, Cells}
 use Rattle.table.specs.Records.{cellWords, dimName, cellValue}
 use Rattle.table.specs.Laws.RecordsPoint.{categoryNames, all-names, Points, Pointing, record-of, after-digits, dims-point, entries-point, cells-point}
 use Rattle.member.specs.Member.{Member, final, dimensions, cells, nodes, dimensionsAt, cellsStart, nodeRecords, dimensionEntries, cellRecords, MemberDerivation, frontSection, axesSection, cellsSection}
-use Rattle.member.specs.Part.{partOf}
+use Rattle.layout.specs.Part.{partOf}
 use Rattle.table.specs.Laws.Dims.{width-entries, width-dims}
 use Rattle.table.specs.Laws.Words.{width-rows}
 

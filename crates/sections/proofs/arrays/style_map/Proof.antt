@@ -1,10 +1,8 @@
-use Rattle.sections.specs.Sections.{StyleMap}
 use Rattle.layout.specs.Steps.{reads}
 use Rattle.sections.proofs.arrays.style_map.Statement.{statement}
 use Rattle.sections.proofs.arrays.style_map.Tie as tie
 
 pub style-map-spec : {M : Type 1} → statement M
-unfolding StyleMap
 style-map-spec =
     tie.close
     (tie.spec

@@ -1,10 +1,8 @@
-use Rattle.sections.specs.Sections.{Border}
 use Rattle.layout.specs.Steps.{reads}
 use Rattle.sections.proofs.arrays.triple.Statement.{statement}
 use Rattle.sections.proofs.arrays.triple.Tie as tie
 
 pub triple-spec : {M : Type 1} → statement M
-unfolding Border
 triple-spec =
     tie.close
     (tie.spec
