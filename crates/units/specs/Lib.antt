@@ -1,2 +1,2 @@
 pub mod Units
-pub mod Theorems
+pub mod Laws
