@@ -112,6 +112,10 @@ size_t digarumbi_part(const uint8_t *member, size_t member_length, size_t place,
 
 /* ---- Looks ---- */
 
+/* Each class name that 002 quotes has its length before its letters, 16 bits, little-endian: PTTableLook 11, PVSeparatorStyle 16,
+ * PVCellStyle 11, PVTextStyle 11. The length is one field and the letters are the next, so a wrong length is number 3 at its first byte
+ * whatever follows it. */
+
 /* The answer of digarumbi_read_look has 264 words: refusal, place, and from word 2 on the look, in file order. Numbers below count from
  * the start of the look. After a refusal the look's words are all 0.
  *
@@ -149,7 +153,7 @@ enum {
 };
 
 /* Bytes of the longest look. */
-#define DIGARUMBI_LONGEST_LOOK 3152
+#define DIGARUMBI_LONGEST_LOOK 3160
 
 /* Reads a look. Returns 264, the words of the answer. Returns 0 if `answer` has fewer: then nothing is read and nothing changes.
  * Words of `answer` beyond 264 stay. */

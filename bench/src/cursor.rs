@@ -105,10 +105,16 @@ impl<'a> Cursor<'a> {
         expected.iter().try_for_each(|&byte| self.fixed_byte(byte))
     }
 
-    /// Letters that are one field together.
-    pub fn quoted_name(&mut self, expected: &[u8]) -> Result<(), Refusal> {
+    /// A class name: its length, a field of 16 bits, and its letters, the next field.
+    pub fn class_name(&mut self, letters: &[u8]) -> Result<(), Refusal> {
+        self.fixed_int16(letters.len() as u16)?;
         let place = self.place;
-        refuse_if(self.field(expected.len())? != expected, FIXED_DIFFERS, place)
+        refuse_if(self.field(letters.len())? != letters, FIXED_DIFFERS, place)
+    }
+
+    pub fn fixed_int16(&mut self, expected: u16) -> Result<(), Refusal> {
+        let place = self.place;
+        refuse_if(self.int16()? != expected, FIXED_DIFFERS, place)
     }
 
     pub fn fixed_int32(&mut self, expected: u32) -> Result<(), Refusal> {

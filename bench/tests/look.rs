@@ -7,13 +7,15 @@ use digarumbi_bench::random::Random;
 use digarumbi_bench::refusal::*;
 
 /// Where the version stands.
-const VERSION_PLACE: usize = 15;
+const VERSION_PLACE: usize = 17;
+/// Where the lengths of the class names stand if no separator is drawn, and these lengths.
+const LENGTHS: [(usize, u8); 4] = [(4, 11), (38, 16), (80, 11), (110, 11)];
 /// Where PVSeparatorStyle's first separator stands.
-const SEPARATORS: usize = 32 + 21;
+const SEPARATORS: usize = 34 + 23;
 /// Where the first shading stands if no separator is drawn.
-const SHADING: usize = 72 + 15 + 11;
+const SHADING: usize = 76 + 17 + 11;
 /// Where the first AreaStyle stands if no separator is drawn.
-const TITLE_STYLE: usize = 100 + 16;
+const TITLE_STYLE: usize = 106 + 18;
 /// Where the first font name's length stands if no separator is drawn.
 const FONT_NAME: usize = TITLE_STYLE + 46;
 
@@ -59,10 +61,10 @@ fn changed(mut file: Vec<u8>, place: usize, byte: u8) -> Vec<u8> {
 #[test]
 fn lengths() {
     let length = |look: &Look| write(look, &[7; 255], 4_000).unwrap().len();
-    assert_eq!(length(&empty_look(0)), 666);
-    assert_eq!(length(&empty_look(2)), 705);
-    assert_eq!(length(&longest_look(0)), 2_770);
-    assert_eq!(length(&longest_look(2)), 3_152);
+    assert_eq!(length(&empty_look(0)), 674);
+    assert_eq!(length(&empty_look(2)), 713);
+    assert_eq!(length(&longest_look(0)), 2_778);
+    assert_eq!(length(&longest_look(2)), 3_160);
 }
 
 #[test]
@@ -83,12 +85,12 @@ fn refusals_of_the_reader() {
     let refused = |number, place| Err((number, place));
     assert_eq!(read(Vec::new()), refused(2, 0));
     assert_eq!(read(changed(file(), 1, 0)), refused(3, 1));
-    assert_eq!(read(changed(file(), 14, b'x')), refused(3, 4));
-    assert_eq!(read(changed(file(), 4, b'x')[..14].to_vec()), refused(2, 4));
+    assert_eq!(read(changed(file(), 16, b'x')), refused(3, 6));
+    assert_eq!(read(changed(file(), 6, b'x')[..16].to_vec()), refused(2, 6));
     assert_eq!(read(changed(file(), VERSION_PLACE, 1)), refused(4, VERSION_PLACE));
-    assert_eq!(read(changed(file(), 20, 2)), refused(5, 20));
-    assert_eq!(read(changed(file(), 21, 1)), refused(3, 21));
-    assert_eq!(read(changed(file(), 27, 1)), refused(3, 24));
+    assert_eq!(read(changed(file(), 22, 2)), refused(5, 22));
+    assert_eq!(read(changed(file(), 23, 1)), refused(3, 23));
+    assert_eq!(read(changed(file(), 29, 1)), refused(3, 26));
     assert_eq!(read(changed(file(), SEPARATORS, 2)), refused(3, SEPARATORS));
     assert_eq!(read(changed(file(), SEPARATORS + 1, 1)), refused(3, SEPARATORS + 1));
     assert_eq!(read(changed(file(), SEPARATORS + 6, 3)), refused(3, SEPARATORS + 6));
@@ -102,22 +104,45 @@ fn refusals_of_the_reader() {
     assert_eq!(read(changed(file(), TITLE_STYLE + 40, 0xff)), refused(5, TITLE_STYLE + 40));
     let short = changed(file(), FONT_NAME, 5)[..FONT_NAME + 5].to_vec();
     assert_eq!(read(short), refused(2, FONT_NAME));
-    assert_eq!(read([file(), vec![0]].concat()), refused(11, 666));
-    assert_eq!(read(changed(file(), VERSION_PLACE, 2)), refused(2, 666));
-    assert_eq!(read(changed(shortest_file(2), VERSION_PLACE, 0)), refused(11, 666));
-    assert_eq!(read([shortest_file(2), vec![0]].concat()), refused(11, 705));
+    assert_eq!(read([file(), vec![0]].concat()), refused(11, 674));
+    assert_eq!(read(changed(file(), VERSION_PLACE, 2)), refused(2, 674));
+    assert_eq!(read(changed(shortest_file(2), VERSION_PLACE, 0)), refused(11, 674));
+    assert_eq!(read([shortest_file(2), vec![0]].concat()), refused(11, 713));
+}
+
+/// The length is a field before the letters: a wrong one is refused whatever follows it.
+#[test]
+fn lengths_of_class_names() {
+    let read = |file: &[u8]| read_look(file).map_err(|refusal| (refusal.number, refusal.place));
+    let refused = |number, place| Err((number, place));
+    for (place, length) in LENGTHS {
+        let (letters, end) = (place + 2, place + 2 + usize::from(length));
+        let file = shortest_file(2);
+        assert_eq!(file[place..letters], [length, 0]);
+        assert_eq!(read(&file[..place]), refused(2, place));
+        assert_eq!(read(&file[..place + 1]), refused(2, place));
+        assert_eq!(read(&file[..letters]), refused(2, letters));
+        assert_eq!(read(&file[..end - 1]), refused(2, letters));
+        assert_eq!(read(&changed(file.clone(), end - 1, b'x')), refused(3, letters));
+        for (byte, wrong) in [(place, length - 1), (place, length + 1), (place + 1, 1)] {
+            let other = changed(file.clone(), byte, wrong);
+            assert_eq!(read(&other), refused(3, place));
+            assert_eq!(read(&other[..letters]), refused(3, place));
+            assert_eq!(read(&changed(other, letters, b'x')), refused(3, place));
+        }
+    }
 }
 
 #[test]
 fn refusals_of_the_writer() {
     let refused = |number, place| Err(Refusal::new(number, place));
     assert_eq!(write(&empty_look(1), &[], 0), refused(4, VERSION_PLACE));
-    assert_eq!(write(&empty_look(0), &[], 665), refused(15, 0));
-    assert!(write(&empty_look(0), &[], 666).is_ok());
+    assert_eq!(write(&empty_look(0), &[], 673), refused(15, 0));
+    assert!(write(&empty_look(0), &[], 674).is_ok());
 
     let mut look = empty_look(0);
     look.v2.max_row_height = 1;
-    assert_eq!(write(&look, &[], 0), refused(16, 666));
+    assert_eq!(write(&look, &[], 0), refused(16, 674));
     look.title_color.shading = 11;
     assert_eq!(write(&look, &[], 0), refused(7, SHADING));
     look.separators1[0] = Separator::Drawn { color: 1 << 24, style: 0, width: 0 };
@@ -131,13 +156,13 @@ fn refusals_of_the_writer() {
     assert_eq!(write(&named(u32::MAX, 256), &[], 0), refused(7, FONT_NAME));
     assert_eq!(write(&named(1, 255), &[0; 255], 0), refused(2, FONT_NAME));
     assert_eq!(write(&named(u32::MAX, u32::MAX), &[0; 255], 0), refused(7, FONT_NAME));
-    assert_eq!(write(&named(1, 2), &[0; 3], 707).map(|file| file.len()), Ok(707));
+    assert_eq!(write(&named(1, 2), &[0; 3], 715).map(|file| file.len()), Ok(715));
 
     let mut look = empty_look(0);
     look.v2.continuation = Name { place: 9, length: 1 };
-    assert_eq!(write(&look, &[0; 20], 0), refused(16, 666));
+    assert_eq!(write(&look, &[0; 20], 0), refused(16, 674));
     look.v2.continuation.length = 0;
-    assert!(write(&look, &[], 666).is_ok());
+    assert!(write(&look, &[], 674).is_ok());
 }
 
 #[test]

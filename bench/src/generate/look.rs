@@ -1,24 +1,27 @@
 //! Random looks: accepted files, and looks for the writer.
 
 use super::field::*;
+use crate::encode::int16;
 use crate::look::{AreaColor, AreaStyle, Look, Name, Separator, V2Styles};
 use crate::random::Random;
 
 /// The bytes of an accepted look.
 pub fn look_bytes(random: &mut Random) -> Vec<u8> {
     let version = random.pick(&[0, 2]);
-    let mut bytes = b"\xff\xff\0\0PTTableLook".to_vec();
+    let mut bytes = section_name(b"PTTableLook");
     bytes.push(version);
     bytes.extend(random.bytes(2));
     bytes.extend([0, 0, random.bool(), 0, random.bool(), 0]);
     bytes.extend([54, 0, 0, 0, 18, 0, 0, 0]);
-    bytes.extend(b"\xff\xff\0\0PVSeparatorStyle\0");
+    bytes.extend(section_name(b"PVSeparatorStyle"));
+    bytes.push(0);
     bytes.extend(separators(random, 4));
     bytes.extend([0x03, 0x80, 0x00]);
     bytes.extend(separators(random, 4));
-    bytes.extend(b"\xff\xff\0\0PVCellStyle");
+    bytes.extend(section_name(b"PVCellStyle"));
     bytes.extend(area_color(random));
-    bytes.extend(b"\xff\xff\0\0PVTextStyle\0");
+    bytes.extend(section_name(b"PVTextStyle"));
+    bytes.push(0);
     bytes.extend(area_style(random));
     for _ in 0..7 {
         bytes.extend([0x06, 0x80]);
@@ -32,6 +35,11 @@ pub fn look_bytes(random: &mut Random) -> Vec<u8> {
         bytes.extend(int32s(random, 4));
     }
     bytes
+}
+
+/// The start of a section: its class name has its length before its letters.
+fn section_name(letters: &[u8]) -> Vec<u8> {
+    [&[0xff, 0xff, 0, 0][..], &int16(letters.len() as u16)[..], letters].concat()
 }
 
 fn separators(random: &mut Random, number: usize) -> Vec<u8> {

@@ -19,9 +19,9 @@ pub fn read_look(bytes: &[u8]) -> Result<Look, Refusal> {
     Ok(look)
 }
 
-fn section_name(cursor: &mut Cursor, name: &[u8]) -> Result<(), Refusal> {
+fn section_name(cursor: &mut Cursor, letters: &[u8]) -> Result<(), Refusal> {
     cursor.fixed_bytes(&[0xff, 0xff, 0x00, 0x00])?;
-    cursor.quoted_name(name)
+    cursor.class_name(letters)
 }
 
 fn table_look(cursor: &mut Cursor, look: &mut Look) -> Result<(), Refusal> {

@@ -49,9 +49,10 @@ impl Writer<'_> {
         self.fixed(&number.to_le_bytes());
     }
 
-    fn section_name(&mut self, name: &[u8]) {
+    fn section_name(&mut self, letters: &[u8]) {
         self.fixed(&[0xff, 0xff, 0x00, 0x00]);
-        self.fixed(name);
+        self.int16(letters.len() as u16);
+        self.fixed(letters);
     }
 
     fn color(&mut self, color: u32) -> Result<(), Refusal> {

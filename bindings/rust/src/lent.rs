@@ -26,7 +26,7 @@ pub const NODE_AREA: usize = 24_576;
 pub const CELL_AREA: usize = 12_288;
 
 /// Bytes of the longest look.
-pub const LONGEST_LOOK: usize = 3_152;
+pub const LONGEST_LOOK: usize = 3_160;
 
 /// Reads a member. Returns [`MEMBER_ANSWER`], or 0 if `answer` has fewer words.
 pub fn read_member(

@@ -1,6 +1,7 @@
 //! Binary table looks.
 //!
-//! The fields are those of source document 002, under its names.
+//! The fields are those of source document 002, under its names. In a file each class name that it
+//! quotes has its length before its letters.
 
 mod words;
 

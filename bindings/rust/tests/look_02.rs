@@ -26,5 +26,17 @@ fn rewritten_byte_for_byte() {
 #[test]
 fn refusals() {
     assert_eq!(Look::read(&FILE[..3]).unwrap_err().to_string(), "refused 2 at 3");
-    assert_eq!(rewrite_look(&FILE[..704]).unwrap_err().to_string(), "refused 2 at 701");
+    assert_eq!(rewrite_look(&FILE[..712]).unwrap_err().to_string(), "refused 2 at 709");
+}
+
+#[test]
+fn lengths_of_class_names() {
+    for (place, length) in [(4, 11), (38, 16), (80, 11), (110, 11)] {
+        assert_eq!(FILE[place..place + 2], [length, 0]);
+        let mut file = FILE.to_vec();
+        file[place] += 1;
+        let refused = format!("refused 3 at {place}");
+        assert_eq!(Look::read(&file).unwrap_err().to_string(), refused);
+        assert_eq!(rewrite_look(&file[..place + 2]).unwrap_err().to_string(), refused);
+    }
 }

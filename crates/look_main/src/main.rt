@@ -31,7 +31,7 @@ fn rewrite(file: &[u8]) {
     }
 }
 
-// An accepted look has at most 3,152 bytes, so a longer input is refused by its first 4,096.
+// An accepted look has at most 3,160 bytes, so a longer input is refused by its first 4,096.
 fn main() {
     let mut buf = io::buffer();
     let n = io::read_full(STDIN_FILENO, &mut buf);
