@@ -44,6 +44,13 @@ pub fn mark(s: &[u8], st: Step, b: u64) -> Step
     fixed(s, st, LITTLE, 1, b)
 }
 
+// The number n, in two bytes.
+pub fn int16_of(s: &[u8], st: Step, n: u64) -> Step
+    ensures { λ r. ⌜ Gives (grammar.field little 2 (the-number n)) (now (s .entry)) st r (n, tt) ⌝ }
+{
+    fixed(s, st, LITTLE, 2, n)
+}
+
 // The number n, in four bytes.
 pub fn int32_of(s: &[u8], st: Step, n: u64) -> Step
     ensures { λ r. ⌜ Gives (grammar.i n) (now (s .entry)) st r (n, tt) ⌝ }

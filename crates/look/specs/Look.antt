@@ -8,9 +8,10 @@ use lib.Dec.{eqb}
 use Rattle.layout.specs.Layout.{little, big, the-number, a-version, one-of, a-color, at-most, Layout, empty, number, string, _▸_, times, undigits}
 use Rattle.layout.specs.Conventions.{field, fixed, i, byte, bool, int16, int32}
 
--- "a quoted name in 002 is its letters and nothing else" (document 01), and is one field
+-- "The quoted names in 002 are class names, and each carries a 16-bit little-endian length before its letters"; "the length is one field, the
+-- letters the next" (document 02, T-02)
 abbrev pub quoted : List ℕ → Layout
-quoted letters = number big (length letters) (the-number (undigits big letters)) (λ _. empty)
+quoted letters = field little 2 (the-number (length letters)) ▸ field big (length letters) (the-number (undigits big letters))
 
 -- "int32 values in which the low 8 bits are the red component, the next 8 bits are green, and next 8 bits are blue, and the high bits are
 -- zeros"
@@ -21,7 +22,7 @@ color = field little 4 a-color
 abbrev pub name : Layout
 name = string little 1
 
--- ff ff 00 00 and the quoted name, with which each of the first four sections begins
+-- ff ff 00 00 and the class name, with which each of the first four sections begins
 abbrev pub section : List ℕ → Layout
 section letters = fixed 0xff ▸ fixed 0xff ▸ fixed 0 ▸ fixed 0 ▸ quoted letters
 

@@ -3,7 +3,7 @@
 --
 -- | No. | When | Place | Where a look has it |
 -- | 2 | a field doesn't fit in the input | first byte of the field | every number and name, a name with its length as one field |
--- | 3 | a fixed byte, fixed number or mark differs | the field | `fixed`, `i`, a quoted name; the type of a `Separator` |
+-- | 3 | a fixed byte, fixed number or mark differs | the field | `fixed`, `i`, the length of a class name, its letters; the type of a `Separator` |
 -- | 4 | look: version not 00 or 02 | version | `PTTableLook` |
 -- | 5 | a bool neither 0 nor 1 | the byte | `settings`, `typeface` |
 -- | 7 | "Shading above 10 is number 7 at the shading byte" | | `AreaColor` |

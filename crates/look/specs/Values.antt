@@ -2,6 +2,7 @@
 use mathlib.Core.Bool.{Bool, true, false}
 use mathlib.Core.List.{List, [], _∷_}
 use Prim.Native.Nat.{ℕ}
+use lib.ListN.{length}
 use lib.Dec.{eqb}
 use Rattle.layout.specs.Layout.{big, undigits}
 use Rattle.store.specs.Fields.{lent, Fields}
@@ -31,9 +32,9 @@ a & b = (a, b)
 abbrev pub num : ℕ → ℕ × Unit {0}
 num n = (n, tt)
 
--- a quoted name: its letters, as one number
+-- a class name: its length, and its letters as one number
 abbrev pub quoted : (letters : List ℕ) → Fields (grammar.quoted letters)
-quoted letters = num (undigits big letters)
+quoted letters = num (length letters) & num (undigits big letters)
 
 abbrev pub section : (letters : List ℕ) → Fields (grammar.section letters)
 section letters = num 0xff & num 0xff & num 0 & num 0 & quoted letters

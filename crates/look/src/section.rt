@@ -2,12 +2,21 @@
 ghost use Rattle.fields.specs.Gives.{Gives};
 ghost use Rattle.look.specs.Look as grammar;
 ghost use Rattle.look.specs.Values as values;
+use fields::read::int16_of;
 use fields::read::letters;
 use fields::read::mark;
-use fields::read::name;
 use layout::Step;
 
-// ff ff 00 00 and a quoted name.
+// A class name: its length, and its letters.
+fn quoted(s: &[u8], st: Step, text: &[u8]) -> Step
+    ensures { λ r. ⌜ Gives (grammar.quoted (now (text .entry))) (now (s .entry)) st r (values.quoted (now (text .entry))) ⌝ }
+{
+    let n = text.len() as u64;
+    let st = int16_of(s, st, n);
+    letters(s, st, text)
+}
+
+// ff ff 00 00 and a class name.
 pub fn section(s: &[u8], st: Step, text: &[u8]) -> Step
     ensures { λ r. ⌜ Gives (grammar.section (now (text .entry))) (now (s .entry)) st r (values.section (now (text .entry))) ⌝ }
 {
@@ -15,5 +24,5 @@ pub fn section(s: &[u8], st: Step, text: &[u8]) -> Step
     let st = mark(s, st, 0xff);
     let st = mark(s, st, 0);
     let st = mark(s, st, 0);
-    letters(s, st, text)
+    quoted(s, st, text)
 }

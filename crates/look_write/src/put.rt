@@ -1,4 +1,6 @@
 // The productions of 002, each written with its fields into a buffer.
+ghost use Prim.Native.Nat.{_^_, _<_};
+ghost use lib.ListN.{length};
 ghost use Rattle.layout.specs.Layout.{times};
 ghost use Rattle.store.specs.Puts.{Puts, PutsPlain};
 ghost use Rattle.look.specs.Look as grammar;
@@ -25,6 +27,7 @@ use store::write::color;
 use store::write::flag;
 use store::write::four_zeros;
 use store::write::int16;
+use store::write::int16_of;
 use store::write::int32;
 use store::write::int32_of;
 use store::write::mark;
@@ -35,15 +38,26 @@ use store::write::signed;
 use store::write::small;
 use store::write::two_zeros;
 
-// ff ff 00 00 and a quoted name.
+// A class name, which has fewer than 2^16 letters: its length, and its letters.
+fn quoted(buf: &mut [u8], st: Step, text: &[u8]) -> Step
+    requires { ⌜ length (now text) < 256 ^ 2 ⌝ }
+    ensures { λ r. ⌜ PutsPlain (grammar.quoted (now (text .entry))) (values.quoted (now (text .entry))) (now (buf .entry)) st (now (buf .exit)) r ⌝ }
+{
+    let n = text.len() as u16;
+    let st = int16_of(buf, st, n);
+    plain_letters(buf, st, text)
+}
+
+// ff ff 00 00 and a class name.
 fn section(buf: &mut [u8], st: Step, text: &[u8]) -> Step
+    requires { ⌜ length (now text) < 256 ^ 2 ⌝ }
     ensures { λ r. ⌜ PutsPlain (grammar.section (now (text .entry))) (values.section (now (text .entry))) (now (buf .entry)) st (now (buf .exit)) r ⌝ }
 {
     let st = mark(buf, st, 0xff);
     let st = mark(buf, st, 0xff);
     let st = mark(buf, st, 0);
     let st = mark(buf, st, 0);
-    plain_letters(buf, st, text)
+    quoted(buf, st, text)
 }
 
 fn settings(buf: &mut [u8], st: Step, x: Settings) -> Step

@@ -130,6 +130,13 @@ pub fn mark(buf: &mut [u8], st: Step, b: u8) -> Step
     number(buf, st, LITTLE, 1, b as u64, 0)
 }
 
+// The number n, in two bytes.
+pub fn int16_of(buf: &mut [u8], st: Step, n: u16) -> Step
+    ensures { λ r. ⌜ PutsPlain (grammar.field little 2 (the-number n)) (n, tt) (now (buf .entry)) st (now (buf .exit)) r ⌝ }
+{
+    number(buf, st, LITTLE, 2, n as u64, 0)
+}
+
 // The number n, in four bytes.
 pub fn int32_of(buf: &mut [u8], st: Step, n: u32) -> Step
     ensures { λ r. ⌜ PutsPlain (grammar.i n) (n, tt) (now (buf .entry)) st (now (buf .exit)) r ⌝ }

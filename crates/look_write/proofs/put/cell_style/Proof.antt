@@ -9,7 +9,7 @@ unfolding PVCellStyle-name
 cell-style-spec =
     tie.close
     (tie.spec
-    (λ c. search needs) (λ _ _. tt) (λ _ _. tt) (λ c. search needs)
+    (λ c. search needs) (λ c κs. search needs) (λ _ _. tt) (λ c. search needs)
     (λ c.
     let c₁ = c .before .before .before .before in
     c₁ .before .before .section .ensures ⊳ c .before .before .area-color .ensures))

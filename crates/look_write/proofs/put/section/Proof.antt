@@ -7,9 +7,9 @@ pub section-spec : {M : Type 1} → statement M
 section-spec =
     tie.close
     (tie.spec
-    (λ _ _. tt) (λ _ _. tt) (λ _ _. tt) (λ _ _. tt) (λ _ _. tt) (λ c. search needs)
+    (λ _ _. tt) (λ _ _. tt) (λ _ _. tt) (λ _ _. tt) (λ c κs. search needs) (λ c. search needs)
     (λ c.
     let c₂ = c .before .before .before .before .before .before .before .before in
     let c₄ = c₂ .before .before .before .before .before .before .before .before in
     c₄ .before .before .mark .ensures ⊳ c₂ .before .before .before .before .before .before .mark2 .ensures ⊳ c₂ .before .before .mark3 .ensures
-    ⊳ c .before .before .before .before .before .before .mark4 .ensures ⊳ c .before .before .plain-letters .ensures))
+    ⊳ c .before .before .before .before .before .before .mark4 .ensures ⊳ c .before .before .quoted .ensures))

@@ -18,5 +18,5 @@ pub separator-style-spec : {M : Type 1} → statement M
 separator-style-spec =
     tie.close
     (tie.spec
-    (λ c. search needs) (λ _ _. tt) (λ _ _. tt) (λ _ _. tt) (λ _ _. tt) (λ _ _. tt) (λ _ _. tt) (λ _ _. tt)
+    (λ c. search needs) (λ c κs. search needs) (λ _ _. tt) (λ _ _. tt) (λ _ _. tt) (λ _ _. tt) (λ _ _. tt) (λ _ _. tt)
     (λ c. long-plain (returns c)) returns)

@@ -23,5 +23,5 @@ pub table-look-spec : {M : Type 1} → statement M
 table-look-spec =
     tie.close
     (tie.spec
-    (λ c. search needs) (λ c. search needs) (λ _ _. tt) (λ _ _. tt) (λ _ _. tt) (λ _ _. tt) (λ _ _. tt) (λ _ _. tt)
+    (λ c. search needs) (λ c. search needs) (λ c κs. search needs) (λ _ _. tt) (λ _ _. tt) (λ _ _. tt) (λ _ _. tt) (λ _ _. tt)
     (λ _ _. tt) (λ _ _. tt) (λ c. long (returns c)) returns)

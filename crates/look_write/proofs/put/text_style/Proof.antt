@@ -15,4 +15,4 @@ pub text-style-spec : {M : Type 1} → statement M
 text-style-spec =
     tie.close
     (tie.spec
-    (λ c. search needs) (λ _ _. tt) (λ _ _. tt) (λ _ _. tt) (λ _ _. tt) (λ c. long (returns c)) returns)
+    (λ c. search needs) (λ c κs. search needs) (λ _ _. tt) (λ _ _. tt) (λ _ _. tt) (λ c. long (returns c)) returns)
