@@ -45,7 +45,7 @@ fieldWords f v =
     ++ words (grammar.PVSeparatorStyle ▸ grammar.PVCellStyle ▸ grammar.PVTextStyle) (f .1 .1 .1 .0)
     ++ words grammar.V2Styles v
 
--- 264 words: the refusal, 0 if the look is accepted, and its place, which is at most 3,152; then the look, all 0 on a refusal
+-- 264 words: the refusal, 0 if the look is accepted, and its place, which is at most `longest-look`; then the look, all 0 on a refusal
 unfoldable pub answerWords : Outcome → List ℕ
 answerWords (accepted f v) = 0 ∷ 0 ∷ fieldWords f v
 answerWords (refused n p) = n ∷ p ∷ replicate look-words 0

@@ -63,7 +63,7 @@ kept-placed (region o m a) t at h = tt
 
 -- ---- an accepted look has so few bytes
 
--- "the longest 2,770 and 3,152" (document 01)
+-- "2,778 and 3,160 bytes" (document 02, T-02)
 short : (t : Tree TableLook) → Valid TableLook t → length (spell TableLook t) ≤ longest-look
 short t v = rw most-bytes at (spell-most TableLook bounded t v)
 
