@@ -1,15 +1,10 @@
 -- A number of 32 bits as a signed number.
-use mathlib.Core.Path.{_≡_, refl, sym, ap, _∙_}
+use mathlib.Core.Path.{_≡_, refl, ap, _∙_}
 use Prim.Native.Nat.{ℕ, zero, suc, _-_, _≤_, _<_}
 use native.Mathlib.Omega.{arith}
 use lib.IntN.{ℤ, pos, negsuc, _-ℤ_}
-use mathlib.Core.Bool.{Bool, true, false, false≢true}
-use lib.Signed.{ltZ, nonNeg}
-use lib.IntN.{natAbs}
-use lib.Dec.{T}
-use borrow.Author.Tests.{ltb-true, le-ltb}
 use mir.Syntax.{w32}
-use mir.Val.{Fits, SFits, toZ, ofZ}
+use mir.Val.{SFits, toZ, ofZ}
 use mir.ValLaws.{toZ-ofZ}
 use Rattle.store.specs.Values.{twos}
 

@@ -13,7 +13,7 @@ use Rattle.layout.specs.declared.Step.the-variants.{Next, Refused}
 use Rattle.layout.specs.Layout.{Bytes, pick}
 use Rattle.layout.specs.Reads.{chain}
 use Rattle.store.specs.Check.{check}
-use Rattle.store.specs.Put.{State, stored, put}
+use Rattle.store.specs.Put.{stored}
 use Rattle.store.specs.Puts.{Puts}
 use Rattle.store.specs.Fields.{bytesIn}
 use Rattle.store.specs.Laws.Lands.{Lands, put-lands}

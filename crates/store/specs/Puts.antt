@@ -1,6 +1,5 @@
 -- What the contracts of writers say: a buffer b, and what was written so far, st, became b′ and r.
 use mathlib.Core.Path.{_≡_}
-use mathlib.Core.Bool.{Bool}
 use mathlib.Core.List.{List, _++_}
 use Prim.Native.Nat.{ℕ}
 use lib.ListN.{length, drop}

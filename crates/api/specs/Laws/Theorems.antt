@@ -1,5 +1,5 @@
 -- What the words mean: a name is where its place and length say, and a look that is written again has the bytes of its file.
-use mathlib.Core.Path.{_≡_, refl, ap, _∙_}
+use mathlib.Core.Path.{_≡_, refl, _∙_}
 use mathlib.Core.Bool.{Bool, true, false}
 use mathlib.Core.List.{List, [], _++_}
 use Prim.Native.Nat.{ℕ, _+_, _-_, _*_, _≤_}
@@ -16,7 +16,7 @@ use Rattle.look.specs.declared.Look.{Look}
 use Rattle.look.specs.declared.Answer.the-variants as look
 use Rattle.look_write.specs.Writing.{output}
 use Rattle.look_write.specs.Laws.Theorems as looks
-use Rattle.api.specs.Api.{namePlace, stepWords, Rewritten}
+use Rattle.api.specs.Api.{namePlace, Rewritten}
 
 -- `digarumbi_node_name` gives the length and the place of that name, at the words filled: they are where it lies in the member
 pub named : (member nodes : List ℕ) (i : ℕ) → nameOf member nodes i ≡ take (length (nameOf member nodes i)) (drop (namePlace member nodes i) member)

@@ -1,16 +1,16 @@
 -- Letters compared one by one, as one number.
 use mathlib.Core.Path.{_≡_, sym, ap, _∙_}
 use mathlib.Core.Bool.{Bool, true, false}
-use mathlib.Core.List.{List, [], _++_, append-nil}
-use Prim.Native.Nat.{ℕ, _+_, _-_, _^_, _≤_, _<_}
+use mathlib.Core.List.{List}
+use Prim.Native.Nat.{ℕ, _+_, _-_, _≤_, _<_}
 use native.Mathlib.Omega.{arith}
 use lib.ListN.{length, take, drop, getD, length-drop}
-use lib.Seq.{take-length, drop-length, ext-getD, length-take-le, getD-take, getD-drop}
+use lib.Seq.{ext-getD, length-take-le, getD-take, getD-drop}
 use lib.Dec.{eqb}
 use borrow.Author.Tests.{le-leb, lt-leb, eq-eqb, ne-eqb}
 use Rattle.layout.specs.declared.Step.the-variants.{Next, Refused}
-use Rattle.layout.specs.Layout.{Order, Test, any-number, passes, empty, number, spell, digits, Bytes, pick, undigits}
-use Rattle.layout.specs.Read.{got, bind, readNumber, read, refusal}
+use Rattle.layout.specs.Layout.{Order, Test, passes, empty, number, Bytes, pick, undigits}
+use Rattle.layout.specs.Read.{bind, readNumber, read, refusal}
 use Rattle.layout.specs.Reads.{step, chain, Reads}
 use Rattle.layout.specs.Laws.Spelt.{same-letters}
 use Rattle.layout.specs.Steps.Slices.{drop-bytes, take-bytes}

@@ -1,14 +1,14 @@
 -- What is read in bytes fits.
 use mathlib.Core.Path.{_≡_, refl}
-use mathlib.Core.List.{List, [], _∷_}
+use mathlib.Core.List.{List}
 use Prim.Native.Nat.{ℕ, _^_, _<_}
 use lib.ListN.{drop, getD}
 use mir.Syntax.{w8}
 use mir.Val.{Fits}
 use Rattle.layout.specs.declared.Step.{Step}
 use Rattle.layout.specs.declared.Step.the-variants.{Next, Refused}
-use Rattle.layout.specs.Layout.{Order, any-number, passes, empty, number, Bytes, pick}
-use Rattle.layout.specs.Read.{Got, got, no, bind, readNumber, read}
+use Rattle.layout.specs.Layout.{Order, any-number, empty, number, Bytes}
+use Rattle.layout.specs.Read.{Got, got, no, readNumber}
 use Rattle.layout.specs.Laws as laws
 use Rattle.layout.specs.Reads.{numberOf, peek}
 use Rattle.layout.specs.Steps.Slices.{bytes-of, drop-bytes}

@@ -1,11 +1,8 @@
 -- What comes before the nodes, the nodes and the cells, one after the other; nothing where they may not fit.
-use Prim.Native.Nat.{_≤_}
-use mathlib.Core.Path.{_≡_}
 use borrow.Author.Needs.{needs}
 use borrow.Author.Tests.{leb-true}
 use native.Mathlib.Omega.{arith}
 use lib.ListN.{length}
-use Rattle.report.specs.Lines.{records-bytes}
 use Rattle.report.specs.Laws.Puts.{_▹_, printed, unprinted}
 use Rattle.report.proofs.records.Statement.{statement}
 use Rattle.report.proofs.records.Tie as tie

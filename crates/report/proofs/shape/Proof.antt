@@ -1,9 +1,8 @@
 -- The table and the two rows, one after the other.
-use mathlib.Core.Path.{_≡_, ap}
+use mathlib.Core.Path.{ap}
 use borrow.Author.Needs.{needs}
 use native.Mathlib.Omega.{arith}
-use Prim.Native.Nat.{_≤_}
-use lib.ListN.{length, take}
+use lib.ListN.{length}
 use Rattle.report.specs.Laws.Puts.{_▹_}
 use Rattle.report.specs.Laws.Rows.{length-part}
 use Rattle.report.proofs.shape.Statement.{statement}

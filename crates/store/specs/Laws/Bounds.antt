@@ -1,5 +1,4 @@
 -- How many bytes the fields of a layout have at most.
-use mathlib.Core.Path.{_≡_, refl}
 use mathlib.Core.List.{List}
 use Prim.Native.Nat.{ℕ, _+_, _*_, _-_, _^_, _≤_, max}
 use native.Mathlib.Nat.{suc-mul}
@@ -11,7 +10,6 @@ use Rattle.layout.specs.declared.Step.the-variants.{Next, Refused}
 use Rattle.layout.specs.Layout.{Order, Test, Layout, empty, number, string, _▸_, times, leading, region, nothing, All, all-none, all-more, pick}
 use Rattle.layout.specs.Reads.{chain, verdict}
 use Rattle.store.specs.Fields.{Text, Fields, textOf}
-use Rattle.store.specs.Put.{textVerdict}
 use Rattle.store.specs.Check.{placeOf, judged, checkAll, check}
 use Rattle.store.specs.Fit.{Fit}
 use Rattle.store.specs.Laws.Verdicts.{NumberCase, number-good, number-bad, number-case, TextCase, text-good, text-longer, text-out, text-case, inside-length}

@@ -1,24 +1,23 @@
 -- A writer of fields refuses exactly what can't be written (Unwritable.antt), by that number and at that place: for every layout.
-use mathlib.Core.Path.{_≡_, refl, sym, ap, _∙_, subst}
+use mathlib.Core.Path.{_≡_, sym, ap, _∙_, subst}
 use mathlib.Core.Logic.{_↔_}
-use mathlib.Core.Bool.{Bool, true, false, false≢true}
+use mathlib.Core.Bool.{true, false, false≢true}
 use mathlib.Core.Option.{none, some}
 use mathlib.Core.List.{List, [], _∷_}
-use Prim.Native.Nat.{ℕ, _+_, _^_, _≤_}
+use Prim.Native.Nat.{ℕ, _+_, _≤_}
 use native.Mathlib.Omega.{arith}
 use lib.ListN.{length, length-append, length-replicate}
 use lib.Dec.{eqb}
 use Rattle.layout.specs.declared.Step.{Step}
 use Rattle.layout.specs.declared.Step.the-variants.{Next, Refused}
 use Rattle.layout.specs.Layout.{Order, Test, passes, Fill, exact, optional, open-ended, Layout, empty, number, string, _▸_, times, leading, region, nothing, spellAll, spellFill, spell, all-none, all-more, pick}
-use Rattle.layout.specs.Numbers.{refusal}
 use Rattle.layout.specs.Laws as laws
 use Rattle.layout.specs.Reads.{chain, verdict}
 use Rattle.layout.specs.Steps.Numbers.{broken}
 use Rattle.store.specs.Fields.{Text, FieldsIn, Fields, textOf, resolveAll, resolveIn, resolve, bytesIn, contentIn}
 use Rattle.store.specs.Put.{textVerdict, freeVerdict, runVerdict}
 use Rattle.store.specs.Check.{placeOf, judged, checkAll, checkIn, check}
-use Rattle.store.specs.Unwritable.{textLength, Inside, Outside, WritableIn, Writable, Unwritable, number-wrong, number-then, text-long, text-outside, first, second, here, later, run-long, run-then, content, optional-content, open-content, free-outside}
+use Rattle.store.specs.Unwritable.{Writable, Unwritable, number-wrong, number-then, text-long, text-outside, first, second, here, later, run-long, run-then, content, optional-content, open-content, free-outside}
 use Rattle.store.specs.Laws.Verdicts.{NumberCase, number-good, number-bad, number-case, TextCase, text-good, text-longer, text-out, text-case, FreeCase, free-good, free-out, free-case, RunCase, run-good, run-longer, run-case, long-verdict, out-verdict, free-verdict, longer-run, good-run, not-outside}
 
 -- ---- how many bytes fields have

@@ -15,8 +15,8 @@ use Rattle.layout.specs.Layout.{Order, Fill, exact, optional, open-ended, Layou
 use Rattle.layout.specs.Numbers.{too-short}
 use Rattle.layout.specs.Laws as laws
 use Rattle.layout.specs.Reads.{chain, verdict}
-use Rattle.store.specs.Fields.{Text, FieldsIn, Fields, textOf, resolveAll, resolveIn, resolve, bytesIn, contentIn}
-use Rattle.store.specs.Put.{State, stored, fitted, putField, textVerdict, freeVerdict, runVerdict, opened, closed, putAll, putIn, put, putWords}
+use Rattle.store.specs.Fields.{FieldsIn, Fields, textOf, resolveAll, resolveIn, resolve, bytesIn, contentIn}
+use Rattle.store.specs.Put.{State, stored, fitted, putField, textVerdict, freeVerdict, runVerdict, opened, closed, putAll, putIn, put}
 use Rattle.store.specs.Check.{placeOf, judged, checkAll, checkIn, check}
 use Rattle.store.specs.Laws.Exactly.{writable-exactly, forward}
 use Rattle.store.specs.Laws.Stored.{stored-none, stored-length, stored-more, stored-before}

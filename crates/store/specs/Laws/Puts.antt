@@ -1,26 +1,26 @@
 -- The laws by which a writer is proved from what its callees ensure.
 use mathlib.Core.Path.{_≡_, refl, sym, ap, _∙_}
 use mathlib.Core.Bool.{Bool, true, false}
-use mathlib.Core.List.{List, [], _∷_, _++_, append-nil}
+use mathlib.Core.List.{List, [], _∷_, _++_}
 use Prim.Native.Nat.{ℕ, suc, _+_, _-_, _^_, _≤_, _<_}
 use native.Mathlib.Nat.{zero-add}
 use native.Mathlib.Omega.{arith}
 use native.Mathlib.Numerals.{add-one}
-use lib.ListN.{length, take, drop, getD, set, length-append, drop-of-length-le}
+use lib.ListN.{length, drop, getD, set, length-append, drop-of-length-le}
 use lib.Seq.{drop-cons, set-split}
 use lib.Dec.{eqb, leb}
 use borrow.Author.Tests.{eq-eqb, eqb-true, le-leb, lt-leb, leb-true}
 use Rattle.layout.specs.declared.Step.{Step}
 use Rattle.layout.specs.declared.Step.the-variants.{Next, Refused}
-use Rattle.layout.specs.Layout.{Order, big, Bytes, Test, any-number, the-number, a-bool, passes, Fill, exact, Layout, empty, number, string, _▸_, times, region, digits, spellFill, All, all-none, all-more, pick, undigits}
+use Rattle.layout.specs.Layout.{Order, big, Bytes, Test, any-number, the-number, a-bool, passes, exact, Layout, empty, number, string, _▸_, times, region, digits, spellFill, all-none, all-more, pick, undigits}
 use Rattle.layout.specs.Numbers.{too-short}
 use Rattle.layout.specs.Reads.{verdict}
 use Rattle.layout.specs.Laws.{digits-length}
 use Rattle.layout.specs.Laws.Spelt.{digits-of, letters-lt}
 use Rattle.store.specs.Values.{bit}
-use Rattle.store.specs.Fields.{Text, lent, letters, Fields, textOf, resolveIn, bytesIn, contentIn}
+use Rattle.store.specs.Fields.{Text, Fields, textOf, resolveIn, bytesIn, contentIn}
 use Rattle.store.specs.Put.{State, stored, fitted, putField, textVerdict, opened, closed, putAll, putIn, put, putWords}
-use Rattle.store.specs.Fit.{FitText, Fit}
+use Rattle.store.specs.Fit.{FitText}
 use Rattle.store.specs.Puts.{Stores, Puts, PutsPlain, Closes, PutsWords, AtFront}
 use Rattle.store.specs.Laws.Stored.{stored-none, stored-length, stored-more}
 use Rattle.store.specs.Laws.Lands.{field-long, put-long}

@@ -1,21 +1,18 @@
 -- Fields and trees, for every layout: the fields of a tree lead back to it, and are written where its bytes stand; fields that fit and can be
 -- written are a valid tree's.
 use mathlib.Core.Path.{_≡_, refl, sym, ap, _∙_}
-use mathlib.Core.Bool.{Bool, true, false}
 use mathlib.Core.Option.{none, some}
 use mathlib.Core.List.{List, [], _∷_, _++_, append-assoc}
-use Prim.Native.Nat.{ℕ, zero, suc, _+_, _-_, _^_, _≤_, _<_}
+use Prim.Native.Nat.{ℕ, suc, _+_, _-_, _≤_}
 use native.Mathlib.Omega.{arith}
-use lib.ListN.{length, take, drop, replicate, length-append, length-drop, length-replicate}
+use lib.ListN.{length, drop, replicate, length-append, length-drop, length-replicate}
 use lib.Seq.{take-at, drop-at, drop-drop}
-use Rattle.layout.specs.declared.Step.{Step}
-use Rattle.layout.specs.declared.Step.the-variants.{Next, Refused}
-use Rattle.layout.specs.Layout.{Order, passes, Fill, exact, optional, open-ended, Filled, Layout, empty, number, string, _▸_, times, leading, region, nothing, Tree, digits, spellAll, spellFill, spell, Bytes, All, all-none, all-more, Leads, ValidFill, Valid}
+use Rattle.layout.specs.declared.Step.the-variants.{Next}
+use Rattle.layout.specs.Layout.{Order, Fill, exact, optional, open-ended, Filled, Layout, empty, number, string, _▸_, times, leading, region, nothing, Tree, digits, spellAll, spellFill, spell, Bytes, All, all-none, all-more, ValidFill, Valid}
 use Rattle.layout.specs.Laws as laws
 use Rattle.layout.specs.Steps.Slices.{drop-bytes, take-bytes}
-use Rattle.store.specs.declared.Name.{Name}
 use Rattle.store.specs.Fields.{Text, lent, letters, FieldsIn, Fields, placedAll, placedIn, placed, bytesOf, textOf, resolveAll, resolveIn, resolve, bytesIn, contentIn}
-use Rattle.store.specs.Unwritable.{textLength, Inside, WritableIn, Writable}
+use Rattle.store.specs.Unwritable.{WritableIn, Writable}
 use Rattle.store.specs.Fit.{FitText, FitIn, Fit}
 use Rattle.store.specs.Check.{check}
 use Rattle.store.specs.Laws.Verdicts.{inside-length}

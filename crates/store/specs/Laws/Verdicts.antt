@@ -4,7 +4,7 @@ use mathlib.Core.Bool.{Bool, true, false}
 use mathlib.Core.List.{List}
 use Prim.Native.Nat.{ℕ, _+_, _^_, _≤_, _<_}
 use native.Mathlib.Omega.{arith}
-use lib.ListN.{length, take, drop, length-drop}
+use lib.ListN.{length, drop, length-drop}
 use lib.Seq.{length-take-le}
 use lib.Dec.{eqb, leb, ltb}
 use borrow.Author.Tests.{leb-true, leb-false, ltb-true, ltb-false}
@@ -12,7 +12,6 @@ use Rattle.layout.specs.Layout.{Test, passes, pick}
 use Rattle.layout.specs.Numbers.{refusal, too-short, differs, limit-passed}
 use Rattle.layout.specs.Reads.{verdict}
 use Rattle.layout.specs.Steps.Numbers.{broken}
-use Rattle.store.specs.declared.Name.{Name}
 use Rattle.store.specs.Fields.{Text, lent, letters, bytesOf, textOf}
 use Rattle.store.specs.Put.{textVerdict, freeVerdict, runVerdict}
 use Rattle.store.specs.Unwritable.{textLength, Inside, Outside}

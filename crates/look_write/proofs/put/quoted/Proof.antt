@@ -1,5 +1,4 @@
 use borrow.Author.Needs.{needs}
-use native.Mathlib.Omega.{arith}
 use Rattle.store.specs.Laws.Puts.{_⊳_}
 use Rattle.look_write.proofs.put.quoted.Statement.{statement}
 use Rattle.look_write.proofs.put.quoted.Tie as tie

@@ -3,7 +3,7 @@ use Prim.Native.Nat.{_+_, _-_, _*_, _≤_, min}
 use mathlib.Core.Path.{_≡_, ap, _∙_}
 use borrow.Author.Needs.{needs}
 use native.Mathlib.Omega.{arith}
-use lib.ListN.{length, take, drop}
+use lib.ListN.{length, drop}
 use Rattle.report.specs.Text.{Puts}
 use Rattle.report.specs.Lines.{row-bytes, tableOf}
 use Rattle.report.specs.Laws.Puts.{_▹_, nothing}

@@ -1,9 +1,8 @@
 -- What io::decimal writes is the number's decimal.
-use Prim.Native.Nat.{_≤_}
-use mathlib.Core.Path.{_≡_, ap, _∙_}
+use mathlib.Core.Path.{_≡_, _∙_}
 use borrow.Author.Needs.{needs}
 use native.Mathlib.Omega.{arith}
-use lib.ListN.{length, take}
+use lib.ListN.{take}
 use Rattle.report.specs.Text.{decimal}
 use Rattle.report.specs.Laws.Decimal.{most-digits, is-decimal}
 use Rattle.report.proofs.text.number.Statement.{statement}

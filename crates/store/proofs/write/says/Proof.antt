@@ -7,7 +7,6 @@ use native.Mathlib.Numerals.{sub-one}
 use native.Mathlib.Omega.{arith}
 use lib.Dec.{eqb, ltb}
 use borrow.Author.Tests.{lt-ltb, le-ltb, ltb-true, ltb-false, eq-eqb, ne-eqb}
-use borrow.Author.Needs.{needs}
 use Rattle.store.proofs.write.says.Statement.{statement}
 use Rattle.store.proofs.write.says.Tie as tie
 
