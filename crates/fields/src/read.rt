@@ -37,7 +37,7 @@ use store::verdict::high_byte;
 // ---- fields
 
 // The byte b.
-pub fn mark(s: &[u8], st: Step, b: u64) -> Step
+pub fn fixed_byte(s: &[u8], st: Step, b: u64) -> Step
     ensures { λ r. ⌜ Gives (grammar.fixed b) (now (s .entry)) st r (b, tt) ⌝ }
 {
     fixed(s, st, LITTLE, 1, b)
@@ -61,14 +61,18 @@ pub fn int32_of(s: &[u8], st: Step, n: u64) -> Step
 pub fn two_zeros(s: &[u8], st: Step) -> Step
     ensures { λ r. ⌜ Gives (times 2 (grammar.fixed 0)) (now (s .entry)) st r ((0, tt) ∷ (0, tt) ∷ []) ⌝ }
 {
-    mark(s, mark(s, st, 0), 0)
+    fixed_byte(s, fixed_byte(s, st, 0), 0)
 }
 
 // Four zero bytes.
 pub fn four_zeros(s: &[u8], st: Step) -> Step
     ensures { λ r. ⌜ Gives (times 4 (grammar.fixed 0)) (now (s .entry)) st r ((0, tt) ∷ (0, tt) ∷ (0, tt) ∷ (0, tt) ∷ []) ⌝ }
 {
-    mark(s, mark(s, mark(s, mark(s, st, 0), 0), 0), 0)
+    fixed_byte(
+        s,
+        fixed_byte(s, fixed_byte(s, fixed_byte(s, st, 0), 0), 0),
+        0,
+    )
 }
 
 pub fn byte(s: &[u8], st: Step) -> Got8
@@ -179,7 +183,7 @@ pub fn name(s: &[u8], st: Step) -> GotName
             },
             next: Step::Next(e),
         },
-        Span::Not(r, q) => GotName {
+        Span::Refused(r, q) => GotName {
             value: Name {
                 place: 0,
                 length: 0,

@@ -8,7 +8,8 @@ use lib.Seq.{length-take-le}
 use lib.Dec.{eqb, leb}
 use borrow.Author.Tests.{leb-true}
 use Rattle.layout.specs.declared.Step.the-variants.{Next, Refused}
-use Rattle.layout.specs.declared.Span.the-variants.{Of, Not}
+use Rattle.layout.specs.declared.Span.the-variants.{Of}
+use Rattle.layout.specs.declared.Span.the-variants as span
 use Rattle.layout.specs.Layout.{Order, pick, undigits}
 use Rattle.layout.specs.Read.{got, no, too-short, bind, readNumber, readCounted}
 use Rattle.layout.specs.Reads.{numberOf, peek, judged, field, spanOf, part}
@@ -33,8 +34,8 @@ field-at w c s at = rw length-drop (go _ (leb w (length s - at)))
 pub part-at : (o : Order) (w : ℕ) (s : List ℕ) (at : ℕ)
     → part o w s (Next at)
     ≡ pick (leb w (length s - at))
-    (pick (leb (peek o w s (Next at)) (length s - at - w)) (Of (at + w) (at + w + peek o w s (Next at))) (Not 2 at))
-    (Not 2 at)
+    (pick (leb (peek o w s (Next at)) (length s - at - w)) (Of (at + w) (at + w + peek o w s (Next at))) (span.Refused 2 at))
+    (span.Refused 2 at)
 unfolding part readCounted readNumber bind pick
 part-at o w s at = rw (peek-at o w s at, length-drop at s) (go (leb w (length s - at)))
   where
@@ -42,14 +43,14 @@ part-at o w s at = rw (peek-at o w s at, length-drop at s) (go (leb w (length s 
     v = undigits o (take w (drop at s))
 
     found : (b : Bool) → leb v (length (drop w (drop at s))) ≡ b
-        → spanOf (pick b (got (take v (drop w (drop at s))) (drop v (drop w (drop at s))) (at + w)) (no too-short at)) ≡ pick b (Of (at + w) (at + w + v)) (Not 2 at)
+        → spanOf (pick b (got (take v (drop w (drop at s))) (drop v (drop w (drop at s))) (at + w)) (no too-short at)) ≡ pick b (Of (at + w) (at + w + v)) (span.Refused 2 at)
     found true e = ap (Of (at + w)) (ap (λ (n : ℕ). at + w + n) (length-take-le v (drop w (drop at s)) (leb-true v _ e)))
     found false e = refl
 
     go : (b : Bool)
         → spanOf (bind (pick b (got v (drop w (drop at s)) (at + w)) (no too-short at))
         (λ n s₁ at₁. pick (leb n (length s₁)) (got (take n s₁) (drop n s₁) at₁) (no too-short at)))
-        ≡ pick b (pick (leb (pick b v 0) (length s - at - w)) (Of (at + w) (at + w + pick b v 0)) (Not 2 at)) (Not 2 at)
+        ≡ pick b (pick (leb (pick b v 0) (length s - at - w)) (Of (at + w) (at + w + pick b v 0)) (span.Refused 2 at)) (span.Refused 2 at)
     go true =
         let l : length (drop w (drop at s)) ≡ length s - at - w = length-drop w (drop at s) ∙ ap (λ (n : ℕ). n - w) (length-drop at s) in
         rw (← l) (found (leb v (length (drop w (drop at s)))) refl)

@@ -9,7 +9,8 @@ use lib.Dec.{eqb, leb}
 use Rattle.layout.specs.declared.Step.{Step}
 use Rattle.layout.specs.declared.Step.the-variants.{Next, Refused}
 use Rattle.layout.specs.declared.Span.{Span}
-use Rattle.layout.specs.declared.Span.the-variants.{Of, Not}
+use Rattle.layout.specs.declared.Span.the-variants.{Of}
+use Rattle.layout.specs.declared.Span.the-variants as span
 use Rattle.layout.specs.Layout.{Order, little, big, Test, passes, Fill, exact, optional, open-ended, Layout, pick}
 use Rattle.layout.specs.Read.{Got, got, no, refusal, readNumber, readCounted, lead, read, ends-early, limit-passed}
 
@@ -63,21 +64,21 @@ field w c s (Refused r p) = Refused r p
 -- where the bytes lie that a count of w bytes announces
 abbrev pub spanOf : Got (List ℕ) → Span
 spanOf (got xs r p) = Of p (p + length xs)
-spanOf (no r p) = Not r p
+spanOf (no r p) = span.Refused r p
 
 unfoldable pub part : Order → ℕ → List ℕ → Step → Span
 part o w s (Next at) = spanOf (readCounted o w (drop at s) at)
-part o w s (Refused r p) = Not r p
+part o w s (Refused r p) = span.Refused r p
 
 -- the bytes of s that lie there; none where it does not lie inside s
 unfoldable pub bytes : List ℕ → Span → List ℕ
 bytes s (Of b e) = pick (leb b e) (pick (leb e (length s)) (take (e - b) (drop b s)) []) []
-bytes s (Not r p) = []
+bytes s (span.Refused r p) = []
 
 -- past them
 abbrev pub past : Span → Step
 past (Of b e) = Next e
-past (Not r p) = Refused r p
+past (span.Refused r p) = Refused r p
 
 -- what a region gives, from b to e, once its content gave i, read as a part of its own from the part's position 0. A place in the part
 -- is moved on by b (and would not be moved past e)
@@ -86,7 +87,7 @@ filled b e (Next p) = pick (eqb (min (b + p) e) e) (Next e) (Refused ends-early 
 filled b e (Refused r p) = Refused r (min (b + p) e)
 
 unfoldable pub close : Fill → Span → Step → Step
-close f (Not r p) i = Refused r p
+close f (span.Refused r p) i = Refused r p
 close exact (Of b e) i = filled b e i
 close optional (Of b e) i = pick (eqb b e) (Next e) (filled b e i)
 close open-ended (Of b e) (Next p) = Next e

@@ -16,7 +16,7 @@ pub enum Step {
 // Where a counted part lies, from its first byte to past its last; or the refusal.
 pub enum Span {
     Of(usize, usize),
-    Not(u32, usize),
+    Refused(u32, usize),
 }
 
 // The order of a number's bytes, as the readers take it: lowest first, or highest first.

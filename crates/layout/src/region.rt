@@ -26,11 +26,11 @@ pub fn part(s: &[u8], st: Step, high: bool, w: usize) -> Span
                 if fits {
                     return Span::Of(at + w, at + w + n);
                 }
-                return Span::Not(2, at);
+                return Span::Refused(2, at);
             }
-            Span::Not(2, at)
+            Span::Refused(2, at)
         }
-        Step::Refused(r, p) => Span::Not(r, p),
+        Step::Refused(r, p) => Span::Refused(r, p),
     }
 }
 
@@ -53,7 +53,7 @@ fn past(p: Span) -> Step
 {
     match p {
         Span::Of(_, e) => Step::Next(e),
-        Span::Not(r, p) => Step::Refused(r, p),
+        Span::Refused(r, p) => Step::Refused(r, p),
     }
 }
 
@@ -85,7 +85,7 @@ pub fn close(p: Span, i: Step) -> Step
             }
             Step::Refused(r, p) => Step::Refused(r, place(b, e, p)),
         },
-        Span::Not(r, p) => Step::Refused(r, p),
+        Span::Refused(r, p) => Step::Refused(r, p),
     }
 }
 
@@ -102,7 +102,7 @@ pub fn close_optional(p: Span, i: Step) -> Step
                 close(Span::Of(b, e), i)
             }
         }
-        Span::Not(r, p) => Step::Refused(r, p),
+        Span::Refused(r, p) => Step::Refused(r, p),
     }
 }
 
@@ -115,7 +115,7 @@ pub fn close_open(p: Span, i: Step) -> Step
             Step::Next(_) => Step::Next(e),
             Step::Refused(r, p) => Step::Refused(r, place(b, e, p)),
         },
-        Span::Not(r, p) => Step::Refused(r, p),
+        Span::Refused(r, p) => Step::Refused(r, p),
     }
 }
 

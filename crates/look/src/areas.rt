@@ -13,11 +13,11 @@ use crate::Typeface;
 use crate::section::section;
 use fields::read::byte;
 use fields::read::color;
+use fields::read::fixed_byte;
 use fields::read::flag;
 use fields::read::four_zeros;
 use fields::read::int16;
 use fields::read::int32;
-use fields::read::mark;
 use fields::read::name;
 use fields::read::signed;
 use fields::read::small;
@@ -32,16 +32,16 @@ pub struct GotColor {
 pub fn area_color(s: &[u8], st: Step) -> GotColor
     ensures { λ r. ⌜ Gives grammar.AreaColor (now (s .entry)) st (r .next) (values.area-color (r .value)) ⌝ }
 {
-    let st = mark(s, st, 0);
-    let st = mark(s, st, 1);
-    let st = mark(s, st, 0);
+    let st = fixed_byte(s, st, 0);
+    let st = fixed_byte(s, st, 1);
+    let st = fixed_byte(s, st, 0);
     let color10 = color(s, st);
     let st = color10.next;
     let color0 = color(s, st);
     let st = color0.next;
     let shading = small(s, st, 10);
     let st = shading.next;
-    let next = mark(s, st, 0);
+    let next = fixed_byte(s, st, 0);
     GotColor {
         value: AreaColor {
             color10: color10.value,
@@ -80,10 +80,10 @@ pub fn alignment(s: &[u8], st: Step) -> GotAlignment
     let st = top_margin.next;
     let bottom_margin = int16(s, st);
     let st = bottom_margin.next;
-    let st = mark(s, st, 0);
-    let st = mark(s, st, 0);
-    let st = mark(s, st, 1);
-    let next = mark(s, st, 0);
+    let st = fixed_byte(s, st, 0);
+    let st = fixed_byte(s, st, 0);
+    let st = fixed_byte(s, st, 1);
+    let next = fixed_byte(s, st, 0);
     GotAlignment {
         value: Alignment {
             valign: valign.value,
@@ -201,14 +201,14 @@ pub struct GotArea {
 pub fn area(s: &[u8], st: Step) -> GotArea
     ensures { λ r. ⌜ Gives grammar.MostAreas (now (s .entry)) st (r .next) (values.area (r .value)) ⌝ }
 {
-    let st = mark(s, st, 6);
-    let st = mark(s, st, 0x80);
+    let st = fixed_byte(s, st, 6);
+    let st = fixed_byte(s, st, 0x80);
     let got = area_color(s, st);
     let color = got.value;
     let st = got.next;
-    let st = mark(s, st, 8);
-    let st = mark(s, st, 0x80);
-    let st = mark(s, st, 0);
+    let st = fixed_byte(s, st, 8);
+    let st = fixed_byte(s, st, 0x80);
+    let st = fixed_byte(s, st, 0);
     let got = area_style(s, st);
     let style = got.value;
     let next = got.next;
@@ -271,7 +271,7 @@ pub fn text_style(s: &[u8], st: Step) -> GotText
     ensures { λ r. ⌜ Gives grammar.PVTextStyle (now (s .entry)) st (r .next) (values.text-style (r .title) (r .most)) ⌝ }
 {
     let st = section(s, st, b"PVTextStyle");
-    let st = mark(s, st, 0);
+    let st = fixed_byte(s, st, 0);
     let got = area_style(s, st);
     let title = got.value;
     let st = got.next;

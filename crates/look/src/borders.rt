@@ -9,8 +9,8 @@ use crate::Lines;
 use crate::Separator;
 use crate::section::section;
 use fields::read::color;
+use fields::read::fixed_byte;
 use fields::read::int16;
-use fields::read::mark;
 use layout::LITTLE;
 use layout::Step;
 use layout::number::one_of_two;
@@ -26,7 +26,7 @@ pub fn separator(s: &[u8], st: Step) -> GotSeparator
 {
     let drawn = peek(s, st, LITTLE, 1) == 1;
     let st = one_of_two(s, st, 0, 1);
-    let st = mark(s, st, 0);
+    let st = fixed_byte(s, st, 0);
     if drawn {
         let color = color(s, st);
         let st = color.next;
@@ -91,13 +91,13 @@ pub fn separator_style(s: &[u8], st: Step) -> GotSeparators
     ensures { λ r. ⌜ Gives grammar.PVSeparatorStyle (now (s .entry)) st (r .next) (values.separator-style (r .rows) (r .columns)) ⌝ }
 {
     let st = section(s, st, b"PVSeparatorStyle");
-    let st = mark(s, st, 0);
+    let st = fixed_byte(s, st, 0);
     let got = lines(s, st);
     let rows = got.value;
     let st = got.next;
-    let st = mark(s, st, 3);
-    let st = mark(s, st, 0x80);
-    let st = mark(s, st, 0);
+    let st = fixed_byte(s, st, 3);
+    let st = fixed_byte(s, st, 0x80);
+    let st = fixed_byte(s, st, 0);
     let got = lines(s, st);
     let columns = got.value;
     let next = got.next;

@@ -22,11 +22,11 @@ use crate::borders::frames;
 use crate::borders::separator_style;
 use crate::section::section;
 use fields::read::color;
+use fields::read::fixed_byte;
 use fields::read::flag;
 use fields::read::int16;
 use fields::read::int32;
 use fields::read::int32_of;
-use fields::read::mark;
 use fields::read::name;
 use layout::LITTLE;
 use layout::Step;
@@ -45,14 +45,14 @@ fn settings(s: &[u8], st: Step) -> GotSettings
 {
     let flags = int16(s, st);
     let st = flags.next;
-    let st = mark(s, st, 0);
-    let st = mark(s, st, 0);
+    let st = fixed_byte(s, st, 0);
+    let st = fixed_byte(s, st, 0);
     let nested = flag(s, st);
     let st = nested.next;
-    let st = mark(s, st, 0);
+    let st = fixed_byte(s, st, 0);
     let subscripts = flag(s, st);
     let st = subscripts.next;
-    let st = mark(s, st, 0);
+    let st = fixed_byte(s, st, 0);
     let st = int32_of(s, st, 54);
     let next = int32_of(s, st, 18);
     GotSettings {

@@ -2,9 +2,9 @@
 ghost use Rattle.fields.specs.Gives.{Gives};
 ghost use Rattle.look.specs.Look as grammar;
 ghost use Rattle.look.specs.Values as values;
+use fields::read::fixed_byte;
 use fields::read::int16_of;
 use fields::read::letters;
-use fields::read::mark;
 use layout::Step;
 
 // A class name: its length, and its letters.
@@ -20,9 +20,9 @@ fn quoted(s: &[u8], st: Step, text: &[u8]) -> Step
 pub fn section(s: &[u8], st: Step, text: &[u8]) -> Step
     ensures { λ r. ⌜ Gives (grammar.section (now (text .entry))) (now (s .entry)) st r (values.section (now (text .entry))) ⌝ }
 {
-    let st = mark(s, st, 0xff);
-    let st = mark(s, st, 0xff);
-    let st = mark(s, st, 0);
-    let st = mark(s, st, 0);
+    let st = fixed_byte(s, st, 0xff);
+    let st = fixed_byte(s, st, 0xff);
+    let st = fixed_byte(s, st, 0);
+    let st = fixed_byte(s, st, 0);
     quoted(s, st, text)
 }

@@ -24,13 +24,13 @@ use look::V2Styles;
 use store::verdict::known_two;
 use store::write::byte;
 use store::write::color;
+use store::write::fixed_byte;
 use store::write::flag;
 use store::write::four_zeros;
 use store::write::int16;
 use store::write::int16_of;
 use store::write::int32;
 use store::write::int32_of;
-use store::write::mark;
 use store::write::name;
 use store::write::number;
 use store::write::plain_letters;
@@ -53,10 +53,10 @@ fn section(buf: &mut [u8], st: Step, text: &[u8]) -> Step
     requires { ⌜ length (now text) < 256 ^ 2 ⌝ }
     ensures { λ r. ⌜ PutsPlain (grammar.section (now (text .entry))) (values.section (now (text .entry))) (now (buf .entry)) st (now (buf .exit)) r ⌝ }
 {
-    let st = mark(buf, st, 0xff);
-    let st = mark(buf, st, 0xff);
-    let st = mark(buf, st, 0);
-    let st = mark(buf, st, 0);
+    let st = fixed_byte(buf, st, 0xff);
+    let st = fixed_byte(buf, st, 0xff);
+    let st = fixed_byte(buf, st, 0);
+    let st = fixed_byte(buf, st, 0);
     quoted(buf, st, text)
 }
 
@@ -64,12 +64,12 @@ fn settings(buf: &mut [u8], st: Step, x: Settings) -> Step
     ensures { λ r. ⌜ PutsPlain grammar.settings (values.settings x) (now (buf .entry)) st (now (buf .exit)) r ⌝ }
 {
     let st = int16(buf, st, x.flags);
-    let st = mark(buf, st, 0);
-    let st = mark(buf, st, 0);
+    let st = fixed_byte(buf, st, 0);
+    let st = fixed_byte(buf, st, 0);
     let st = flag(buf, st, x.nested_row_labels);
-    let st = mark(buf, st, 0);
+    let st = fixed_byte(buf, st, 0);
     let st = flag(buf, st, x.footnote_marker_subscripts);
-    let st = mark(buf, st, 0);
+    let st = fixed_byte(buf, st, 0);
     let st = int32_of(buf, st, 54);
     int32_of(buf, st, 18)
 }
@@ -80,7 +80,7 @@ fn separator(buf: &mut [u8], st: Step, x: Separator) -> Step
     match x {
         Separator::NotDrawn => {
             let st = number(buf, st, LITTLE, 1, 0, 0);
-            mark(buf, st, 0)
+            fixed_byte(buf, st, 0)
         }
         Separator::Drawn {
             color: c,
@@ -88,7 +88,7 @@ fn separator(buf: &mut [u8], st: Step, x: Separator) -> Step
             width,
         } => {
             let st = number(buf, st, LITTLE, 1, 1, 0);
-            let st = mark(buf, st, 0);
+            let st = fixed_byte(buf, st, 0);
             let st = color(buf, st, c);
             let st = int16(buf, st, style);
             int16(buf, st, width)
@@ -113,24 +113,24 @@ fn separator_style(buf: &mut [u8], st: Step, rows: Lines, columns: Lines) -> Ste
     ensures { λ r. ⌜ PutsPlain grammar.PVSeparatorStyle (values.separator-style rows columns) (now (buf .entry)) st (now (buf .exit)) r ⌝ }
 {
     let st = section(buf, st, b"PVSeparatorStyle");
-    let st = mark(buf, st, 0);
+    let st = fixed_byte(buf, st, 0);
     let st = lines(buf, st, rows);
-    let st = mark(buf, st, 3);
-    let st = mark(buf, st, 0x80);
-    let st = mark(buf, st, 0);
+    let st = fixed_byte(buf, st, 3);
+    let st = fixed_byte(buf, st, 0x80);
+    let st = fixed_byte(buf, st, 0);
     lines(buf, st, columns)
 }
 
 fn area_color(buf: &mut [u8], st: Step, x: AreaColor) -> Step
     ensures { λ r. ⌜ PutsPlain grammar.AreaColor (values.area-color x) (now (buf .entry)) st (now (buf .exit)) r ⌝ }
 {
-    let st = mark(buf, st, 0);
-    let st = mark(buf, st, 1);
-    let st = mark(buf, st, 0);
+    let st = fixed_byte(buf, st, 0);
+    let st = fixed_byte(buf, st, 1);
+    let st = fixed_byte(buf, st, 0);
     let st = color(buf, st, x.color10);
     let st = color(buf, st, x.color0);
     let st = small(buf, st, x.shading, 10);
-    mark(buf, st, 0)
+    fixed_byte(buf, st, 0)
 }
 
 fn cell_style(buf: &mut [u8], st: Step, title: AreaColor) -> Step
@@ -150,10 +150,10 @@ fn alignment(buf: &mut [u8], st: Step, x: Alignment) -> Step
     let st = int16(buf, st, x.right_margin);
     let st = int16(buf, st, x.top_margin);
     let st = int16(buf, st, x.bottom_margin);
-    let st = mark(buf, st, 0);
-    let st = mark(buf, st, 0);
-    let st = mark(buf, st, 1);
-    mark(buf, st, 0)
+    let st = fixed_byte(buf, st, 0);
+    let st = fixed_byte(buf, st, 0);
+    let st = fixed_byte(buf, st, 1);
+    fixed_byte(buf, st, 0)
 }
 
 fn font(buf: &mut [u8], st: Step, x: Font) -> Step
@@ -198,12 +198,12 @@ fn area(buf: &mut [u8], st: Step, names: &[u8], x: Area) -> Step
 {
     let color_of = x.color;
     let style_of = x.style;
-    let st = mark(buf, st, 6);
-    let st = mark(buf, st, 0x80);
+    let st = fixed_byte(buf, st, 6);
+    let st = fixed_byte(buf, st, 0x80);
     let st = area_color(buf, st, color_of);
-    let st = mark(buf, st, 8);
-    let st = mark(buf, st, 0x80);
-    let st = mark(buf, st, 0);
+    let st = fixed_byte(buf, st, 8);
+    let st = fixed_byte(buf, st, 0x80);
+    let st = fixed_byte(buf, st, 0);
     area_style(buf, st, names, style_of)
 }
 
@@ -230,7 +230,7 @@ fn text_style(buf: &mut [u8], st: Step, names: &[u8], title: AreaStyle, most: Mo
     ensures { λ r. ⌜ Puts grammar.PVTextStyle (now (names .entry)) (values.text-style title most) (now (buf .entry)) st (now (buf .exit)) r ⌝ }
 {
     let st = section(buf, st, b"PVTextStyle");
-    let st = mark(buf, st, 0);
+    let st = fixed_byte(buf, st, 0);
     let st = area_style(buf, st, names, title);
     most_areas(buf, st, names, most)
 }

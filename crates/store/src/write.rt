@@ -124,7 +124,7 @@ fn string_field(buf: &mut [u8], st: Step, high: bool, w: usize, text: &[u8], c: 
 // ---- numbers
 
 // The byte b.
-pub fn mark(buf: &mut [u8], st: Step, b: u8) -> Step
+pub fn fixed_byte(buf: &mut [u8], st: Step, b: u8) -> Step
     ensures { λ r. ⌜ PutsPlain (grammar.fixed b) (b, tt) (now (buf .entry)) st (now (buf .exit)) r ⌝ }
 {
     number(buf, st, LITTLE, 1, b as u64, 0)
@@ -148,18 +148,18 @@ pub fn int32_of(buf: &mut [u8], st: Step, n: u32) -> Step
 pub fn two_zeros(buf: &mut [u8], st: Step) -> Step
     ensures { λ r. ⌜ PutsPlain (times 2 (grammar.fixed 0)) ((0, tt) ∷ (0, tt) ∷ []) (now (buf .entry)) st (now (buf .exit)) r ⌝ }
 {
-    let st = mark(buf, st, 0);
-    mark(buf, st, 0)
+    let st = fixed_byte(buf, st, 0);
+    fixed_byte(buf, st, 0)
 }
 
 // Four zero bytes.
 pub fn four_zeros(buf: &mut [u8], st: Step) -> Step
     ensures { λ r. ⌜ PutsPlain (times 4 (grammar.fixed 0)) ((0, tt) ∷ (0, tt) ∷ (0, tt) ∷ (0, tt) ∷ []) (now (buf .entry)) st (now (buf .exit)) r ⌝ }
 {
-    let st = mark(buf, st, 0);
-    let st = mark(buf, st, 0);
-    let st = mark(buf, st, 0);
-    mark(buf, st, 0)
+    let st = fixed_byte(buf, st, 0);
+    let st = fixed_byte(buf, st, 0);
+    let st = fixed_byte(buf, st, 0);
+    fixed_byte(buf, st, 0)
 }
 
 pub fn byte(buf: &mut [u8], st: Step, v: u8) -> Step

@@ -103,9 +103,9 @@ module _ {M : Type 1} (𝓤 : URA M) (H : Heap 𝓤) (A : Atoms 𝓤) (W : Given
       -- [what nodes owns; what member owns; what the struct owns; what i owns; the tokens]
       move ! (0 ∷ 3 ∷ []) $ fjoin ! $ move ! (1 ∷ 0 ∷ []) $ fjoin ! $ move ! (2 ∷ 0 ∷ []) $ use2 W (raw (NameOf 𝓤 H A mem run .pre to)) (asks-nothing 𝓤 _) $ done !
 
-  -- of the callee's `ensured`, the clause alone: it has no `&mut`, so what is said of last values is dropped
-  said : (r : RefT (List ℕ)) → ent 𝓤 (ensured 𝓤 H A of.ended (of.clauses 𝓤 H A mem run) κs args tt r) (fact 𝓤 (now r ≡ found))
-  said r = exE 𝓤 _ (λ ws. snd∗ 𝓤 (sem 𝓤 H A (lasts of.ended κs args ws)) (fact 𝓤 (now r ≡ found)))
+  -- of the callee's `ensured`, the clause alone: it has no `&mut`, so what is learnt of last values is dropped
+  learnt : (r : RefT (List ℕ)) → ent 𝓤 (ensured 𝓤 H A of.ended (of.clauses 𝓤 H A mem run) κs args tt r) (fact 𝓤 (now r ≡ found))
+  learnt r = exE 𝓤 _ (λ ws. snd∗ 𝓤 (sem 𝓤 H A (lasts of.ended κs args ws)) (fact 𝓤 (now r ≡ found)))
 
   exits : (r : RefT (List ℕ)) (u : Val) → now r ≡ found → ent 𝓤 (⋆ 𝓤 H A (‵ (Part .own r (u ∷ [])) ∷ Tokens 𝓤 κ κ′ q q′ ∷ ‵ (Whole κs d) ∷ [])) (Post u)
   exits r u e =
@@ -123,7 +123,7 @@ module _ {M : Type 1} (𝓤 : URA M) (H : Heap 𝓤) (A : Atoms 𝓤) (W : Given
         move ! (10 ∷ []) $ use1 W (raw (NameOf 𝓤 H A mem run .pre to) ⊛ ‵ (Whole κs d)) apart $ split ! $
         calls-at ! fm (NameOf 𝓤 H A mem run) known to (and-then ! (load ! (from ! (stop !)) (look ! 4 refl)) (and-then ! (load ! (from ! (stop !)) (look ! 2 refl)) (and-then ! (load ! (from ! (stop !)) (look ! 6 refl)) (no-more !)))) (λ u.
         use1 W (later (some (λ (r : RefT (List ℕ)). (Tokens 𝓤 κ κ′ q q′ ⊛ ‵ (Part .own r (u ∷ []))) ⊛ raw (ensured 𝓤 H A of.ended (of.clauses 𝓤 H A mem run) κs args tt r)))) (id⊢ 𝓤 _) $ await ! tt $ pick ! (λ r.
-        split ! $ move ! (1 ∷ []) $ use1 W (raw (fact 𝓤 (now r ≡ found))) (said r) $ heard ! (now r ≡ found) (λ e. split ! $ move ! (1 ∷ []) $
+        split ! $ move ! (1 ∷ []) $ use1 W (raw (fact 𝓤 (now r ≡ found))) (learnt r) $ heard ! (now r ≡ found) (λ e. split ! $ move ! (1 ∷ []) $
         -- [the result; the tokens; what the struct owns; _4; …; _3; …; _2; …; _1; …; room for _0; …]
         peeks ! Part (Is Part) (shows 𝓤 H A Part) r (u ∷ []) (λ is.
         land ! (from ! (stop !)) (init ! 11 refl (shr-slice-lawful 𝓤 H A W (named 0) κ u8 .typed r _ is .0)) $

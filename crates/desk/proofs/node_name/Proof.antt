@@ -127,8 +127,8 @@ module _ {M : Type 1} (𝓤 : URA M) (H : Heap 𝓤) (A : Atoms 𝓤) (W : Given
       move ! (2 ∷ []) $ drop ! $ nothing ! $ owned ! usize (Is usize) (uint-makes 𝓤 H A W w64) k _ (refl, k-fits) $ fjoin ! $ move ! (1 ∷ 0 ∷ []) $ fjoin ! $ move ! (2 ∷ 0 ∷ []) $ fjoin ! $
       move ! (3 ∷ 0 ∷ []) $ use2 W (raw (Open 𝓤 H A mem run .pre to-open)) (asks-nothing 𝓤 _) $ move ! (0 ∷ 2 ∷ []) $ done !
 
-  open-said : (d : Desk) → ent 𝓤 (ensured 𝓤 H A opened.ended (opened.clauses 𝓤 H A mem run) κs (s, (ns, (k, tt))) tt d) (fact 𝓤 ((d .member ≡ s) × (now (d .nodes) ≡ words)))
-  open-said d = exE 𝓤 _ (λ ws. snd∗ 𝓤 (sem 𝓤 H A (lasts opened.ended κs (s, (ns, (k, tt))) ws)) (fact 𝓤 ((d .member ≡ s) × (now (d .nodes) ≡ words))))
+  open-learnt : (d : Desk) → ent 𝓤 (ensured 𝓤 H A opened.ended (opened.clauses 𝓤 H A mem run) κs (s, (ns, (k, tt))) tt d) (fact 𝓤 ((d .member ≡ s) × (now (d .nodes) ≡ words)))
+  open-learnt d = exE 𝓤 _ (λ ws. snd∗ 𝓤 (sem 𝓤 H A (lasts opened.ended κs (s, (ns, (k, tt))) ws)) (fact 𝓤 ((d .member ≡ s) × (now (d .nodes) ≡ words))))
 
   -- the call of `name`, at the struct d with the machine value u
   module _ (d : Desk) (u : Val) where
@@ -140,8 +140,8 @@ module _ {M : Type 1} (𝓤 : URA M) (H : Heap 𝓤) (A : Atoms 𝓤) (W : Given
         qed W (‵ (DeskAt κs .own d (u ∷ [])) ∷ Tokens 𝓤 κ κ′ q q′ ∷ []) ∵
         nothing ! $ owned ! usize (Is usize) (uint-makes 𝓤 H A W w64) i _ (refl, i-fits) $ fjoin ! $ move ! (1 ∷ 0 ∷ []) $ fjoin ! $ move ! (1 ∷ 0 ∷ []) $ join ! $ by ! (asks-nothing 𝓤 _)
 
-    name-said : (r : RefT (List ℕ)) → ent 𝓤 (ensured 𝓤 H A name.ended (name.clauses 𝓤 H A mem run) κs (d, (i, tt)) tt r) (fact 𝓤 (now r ≡ nameOf (now (d .member)) (now (d .nodes)) i))
-    name-said r = exE 𝓤 _ (λ ws. snd∗ 𝓤 (sem 𝓤 H A (lasts name.ended κs (d, (i, tt)) ws)) (fact 𝓤 (now r ≡ nameOf (now (d .member)) (now (d .nodes)) i)))
+    name-learnt : (r : RefT (List ℕ)) → ent 𝓤 (ensured 𝓤 H A name.ended (name.clauses 𝓤 H A mem run) κs (d, (i, tt)) tt r) (fact 𝓤 (now r ≡ nameOf (now (d .member)) (now (d .nodes)) i))
+    name-learnt r = exE 𝓤 _ (λ ws. snd∗ 𝓤 (sem 𝓤 H A (lasts name.ended κs (d, (i, tt)) ws)) (fact 𝓤 (now r ≡ nameOf (now (d .member)) (now (d .nodes)) i)))
 
   exits : (r : RefT (List ℕ)) (u : Val) → now r ≡ found → ent 𝓤 (⋆ 𝓤 H A (‵ (Bytes .own r (u ∷ [])) ∷ Tokens 𝓤 κ κ′ q q′ ∷ (‵ Own ⊛ ‵ Own′) ∷ [])) (Post u)
   exits r u e =
@@ -169,14 +169,14 @@ module _ {M : Type 1} (𝓤 : URA M) (H : Heap 𝓤) (A : Atoms 𝓤) (W : Given
         move ! (12 ∷ []) $ use1 W (raw (Open 𝓤 H A mem run .pre to-open) ⊛ ‵ Own ⊛ ‵ Own′) goes-open $ split ! $
         calls-at ! fm (Open 𝓤 H A mem run) known-open to-open (and-then ! (load ! (from ! (stop !)) (look ! 10 refl)) (and-then ! (load ! (from ! (stop !)) (look ! 8 refl)) (and-then ! (load ! (from ! (stop !)) (look ! 6 refl)) (no-more !)))) (λ u.
         use1 W (later (some (λ (d : Desk). (Tokens 𝓤 κ κ′ q q′ ⊛ ‵ (DeskAt κs .own d (u ∷ []))) ⊛ raw (ensured 𝓤 H A opened.ended (opened.clauses 𝓤 H A mem run) κs (s, (ns, (k, tt))) tt d)))) (id⊢ 𝓤 _) $ await ! tt $ pick ! (λ d.
-        split ! $ move ! (1 ∷ []) $ use1 W (raw (fact 𝓤 ((d .member ≡ s) × (now (d .nodes) ≡ words)))) (open-said d) $ heard ! ((d .member ≡ s) × (now (d .nodes) ≡ words)) (λ e. split ! $ move ! (1 ∷ []) $
+        split ! $ move ! (1 ∷ []) $ use1 W (raw (fact 𝓤 ((d .member ≡ s) × (now (d .nodes) ≡ words)))) (open-learnt d) $ heard ! ((d .member ≡ s) × (now (d .nodes) ≡ words)) (λ e. split ! $ move ! (1 ∷ []) $
         -- [what the struct owns; the tokens; what member and area own; room for _5; …; _4; …; _3; …; _2; …; _1; …; room for _0; …]
         peeks ! (DeskAt κs) (Is (DeskAt κs)) (shows 𝓤 H A (DeskAt κs)) d (u ∷ []) (λ is.
         land ! (from ! (stop !)) (init ! 3 refl (LL.lawful (T.the-type αᵉ βᵉ) (T′.the-laws αᵉ βᵉ) 𝓤 H A W .typed d _ is .0)) $
         use2 W (raw (Name 𝓤 H A mem run .pre (to-name d u))) (goes-name d u) $
         calls-at ! fm (Name 𝓤 H A mem run) known-name (to-name d u) (and-then ! (load ! (from ! (stop !)) (look ! 2 refl)) (and-then ! (load ! (from ! (stop !)) (look ! 4 refl)) (no-more !))) (λ u′.
         use1 W (later (some (λ (r : RefT (List ℕ)). (Tokens 𝓤 κ κ′ q q′ ⊛ ‵ (Bytes .own r (u′ ∷ []))) ⊛ raw (ensured 𝓤 H A name.ended (name.clauses 𝓤 H A mem run) κs (d, (i, tt)) tt r)))) (id⊢ 𝓤 _) $ await ! tt $ pick ! (λ r.
-        split ! $ move ! (1 ∷ []) $ use1 W (raw (fact 𝓤 (now r ≡ nameOf (now (d .member)) (now (d .nodes)) i))) (name-said d u r) $ heard ! (now r ≡ nameOf (now (d .member)) (now (d .nodes)) i) (λ e′. split ! $ move ! (1 ∷ []) $
+        split ! $ move ! (1 ∷ []) $ use1 W (raw (fact 𝓤 (now r ≡ nameOf (now (d .member)) (now (d .nodes)) i))) (name-learnt d u r) $ heard ! (now r ≡ nameOf (now (d .member)) (now (d .nodes)) i) (λ e′. split ! $ move ! (1 ∷ []) $
         -- [the result; the tokens; what member and area own; _5; …; _4; …; _3; …; _2; …; _1; …; room for _0; …]
         peeks ! Bytes (Is Bytes) (shows 𝓤 H A Bytes) r (u′ ∷ []) (λ is′.
         land ! (from ! (stop !)) (init ! 13 refl (shr-slice-lawful 𝓤 H A W (named 0) κ u8 .typed r _ is′ .0)) $

@@ -112,8 +112,8 @@ module _ {M : Type 1} (𝓤 : URA M) (H : Heap 𝓤) (A : Atoms 𝓤) (W : Given
       move ! (2 ∷ []) $ drop ! $ nothing ! $ owned ! usize (Is usize) (uint-makes 𝓤 H A W w64) k _ (refl, k-fits) $ fjoin ! $ move ! (1 ∷ 0 ∷ []) $ fjoin ! $
       move ! (4 ∷ 0 ∷ []) $ use2 W (raw (Filled 𝓤 H A mem run .pre to-filled)) (asks-nothing 𝓤 _) $ done !
 
-  filled-said : (f : RefT (List ℕ)) → ent 𝓤 (ensured 𝓤 H A filled.ended (filled.clauses 𝓤 H A mem run) (κ′, tt) (ns, (k, tt)) tt f) (fact 𝓤 (now f ≡ words))
-  filled-said f = exE 𝓤 _ (λ ws. snd∗ 𝓤 (sem 𝓤 H A (lasts filled.ended (κ′, tt) (ns, (k, tt)) ws)) (fact 𝓤 (now f ≡ words)))
+  filled-learnt : (f : RefT (List ℕ)) → ent 𝓤 (ensured 𝓤 H A filled.ended (filled.clauses 𝓤 H A mem run) (κ′, tt) (ns, (k, tt)) tt f) (fact 𝓤 (now f ≡ words))
+  filled-learnt f = exE 𝓤 _ (λ ws. snd∗ 𝓤 (sem 𝓤 H A (lasts filled.ended (κ′, tt) (ns, (k, tt)) ws)) (fact 𝓤 (now f ≡ words)))
 
   -- the struct made of the words f, and its machine value where theirs is u
   module _ (f : RefT (List ℕ)) where
@@ -149,7 +149,7 @@ module _ {M : Type 1} (𝓤 : URA M) (H : Heap 𝓤) (A : Atoms 𝓤) (W : Given
         move ! (10 ∷ []) $ use1 W (raw (Filled 𝓤 H A mem run .pre to-filled) ⊛ ‵ Own′ ⊛ ‵ Own ⊛ ‵ (flft κ q)) goes-filled $ split ! $
         calls-at ! fm (Filled 𝓤 H A mem run) known to-filled (and-then ! (load ! (from ! (stop !)) (look ! 6 refl)) (and-then ! (load ! (from ! (stop !)) (look ! 4 refl)) (no-more !))) (λ u.
         use1 W (later (some (λ (f : RefT (List ℕ)). (Token 𝓤 κ′ q′ ⊛ ‵ (Words .own f (u ∷ []))) ⊛ raw (ensured 𝓤 H A filled.ended (filled.clauses 𝓤 H A mem run) (κ′, tt) (ns, (k, tt)) tt f)))) (id⊢ 𝓤 _) $ await ! tt $ pick ! (λ f.
-        split ! $ move ! (1 ∷ []) $ use1 W (raw (fact 𝓤 (now f ≡ words))) (filled-said f) $ heard ! (now f ≡ words) (λ e. split ! $ move ! (1 ∷ []) $
+        split ! $ move ! (1 ∷ []) $ use1 W (raw (fact 𝓤 (now f ≡ words))) (filled-learnt f) $ heard ! (now f ≡ words) (λ e. split ! $ move ! (1 ∷ []) $
         -- [what the words own; their token; what area and member own, and its token; room for _4; …; _3; …; _2; …; _1; …; room for _0; …]
         peeks ! Words (Is Words) (shows 𝓤 H A Words) f (u ∷ []) (λ is.
         land ! (from ! (stop !)) (init ! 3 refl (shr-slice-lawful 𝓤 H A W (named 1) κ′ u32 .typed f _ is .0)) $

@@ -12,7 +12,8 @@ use lib.Seq.{drop-drop, length-take-le}
 use lib.Dec.{eqb, leb}
 use borrow.Author.Tests.{eqb-true, ne-eqb, leb-true, leb-false, le-leb}
 use Rattle.layout.specs.declared.Span.{Span}
-use Rattle.layout.specs.declared.Span.the-variants.{Of, Not}
+use Rattle.layout.specs.declared.Span.the-variants.{Of}
+use Rattle.layout.specs.declared.Span.the-variants as span
 use Rattle.layout.specs.declared.Step.{Step}
 use Rattle.layout.specs.declared.Step.the-variants.{Next, Refused}
 use Rattle.layout.specs.Layout.{Order, Test, any-number, the-number, a-bool, one-of, among, passes, Layout, empty, number, string, _▸_, times, Tree, spell, Bytes, pick, undigits}
@@ -28,7 +29,7 @@ use Rattle.layout.specs.Steps.Counted.{string-of}
 use Rattle.store.specs.declared.Name.{Name}
 use Rattle.store.specs.Values.{bit}
 use Rattle.store.specs.Fields.{lent, Fields, placedAll, placed}
-use Rattle.fields.specs.Gives.{Found, Gives, GivesValue}
+use Rattle.fields.specs.Gives.{FoundFields, Gives, GivesValue}
 
 -- a reading that ends at a position has a tree
 record Read (g : Layout) (s : List ℕ) (at p : ℕ) : Type 0 where
@@ -59,7 +60,7 @@ between {g} {s} {q} {r} {p} h e = go q (sym (h .is) ∙ e)
     go (Next m) i = (m, refl)
     go (Refused n x) i = absurd (let z : _≡_ {A = ℕ} 0 1 = cc in omega arith)
 
-found-then : {a b : Layout} {s : List ℕ} {at m p : ℕ} {f : Fields a} {h : Fields b} → Bytes s → Found a s at m f → Found b s m p h → Found (a ▸ b) s at p (f, h)
+found-then : {a b : Layout} {s : List ℕ} {at m p : ℕ} {f : Fields a} {h : Fields b} → Bytes s → FoundFields a s at m f → FoundFields b s m p h → FoundFields (a ▸ b) s at p (f, h)
 unfolding read bind placed
 found-then {a} {b} {s} {at} {m} {p} bs x y =
     let place : m ≡ at + length (spell a (x .tree)) = laws.sound a (drop at s) (drop-bytes at bs) at (x .tree) (drop m s) m (x .reads) .2 in
@@ -176,7 +177,7 @@ bool-gives {s = s} {v = v} h e =
     found-number h (λ at n i x. one-bit n (leb-true n 1 (x .passed)) ∙ ap (λ (m : ℕ). bit (eqb m 1)) (peeked s at x i e))
 
 found-switch : {o : Order} {w : ℕ} {test : Test} (k : ℕ → Layout) {s : List ℕ} {at p v : ℕ} {f : Fields (k v)}
-    → Numbered o w test (drop at s) at v → Found (k v) s (at + w) p f → Found (number o w test k) s at p (v, f)
+    → Numbered o w test (drop at s) at v → FoundFields (k v) s (at + w) p f → FoundFields (number o w test k) s at p (v, f)
 unfolding read bind pick placed
 found-switch {o} {w} {test} k {s} {at} {p} {v} x y = record {
   tree = (v, y .tree);
@@ -285,8 +286,8 @@ none-gives {a} {s} {st} = record {
       record { tree = []; reads = rw same; is = refl };
 }
 
-found-more : {a : Layout} {s : List ℕ} {n at m p : ℕ} {f : Fields a} {fs : List (Fields a)} → Bytes s → Found a s at m f → Found (times n a) s m p fs
-    → Found (times (suc n) a) s at p (f ∷ fs)
+found-more : {a : Layout} {s : List ℕ} {n at m p : ℕ} {f : Fields a} {fs : List (Fields a)} → Bytes s → FoundFields a s at m f → FoundFields (times n a) s m p fs
+    → FoundFields (times (suc n) a) s at p (f ∷ fs)
 unfolding read readTimes bind placed placedAll
 found-more {a} {s} {n} {at} {m} {p} bs x y =
     let place : m ≡ at + length (spell a (x .tree)) = laws.sound a (drop at s) (drop-bytes at bs) at (x .tree) (drop m s) m (x .reads) .2 in
@@ -310,7 +311,7 @@ more-gives {n = n} x y = record {
 -- the name that a counted part is
 abbrev pub nameAt : List ℕ → Span → Name
 nameAt s (Of b e) = record { place = b; length = length (bytes s (Of b e)) }
-nameAt s (Not r p) = record { place = 0; length = 0 }
+nameAt s (span.Refused r p) = record { place = 0; length = 0 }
 
 bytes-length : (s : List ℕ) (b n : ℕ) → b + n ≤ length s → length (bytes s (Of b (b + n))) ≡ n
 unfolding bytes pick

@@ -11,7 +11,8 @@ use borrow.Author.Tests.{le-leb, eq-eqb, ne-eqb}
 use Rattle.layout.specs.declared.Step.{Step}
 use Rattle.layout.specs.declared.Step.the-variants.{Next, Refused}
 use Rattle.layout.specs.declared.Span.{Span}
-use Rattle.layout.specs.declared.Span.the-variants.{Of, Not}
+use Rattle.layout.specs.declared.Span.the-variants.{Of}
+use Rattle.layout.specs.declared.Span.the-variants as span
 use Rattle.layout.specs.Layout.{Order, Fill, exact, optional, open-ended, Layout, string, region, pick}
 use Rattle.layout.specs.Read.{Got, got, no, too-short, bind, readCounted, ends, readFill, read}
 use Rattle.layout.specs.Laws.Places.{took-length, Within, w-got, w-no, within, Announced, announced, too-few, counted-view, announced-length, shift, read-shifts}
@@ -74,7 +75,7 @@ unfolding bytes pick
 bytes-at s at w n h =
     simp (le-leb (at + w) (at + w + n) (omega arith), le-leb (at + w + n) (length s) h, add-sub-cancel-left) (ap (take n) (sym (drop-drop w at s)))
 
-close-not : (f : Fill) (r p : ℕ) (i : Step) → close f (Not r p) i ≡ Refused r p
+close-not : (f : Fill) (r p : ℕ) (i : Step) → close f (span.Refused r p) i ≡ Refused r p
 unfolding close
 close-not f r p i = refl
 

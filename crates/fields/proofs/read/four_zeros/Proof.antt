@@ -7,4 +7,4 @@ four-zeros-spec =
     tie.close
     (tie.spec
     (λ _ _. tt) (λ _ _. tt) (λ _ _. tt) (λ _ _. tt)
-    (λ c. more-gives (c .before .before .before .mark .ensures) (more-gives (c .before .before .mark2 .ensures) (more-gives (c .before .mark3 .ensures) (more-gives (c .mark4 .ensures) none-gives)))))
+    (λ c. more-gives (c .before .before .before .fixed-byte .ensures) (more-gives (c .before .before .fixed-byte2 .ensures) (more-gives (c .before .fixed-byte3 .ensures) (more-gives (c .fixed-byte4 .ensures) none-gives)))))

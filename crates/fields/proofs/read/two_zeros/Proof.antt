@@ -6,4 +6,4 @@ pub two-zeros-spec : {M : Type 1} → statement M
 two-zeros-spec =
     tie.close
     (tie.spec
-    (λ _ _. tt) (λ _ _. tt) (λ c. more-gives (c .before .mark .ensures) (more-gives (c .mark2 .ensures) none-gives)))
+    (λ _ _. tt) (λ _ _. tt) (λ c. more-gives (c .before .fixed-byte .ensures) (more-gives (c .fixed-byte2 .ensures) none-gives)))

@@ -12,5 +12,5 @@ alignment-spec =
     let m = c .before .before .before .before in
     m .before .before .before .before .before .before .int16 .ensures .gives ⟩ m .before .before .before .before .before .int162 .ensures .gives ⟩ m .before .before .before .before .int163 .ensures .gives
     ⟩ m .before .before .before .int164 .ensures .gives ⟩ m .before .before .int165 .ensures .gives ⟩ m .before .int166 .ensures .gives
-    ⟩ m .int167 .ensures .gives ⟩ c .before .before .before .mark .ensures ⟩ c .before .before .mark2 .ensures ⟩ c .before .mark3 .ensures
-    ⟩ c .mark4 .ensures))
+    ⟩ m .int167 .ensures .gives ⟩ c .before .before .before .fixed-byte .ensures ⟩ c .before .before .fixed-byte2 .ensures ⟩ c .before .fixed-byte3 .ensures
+    ⟩ c .fixed-byte4 .ensures))

@@ -17,9 +17,9 @@ separator-spec =
     switch-known (λ type. grammar.SeparatorIf (eqb type 1))
     (λ at n i x. peeked (m .before .before .before .before .args .s .now) at x i (m .before .before .peek .ensures) ∙ eqb-true _ 1 (c .before .before .before .if1 .taken))
     (m .before .one-of-two .ensures)
-    (m .mark .ensures ⟩ c .before .before .color .ensures .gives ⟩ c .before .int16 .ensures .gives ⟩ c .int162 .ensures .gives))
+    (m .fixed-byte .ensures ⟩ c .before .before .color .ensures .gives ⟩ c .before .int16 .ensures .gives ⟩ c .int162 .ensures .gives))
     (λ c.
     let m = c .before in
     switch-known (λ type. grammar.SeparatorIf (eqb type 1))
     (λ at n i x. first-of-two x (ap (λ (v : ℕ). eqb v 1) (peeked (m .before .before .before .before .args .s .now) at x i (m .before .before .peek .ensures)) ∙ c .if1 .left))
-    (m .before .one-of-two .ensures) (m .mark .ensures)))
+    (m .before .one-of-two .ensures) (m .fixed-byte .ensures)))

@@ -11,8 +11,8 @@ returns c =
     let c₁₀ = c₈ .before .before .before .before .before .before .before .before in
     c₁₀ .before .before .int16 .ensures ⊳ c₈ .before .before .before .before .before .before .int162 .ensures ⊳ c₈ .before .before .int163 .ensures
     ⊳ c₆ .before .before .before .before .before .before .int164 .ensures ⊳ c₆ .before .before .int165 .ensures ⊳ c₄ .before .before .before .before .before .before .int166 .ensures
-    ⊳ c₄ .before .before .int167 .ensures ⊳ c₂ .before .before .before .before .before .before .mark .ensures ⊳ c₂ .before .before .mark2 .ensures
-    ⊳ c .before .before .before .before .before .before .mark3 .ensures ⊳ c .before .before .mark4 .ensures
+    ⊳ c₄ .before .before .int167 .ensures ⊳ c₂ .before .before .before .before .before .before .fixed-byte .ensures ⊳ c₂ .before .before .fixed-byte2 .ensures
+    ⊳ c .before .before .before .before .before .before .fixed-byte3 .ensures ⊳ c .before .before .fixed-byte4 .ensures
 
 pub alignment-spec : {M : Type 1} → statement M
 alignment-spec =

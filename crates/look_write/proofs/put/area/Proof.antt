@@ -7,9 +7,9 @@ returns c =
     let c₂ = c .before .before .before .before .before .before .before .before in
     let c₄ = c₂ .before .before .before .before .before .before .before .before in
     let c₆ = c₄ .before .before .before .before .before .before .before .before in
-    plain (c₆ .before .before .mark .ensures) ⟫ plain (c₄ .before .before .before .before .before .before .mark2 .ensures)
-    ⟫ plain (c₄ .before .before .area-color .ensures) ⟫ plain (c₂ .before .before .before .before .before .before .mark3 .ensures)
-    ⟫ plain (c₂ .before .before .mark4 .ensures) ⟫ plain (c .before .before .before .before .before .before .mark5 .ensures)
+    plain (c₆ .before .before .fixed-byte .ensures) ⟫ plain (c₄ .before .before .before .before .before .before .fixed-byte2 .ensures)
+    ⟫ plain (c₄ .before .before .area-color .ensures) ⟫ plain (c₂ .before .before .before .before .before .before .fixed-byte3 .ensures)
+    ⟫ plain (c₂ .before .before .fixed-byte4 .ensures) ⟫ plain (c .before .before .before .before .before .before .fixed-byte5 .ensures)
     ⟫ c .before .before .area-style .ensures
 
 pub area-spec : {M : Type 1} → statement M

@@ -7,9 +7,9 @@ returns c =
     let c₂ = c .before .before .before .before .before .before .before .before in
     let c₄ = c₂ .before .before .before .before .before .before .before .before in
     let c₆ = c₄ .before .before .before .before .before .before .before .before in
-    c₆ .before .before .mark .ensures ⊳ c₄ .before .before .before .before .before .before .mark2 .ensures ⊳ c₄ .before .before .mark3 .ensures
+    c₆ .before .before .fixed-byte .ensures ⊳ c₄ .before .before .before .before .before .before .fixed-byte2 .ensures ⊳ c₄ .before .before .fixed-byte3 .ensures
     ⊳ c₂ .before .before .before .before .before .before .color .ensures ⊳ c₂ .before .before .color2 .ensures ⊳ c .before .before .before .before .before .before .small .ensures
-    ⊳ c .before .before .mark4 .ensures
+    ⊳ c .before .before .fixed-byte4 .ensures
 
 pub area-color-spec : {M : Type 1} → statement M
 area-color-spec =

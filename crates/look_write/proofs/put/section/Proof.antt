@@ -11,5 +11,5 @@ section-spec =
     (λ c.
     let c₂ = c .before .before .before .before .before .before .before .before in
     let c₄ = c₂ .before .before .before .before .before .before .before .before in
-    c₄ .before .before .mark .ensures ⊳ c₂ .before .before .before .before .before .before .mark2 .ensures ⊳ c₂ .before .before .mark3 .ensures
-    ⊳ c .before .before .before .before .before .before .mark4 .ensures ⊳ c .before .before .quoted .ensures))
+    c₄ .before .before .fixed-byte .ensures ⊳ c₂ .before .before .before .before .before .before .fixed-byte2 .ensures ⊳ c₂ .before .before .fixed-byte3 .ensures
+    ⊳ c .before .before .before .before .before .before .fixed-byte4 .ensures ⊳ c .before .before .quoted .ensures))

@@ -19,7 +19,7 @@ separator-spec =
     (λ c.
     let c₁ = c .before .before .before .before in
     rw (c₁ .before .before .before .before .enum-told .given .1)
-    (plain-switch (λ type. grammar.SeparatorIf (eqb type 1)) (omega arith) refl (c₁ .before .before .number .ensures) (c .before .before .mark .ensures)))
+    (plain-switch (λ type. grammar.SeparatorIf (eqb type 1)) (omega arith) refl (c₁ .before .before .number .ensures) (c .before .before .fixed-byte .ensures)))
     (λ c. search needs)
     (λ c.
     let c₁ = c .before .before .before .before in
@@ -29,5 +29,5 @@ separator-spec =
     rw (c₄ .before .before .before .before .before .x .given .1)
     (plain-switch (λ type. grammar.SeparatorIf (eqb type 1)) (omega arith) refl
     (c₄ .before .before .number2 .ensures)
-    (c₃ .before .before .mark2 .ensures ⊳ c₂ .before .before .color .ensures ⊳ c₁ .before .before .int16 .ensures
+    (c₃ .before .before .fixed-byte2 .ensures ⊳ c₂ .before .before .color .ensures ⊳ c₁ .before .before .int16 .ensures
     ⊳ c .before .before .int162 .ensures))))

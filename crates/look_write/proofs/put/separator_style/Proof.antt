@@ -10,8 +10,8 @@ returns c =
     let c₂ = c .before .before .before .before .before .before .before .before in
     let c₄ = c₂ .before .before .before .before .before .before .before .before in
     let c₆ = c₄ .before .before .before .before .before .before .before .before in
-    c₆ .before .before .section .ensures ⊳ c₄ .before .before .before .before .before .before .mark .ensures ⊳ c₄ .before .before .lines .ensures
-    ⊳ c₂ .before .before .before .before .before .before .mark2 .ensures ⊳ c₂ .before .before .mark3 .ensures ⊳ c .before .before .before .before .before .before .mark4 .ensures
+    c₆ .before .before .section .ensures ⊳ c₄ .before .before .before .before .before .before .fixed-byte .ensures ⊳ c₄ .before .before .lines .ensures
+    ⊳ c₂ .before .before .before .before .before .before .fixed-byte2 .ensures ⊳ c₂ .before .before .fixed-byte3 .ensures ⊳ c .before .before .before .before .before .before .fixed-byte4 .ensures
     ⊳ c .before .before .lines2 .ensures
 
 pub separator-style-spec : {M : Type 1} → statement M

@@ -8,7 +8,7 @@ returns : tie.Need-returns
 unfolding PVTextStyle-name
 returns c =
     let c₂ = c .before .before .before .before .before .before .before .before in
-    plain (c₂ .before .before .before .before .before .before .section .ensures) ⟫ plain (c₂ .before .before .mark .ensures)
+    plain (c₂ .before .before .before .before .before .before .section .ensures) ⟫ plain (c₂ .before .before .fixed-byte .ensures)
     ⟫ c .before .before .before .before .before .before .area-style .ensures ⟫ c .before .before .most-areas .ensures
 
 pub text-style-spec : {M : Type 1} → statement M

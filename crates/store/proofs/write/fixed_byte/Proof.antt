@@ -1,10 +1,10 @@
 use borrow.Author.Needs.{needs}
 use Rattle.store.specs.Laws.Puts.{plain-fixed}
-use Rattle.store.proofs.write.mark.Statement.{statement}
-use Rattle.store.proofs.write.mark.Tie as tie
+use Rattle.store.proofs.write.fixed_byte.Statement.{statement}
+use Rattle.store.proofs.write.fixed_byte.Tie as tie
 
-pub mark-spec : {M : Type 1} → statement M
-mark-spec =
+pub fixed-byte-spec : {M : Type 1} → statement M
+fixed-byte-spec =
     tie.close
     (tie.spec
     (λ _ _. tt) (λ c. search needs)
