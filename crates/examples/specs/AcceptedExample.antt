@@ -8,7 +8,7 @@ use native.Mathlib.Omega.{arith}
 use lib.ListN.{length}
 use lib.Dec.{ltb}
 use borrow.Author.Tests.{ltb-true}
-use Rattle.layout.specs.Layout.{le, digits, spellAll, spellFill, spell, Tree, passes, among, pick, Bytes, no-bytes, byte, size}
+use Rattle.layout.specs.Layout.{le, digits, spellAll, spellFill, spell, Tree, passes, suits, among, pick, Bytes, no-bytes, byte, size}
 use Rattle.layout.specs.Read.{Got, got, no, lead, read, refusal}
 use Rattle.layout.specs.Check.{check}
 use Rattle.value.specs.Value.{FontStyle, CellStyle, StylePair, TemplatePrefix, TemplateString, Modifiers, ValueMod, ArgumentOf, TemplateOf, Form01, Form02, Form03, Form04, Form05, Form06, RawValueOf, ValueIn, Value}
@@ -147,7 +147,7 @@ toLine (no n p) = refused-at n p
 
 -- with all that it takes to compute it
 unfoldable pub line : List ℕ → Line
-unfolding toLine checked ended check read passes among refusal pick lead spell digits le spellAll spellFill
+unfolding toLine checked ended check read passes suits among refusal pick lead spell digits le spellAll spellFill
     Front Header HeaderFlags HeaderNumbers Titles Footnote Footnotes AreaFont AreaColors AreaMargins Area EightAreas
     Areas BordersContent Borders PrintSettingsContent PrintSettings BreaksContent TableFlags TableSettingsContent TableSettings
     Y0 CustomCurrency X1Start X1 X2 X1X2 X3 Formats

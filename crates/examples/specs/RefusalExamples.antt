@@ -4,7 +4,8 @@
 use mathlib.Core.Path.{_≡_, refl}
 use mathlib.Core.List.{List, [], _∷_, _++_, map}
 use Prim.Native.Nat.{ℕ, zero, suc}
-use lib.ListN.{take, drop, set}
+use lib.ListN.{length, take, drop, set}
+use Rattle.layout.specs.Layout.{big, digits}
 use Rattle.examples.specs.AcceptedExample.{member, Line, refused-at, accepted-with, line}
 
 -- ---- parts
@@ -31,10 +32,15 @@ four : List ℕ
 unfolding member leaf
 four = set (take 26 (drop 808 member)) 22 0x04 ++ leaf 0 ++ leaf 1 ++ leaf 2 ++ leaf 3
 
+-- the member with this text for the continuation in PrintSettings, whose length stands at 555, and this count for its region
+continued : ℕ → List ℕ → List ℕ
+unfolding member
+continued n text = take 555 (set member 537 n) ++ digits big 4 (length text) ++ text ++ drop 559 member
+
 -- ---- the table
 
 examples : List (List ℕ × Line)
-unfolding member repeated group holder four
+unfolding member repeated group holder four continued
 examples =
     -- 2, a field that does not fit: the first; the version; the last; a region; a string, in a region that ends before it
     ([], refused-at 2 0)
@@ -88,9 +94,18 @@ examples =
     -- 11, a byte after the last section, and after the optional 01
     ∷ (member ++ (0x02 ∷ []), refused-at 11 940)
     ∷ (member ++ (0x01 ∷ 0x01 ∷ []), refused-at 11 941)
-    -- no refusal: the member, and with the optional 01
+    -- 18, a zero byte in a string, lowest byte first and highest first: the only one, the last one; as soon as the string is read
+    ∷ (set member 75 0x01, refused-at 18 75)
+    ∷ (take 80 (set member 75 0x01), refused-at 18 75)
+    ∷ (continued 0x13 (0x00 ∷ []), refused-at 18 555)
+    ∷ (continued 0x14 (0x41 ∷ 0x00 ∷ []), refused-at 18 555)
+    -- not before 2 for the same string: it does not fit in the member, in its region
+    ∷ (take 79 (set member 75 0x01), refused-at 2 75)
+    ∷ (continued 0x12 (0x00 ∷ []), refused-at 2 555)
+    -- no refusal: the member, and with the optional 01; with a string
     ∷ (member, accepted-with 2 5 2)
     ∷ (member ++ (0x01 ∷ []), accepted-with 2 5 2)
+    ∷ (continued 0x13 (0x41 ∷ []), accepted-with 2 5 2)
     ∷ []
 
 refusals : map (λ (e : List ℕ × Line). line (e .0)) examples ≡ map (λ (e : List ℕ × Line). e .1) examples

@@ -7,7 +7,7 @@ ghost use Prim.Native.Nat.{_≤_, _-_};
 ghost use lib.ListN.{length, take, drop};
 ghost use mir.Syntax.{w32};
 ghost use mir.Val.{SFits};
-ghost use Rattle.layout.specs.Layout.{little, big, the-number, a-color, at-most, string, times, undigits};
+ghost use Rattle.layout.specs.Layout.{little, big, the-number, a-color, at-most, any-bytes, string, times, undigits};
 ghost use Rattle.layout.specs.Conventions as grammar;
 ghost use lib.Dec.{eqb};
 ghost use Rattle.store.specs.Values.{bit, twos};
@@ -171,7 +171,7 @@ pub fn signed(s: &[u8], st: Step) -> GotSigned
 
 // A name: its length in one byte, and as many bytes.
 pub fn name(s: &[u8], st: Step) -> GotName
-    ensures { λ r. ⌜ GivesValue (string little 1) (now (s .entry)) st (r .next) (lent (r .value)) (r .value) (record { place = 0; length = 0 }) ⌝ }
+    ensures { λ r. ⌜ GivesValue (string little 1 any-bytes) (now (s .entry)) st (r .next) (lent (r .value)) (r .value) (record { place = 0; length = 0 }) ⌝ }
 {
     let p = part(s, st, LITTLE, 1);
     let n = bytes(s, p);

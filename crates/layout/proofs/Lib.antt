@@ -1,5 +1,6 @@
 mod Digits
 mod Fields
+mod Nulls
 mod Runs
 mod Rooms
 mod Many

@@ -2,7 +2,7 @@
 use mathlib.Core.List.{List, [], _∷_}
 use Prim.Native.Nat.{ℕ}
 use lib.Dec.{eqb}
-use Rattle.layout.specs.Layout.{Order, little, big, Test, any-number, the-number, a-bool, at-most, one-of, exact, Layout, empty, number, string, times, leading, region, pick}
+use Rattle.layout.specs.Layout.{Order, little, big, Test, any-number, the-number, a-bool, at-most, one-of, no-zero, exact, Layout, empty, number, string, times, leading, region, pick}
 
 -- a number alone
 abbrev pub field : Order → ℕ → Test → Layout
@@ -51,12 +51,12 @@ double = int64
 abbrev pub float : Layout
 float = int32
 
--- `string` itself is a layout over the order and the width of its length
+-- `string` itself is a layout over the order and the width of its length. A member's strings hold no zero byte (document 02, T-06)
 abbrev pub lestring : Layout
-lestring = string little 4
+lestring = string little 4 no-zero
 
 abbrev pub bestring : Layout
-bestring = string big 4
+bestring = string big 4 no-zero
 
 -- b? X, for a byte b: where b is absent, X does not begin with it (document 01, our rule)
 abbrev pub mark : ℕ → Layout → Layout

@@ -1,7 +1,7 @@
 -- The notation of source document 003, "Binary Format Conventions", as data: a grammar, its derivation trees, and the bytes that a
 -- tree spells. It says what is allowed, and nothing of how it is found out.
 use mathlib.Core.Path.{_≡_}
-use mathlib.Core.Bool.{Bool, true, false, _||_}
+use mathlib.Core.Bool.{Bool, true, false, not, _||_}
 use mathlib.Core.Option.{Option, none, some}
 use mathlib.Core.List.{List, [], _∷_, _++_, reverse}
 use Prim.Native.Nat.{ℕ, zero, suc, _+_, _*_, _/_, _%_, _^_, _≤_, _<_}
@@ -31,6 +31,13 @@ pub data Test : Type 0 where
   -- a color of a look, whose high byte is 0 (002: "the high bits are zeros")
   a-color : Test
 
+-- what is asked of a string's bytes
+pub data Content : Type 0 where
+  -- nothing (002: the names of a look)
+  any-bytes : Content
+  -- none of them is 0 (003: "a null byte (a valid string never will)"; document 02, T-06)
+  no-zero : Content
+
 -- how the content of a counted region fills it: it is all of it; it is all of it or the region is empty (count((X)?));
 -- or bytes of any value come after it (document 01: free content)
 pub data Fill : Type 0 where
@@ -43,8 +50,8 @@ pub data Layout : Type 0 where
   -- a number of that many bytes that passes the test, and then what the number asks for: a count is followed by as many symbols,
   -- a first byte by the alternative that it begins
   number : Order → ℕ → Test → (ℕ → Layout) → Layout
-  -- a length of that many bytes, and as many bytes (string, bestring)
-  string : Order → ℕ → Layout
+  -- a length of that many bytes, and as many bytes, of which something may be asked (string, bestring)
+  string : Order → ℕ → Content → Layout
   -- one after the other
   _▸_ : Layout → Layout → Layout
   -- that many times (X*N)
@@ -74,7 +81,7 @@ Filled open-ended A = A × List ℕ
 abbrev pub Tree : Layout → Type 0
 Tree empty = Unit {0}
 Tree (number o w test k) = (n : ℕ) × Tree (k n)
-Tree (string o w) = List ℕ
+Tree (string o w c) = List ℕ
 Tree (a ▸ b) = Tree a × Tree b
 Tree (times n a) = List (Tree a)
 Tree (leading b n a) = ℕ × Tree a
@@ -115,7 +122,7 @@ spellFill open-ended g t = g (t .0) ++ t .1
 unfoldable pub spell : (g : Layout) → Tree g → List ℕ
 spell empty t = []
 spell (number o w test k) t = digits o w (t .0) ++ spell (k (t .0)) (t .1)
-spell (string o w) t = digits o w (length t) ++ t
+spell (string o w c) t = digits o w (length t) ++ t
 spell (a ▸ b) t = spell a (t .0) ++ spell b (t .1)
 spell (times n a) t = spellAll (spell a) t
 spell (leading b n a) t = replicate (t .0) b ++ spell a (t .1)
@@ -143,6 +150,11 @@ passes (at-most k) n = leb n k
 passes (one-of ks) n = among n ks
 passes a-color n = ltb n (256 ^ 3)
 
+unfoldable pub suits : Content → List ℕ → Bool
+unfolding among
+suits any-bytes bs = true
+suits no-zero bs = not (among 0 bs)
+
 pub data Bytes : List ℕ → Type 0 where
   no-bytes : Bytes []
   byte : {b : ℕ} {bs : List ℕ} → b < 256 → Bytes bs → Bytes (b ∷ bs)
@@ -166,7 +178,7 @@ ValidFill open-ended P g t = P (t .0) × Bytes (t .1)
 abbrev pub Valid : (g : Layout) → Tree g → Type 0
 Valid empty t = Unit {0}
 Valid (number o w test k) t = (t .0 < 256 ^ w) × (passes test (t .0) ≡ true) × Valid (k (t .0)) (t .1)
-Valid (string o w) t = (length t < 256 ^ w) × Bytes t
+Valid (string o w c) t = (length t < 256 ^ w) × Bytes t × (suits c t ≡ true)
 Valid (a ▸ b) t = Valid a (t .0) × Valid b (t .1)
 Valid (times n a) t = (length t ≡ n) × All (Valid a) t
 Valid (leading b n a) t = Leads b n (t .0) (spell a (t .1)) × Valid a (t .1)

@@ -11,8 +11,8 @@ use Rattle.layout.specs.declared.Step.the-variants.{Next, Refused}
 use Rattle.layout.specs.declared.Span.{Span}
 use Rattle.layout.specs.declared.Span.the-variants.{Of}
 use Rattle.layout.specs.declared.Span.the-variants as span
-use Rattle.layout.specs.Layout.{Order, little, big, Test, passes, Fill, exact, optional, open-ended, Layout, pick}
-use Rattle.layout.specs.Read.{Got, got, no, refusal, readNumber, readCounted, lead, read, ends-early, limit-passed}
+use Rattle.layout.specs.Layout.{Order, little, big, Test, passes, Content, suits, Fill, exact, optional, open-ended, Layout, pick}
+use Rattle.layout.specs.Read.{Got, got, no, refusal, readNumber, readCounted, lead, read, zero-byte, ends-early, limit-passed}
 
 -- a reading without its tree and without what is left
 abbrev pub forget : {A : Type 0} → Got A → Step
@@ -75,10 +75,11 @@ unfoldable pub bytes : List ℕ → Span → List ℕ
 bytes s (Of b e) = pick (leb b e) (pick (leb e (length s)) (take (e - b) (drop b s)) []) []
 bytes s (span.Refused r p) = []
 
--- past them
-abbrev pub past : Span → Step
-past (Of b e) = Next e
-past (span.Refused r p) = Refused r p
+-- past a string's bytes, which lie there after a length of w bytes, if they are what is asked of them
+unfoldable pub past : Content → ℕ → List ℕ → Span → Step
+unfolding bytes
+past c w s (Of b e) = pick (suits c (bytes s (Of b e))) (Next e) (Refused zero-byte (b - w))
+past c w s (span.Refused r p) = Refused r p
 
 -- what a region gives, from b to e, once its content gave i, read as a part of its own from the part's position 0. A place in the part
 -- is moved on by b (and would not be moved past e)

@@ -1,12 +1,15 @@
 // Strings and counted regions: a count, and as many bytes.
 ghost use mathlib.Core.Path.{_≡_};
+ghost use mathlib.Core.Bool.{_||_};
+ghost use lib.Dec.{eqb};
 ghost use Prim.Native.Nat.{_+_, min};
-ghost use Rattle.layout.specs.Layout.{any-number, exact, optional, open-ended, number, string, times};
+ghost use Rattle.layout.specs.Layout.{any-number, no-zero, exact, optional, open-ended, number, string, times, among};
 ghost use Rattle.layout.specs.Reads as spec;
 ghost use Rattle.layout.specs.Reads.{Reads, order};
 use crate::Span;
 use crate::Step;
 use crate::number::any;
+use crate::number::between;
 use crate::number::left;
 use crate::number::peek;
 use crate::number::width;
@@ -45,15 +48,6 @@ pub fn bytes(s: &[u8], p: Span) -> &[u8]
         if e <= s.len() { &s[b..e] } else { &s[..0] }
     } else {
         &s[..0]
-    }
-}
-
-fn past(p: Span) -> Step
-    ensures { λ r. ⌜ r ≡ spec.past p ⌝ }
-{
-    match p {
-        Span::Of(_, e) => Step::Next(e),
-        Span::Refused(r, p) => Step::Refused(r, p),
     }
 }
 
@@ -119,16 +113,51 @@ pub fn close_open(p: Span, i: Step) -> Step
     }
 }
 
-// A string, its length in w bytes.
-pub fn string(s: &[u8], st: Step, high: bool, w: usize) -> Step
-    ensures { λ r. ⌜ Reads (string (order high) (min w 8)) (now (s .entry)) st r ⌝ }
+fn or_null(found: bool, b: u8) -> bool
+    ensures { λ r. ⌜ r ≡ (found || eqb 0 b) ⌝ }
 {
-    past(part(s, st, high, w))
+    if found { true } else { 0 == b }
+}
+
+// One of the bytes is 0. All are looked at, with no way out of the loop: so the compiler turns it into vector instructions.
+fn has_null(s: &[u8]) -> bool
+    ensures { λ r. ⌜ r ≡ among 0 (now (s .entry)) ⌝ }
+{
+    let mut found = false;
+    let mut i = 0;
+    while i < s.len() {
+        found = or_null(found, s[i]);
+        i += 1;
+    }
+    found
+}
+
+// Past the bytes of a string, after its length of w bytes, unless one of them is 0.
+fn past(s: &[u8], p: Span, w: usize) -> Step
+    ensures { λ r. ⌜ r ≡ spec.past no-zero w (now (s .entry)) p ⌝ }
+{
+    match p {
+        Span::Of(b, e) => {
+            let zero = has_null(bytes(s, Span::Of(b, e)));
+            if zero {
+                return Step::Refused(18, between(w, b));
+            }
+            Step::Next(e)
+        }
+        Span::Refused(r, p) => Step::Refused(r, p),
+    }
+}
+
+// A string without a zero byte, its length in w bytes.
+pub fn string(s: &[u8], st: Step, high: bool, w: usize) -> Step
+    ensures { λ r. ⌜ Reads (string (order high) (min w 8) no-zero) (now (s .entry)) st r ⌝ }
+{
+    past(s, part(s, st, high, w), width(w))
 }
 
 // n strings.
 fn strings(s: &[u8], st: Step, high: bool, w: usize, n: u64) -> Step
-    ensures { λ r. ⌜ Reads (times n (string (order high) (min w 8))) (now (s .entry)) st r ⌝ }
+    ensures { λ r. ⌜ Reads (times n (string (order high) (min w 8) no-zero)) (now (s .entry)) st r ⌝ }
 {
     let mut at = st;
     let mut k = n;
@@ -144,7 +173,7 @@ fn strings(s: &[u8], st: Step, high: bool, w: usize, n: u64) -> Step
 
 // A count of four bytes and as many strings, their lengths in w bytes.
 pub fn many_strings(s: &[u8], st: Step, high: bool, w: usize) -> Step
-    ensures { λ r. ⌜ Reads (number (order high) 4 any-number (λ n. times n (string (order high) (min w 8)))) (now (s .entry)) st r ⌝ }
+    ensures { λ r. ⌜ Reads (number (order high) 4 any-number (λ n. times n (string (order high) (min w 8) no-zero))) (now (s .entry)) st r ⌝ }
 {
     let n = peek(s, st, high, 4);
     strings(s, any(s, st, 4), high, w, n)

@@ -5,7 +5,7 @@ use mathlib.Core.List.{List, [], _∷_}
 use Prim.Native.Nat.{ℕ}
 use lib.ListN.{length}
 use lib.Dec.{eqb}
-use Rattle.layout.specs.Layout.{little, big, the-number, a-version, one-of, a-color, at-most, Layout, empty, number, string, _▸_, times, undigits}
+use Rattle.layout.specs.Layout.{little, big, the-number, a-version, one-of, a-color, at-most, any-bytes, Layout, empty, number, string, _▸_, times, undigits}
 use Rattle.layout.specs.Conventions.{field, fixed, i, byte, bool, int16, int32}
 
 -- "The quoted names in 002 are class names, and each carries a 16-bit little-endian length before its letters"; "the length is one field, the
@@ -18,9 +18,9 @@ quoted letters = field little 2 (the-number (length letters)) ▸ field big (len
 abbrev pub color : Layout
 color = field little 4 a-color
 
--- a length byte and as many bytes, one field (document 01)
+-- a length byte and as many bytes of any value, one field (document 01; document 02, T-06: "the looks aren't affected")
 abbrev pub name : Layout
-name = string little 1
+name = string little 1 any-bytes
 
 -- ff ff 00 00 and the class name, with which each of the first four sections begins
 abbrev pub section : List ℕ → Layout

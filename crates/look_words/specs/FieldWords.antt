@@ -31,7 +31,7 @@ textWords (letters xs) = []
 unfoldable pub words : (g : Layout) → Fields g → List ℕ
 words empty f = []
 words (number o w test k) f = numbered test (f .0) (words (k (f .0)) (f .1))
-words (string o w) f = textWords f
+words (string o w c) f = textWords f
 words (a ▸ b) f = words a (f .0) ++ words b (f .1)
 words (times n a) f = spellAll (words a) f
 words (leading b n a) f = []

@@ -16,12 +16,16 @@ use mathlib.Core.List.{List, _++_}
 use Prim.Native.Nat.{ℕ, _*_, _-_, _≤_}
 use lib.ListN.{length, drop}
 use Rattle.sizes.specs.Sizes.{member-bytes, most-dimensions, node-words, cell-words, dimension-area}
-use Rattle.layout.specs.Layout.{Tree}
+use Rattle.layout.specs.Layout.{Tree, All}
+use Rattle.layout.specs.Strings.{strings, NoZero}
 use Rattle.member.specs.declared.Answer.{Answer}
 use Rattle.member.specs.Member.{Member, dimensions, layers, rows, columns, order, cells, nodes, nodeRecords, dimensionEntries, cellRecords, MemberDerivation, AsDemanded, LargeEnough}
 use Rattle.member.specs.Refused.{RefusedWith}
 use Rattle.member.specs.Answer.{zeros}
 use Rattle.member.specs.Laws.Demanded as demanded
+use Rattle.member.specs.Laws.RecordsSpelt.{nodeNames, dimensionNames, cellValues}
+use Rattle.member.specs.Laws.ValidValues.{nodes-valid, dimensions-valid, cells-valid}
+use Rattle.member.specs.Laws.NoZeroInside.{Free, member-free, values-free}
 
 -- a derivation that is as demanded, for which areas of these lengths are large enough
 pub record Accepted (bs : List ℕ) (node-length cell-length : ℕ) : Type 0 where
@@ -69,3 +73,13 @@ pub record Demand3 (bs nodes₀ cells₀ : List ℕ) (r : Answer) (nodes₁ cell
 -- No run of bytes has two derivations, accepted or not.
 pub one-derivation : (bs : List ℕ) (m m′ : MemberDerivation bs) → (m .tree ≡ m′ .tree) × (m .ends ≡ m′ .ends)
 one-derivation = demanded.one-derivation
+
+-- No string of a derivation holds a zero byte (document 02, T-06) ..
+pub no-zero-inside : {bs : List ℕ} (m : MemberDerivation bs) → All NoZero (strings Member (m .tree))
+no-zero-inside m = member-free (m .tree) (m .valid)
+
+-- .. and so none of the Values that the records of an accepted member point to (`Laws.RecordsSpelt`): names of nodes and dimensions, cells.
+pub values-no-zero-inside : {bs : List ℕ} (m : MemberDerivation bs)
+    → All Free (nodeNames (m .tree)) × All Free (dimensionNames (m .tree)) × All Free (cellValues (m .tree))
+values-no-zero-inside m =
+    (values-free (nodes-valid (m .tree) (m .valid)), values-free (dimensions-valid (m .tree) (m .valid)), values-free (cells-valid (m .tree) (m .valid)))

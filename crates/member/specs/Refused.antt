@@ -32,6 +32,7 @@ use Rattle.table.specs.Records.{dimsOf}
 -- 11   bytes left at the end                                   first of them                   left, below
 -- 12   node area shorter than 6 words a node                   0                               few-node-words, below
 -- 13   cell area shorter than 3 words a cell                   0                               few-cell-words, below
+-- 18   a zero byte inside a string (document 02, T-06)         its first length byte           layout Fails: string-wrong
 
 -- the member's sections in their order, each with its tests: `Front` is Header to Formats, which the layout tests alone
 unfoldable pub memberRule : Rule Member

@@ -36,7 +36,7 @@ unfoldable pub check : (g : Layout) → List ℕ → Fields g → ℕ → Step
 unfolding judged checkAll checkIn
 check empty s f at = Next at
 check (number o w test k) s f at = chain (judged (verdict test (f .0)) w at) (check (k (f .0)) s (f .1))
-check (string o w) s f at = judged (textVerdict w s f) (w + length (textOf s f)) at
+check (string o w c) s f at = judged (textVerdict w c s f) (w + length (textOf s f)) at
 check (a ▸ b) s f at = chain (check a s (f .0) at) (check b s (f .1))
 check (times n a) s f at = checkAll (check a s) f at
 check (leading b n a) s f at = chain (judged (runVerdict n (f .0)) (f .0) at) (check a s (f .1))

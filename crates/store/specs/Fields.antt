@@ -19,7 +19,7 @@ FieldsIn open-ended A = A × Text
 abbrev pub Fields : Layout → Type 0
 Fields empty = Unit {0}
 Fields (number o w test k) = (n : ℕ) × Fields (k n)
-Fields (string o w) = Text
+Fields (string o w c) = Text
 Fields (a ▸ b) = Fields a × Fields b
 Fields (times n a) = List (Fields a)
 Fields (leading b n a) = ℕ × Fields a
@@ -42,7 +42,7 @@ unfoldable pub placed : (g : Layout) → Tree g → ℕ → Fields g
 unfolding placedAll placedIn
 placed empty t at = t
 placed (number o w test k) t at = (t .0, placed (k (t .0)) (t .1) (at + w))
-placed (string o w) t at = lent record { place = at + w; length = length t }
+placed (string o w c) t at = lent record { place = at + w; length = length t }
 placed (a ▸ b) t at = (placed a (t .0) at, placed b (t .1) (at + length (spell a (t .0))))
 placed (times n a) t at = placedAll (placed a) (spell a) t at
 placed (leading b n a) t at = (t .0, placed a (t .1) (at + t .0))
@@ -75,7 +75,7 @@ unfoldable pub resolve : (g : Layout) → List ℕ → Fields g → Tree g
 unfolding resolveAll resolveIn textOf
 resolve empty s f = f
 resolve (number o w test k) s f = (f .0, resolve (k (f .0)) s (f .1))
-resolve (string o w) s f = textOf s f
+resolve (string o w c) s f = textOf s f
 resolve (a ▸ b) s f = (resolve a s (f .0), resolve b s (f .1))
 resolve (times n a) s f = resolveAll (resolve a s) f
 resolve (leading b n a) s f = (f .0, resolve a s (f .1))

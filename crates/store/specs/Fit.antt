@@ -21,7 +21,7 @@ FitIn open-ended P bytes f = P (f .0) × FitText (f .1)
 abbrev pub Fit : (g : Layout) → List ℕ → Fields g → Type 0
 Fit empty s f = Unit {0}
 Fit (number o w test k) s f = (f .0 < 256 ^ w) × Fit (k (f .0)) s (f .1)
-Fit (string o w) s f = FitText f
+Fit (string o w c) s f = FitText f
 Fit (a ▸ b) s f = Fit a s (f .0) × Fit b s (f .1)
 Fit (times n a) s f = (length f ≡ n) × All (Fit a s) f
 Fit (leading b n a) s f = Leads b n (f .0) (bytesIn a s (f .1)) × Fit a s (f .1)

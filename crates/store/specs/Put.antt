@@ -9,10 +9,10 @@ use lib.ListN.{length, take, drop, replicate}
 use lib.Dec.{eqb, leb, ltb}
 use Rattle.layout.specs.declared.Step.{Step}
 use Rattle.layout.specs.declared.Step.the-variants.{Next, Refused}
-use Rattle.layout.specs.Layout.{Order, Fill, exact, optional, open-ended, Layout, empty, number, string, _▸_, times, leading, region, nothing, digits, pick}
-use Rattle.layout.specs.Numbers.{too-short, differs, limit-passed}
+use Rattle.layout.specs.Layout.{Order, Content, suits, Fill, exact, optional, open-ended, Layout, empty, number, string, _▸_, times, leading, region, nothing, digits, pick}
+use Rattle.layout.specs.Numbers.{too-short, zero-byte, differs, limit-passed}
 use Rattle.layout.specs.Reads.{verdict}
-use Rattle.store.specs.Fields.{Text, lent, letters, FieldsIn, Fields, textOf}
+use Rattle.store.specs.Fields.{Text, lent, letters, FieldsIn, Fields, bytesOf, textOf}
 
 -- a buffer, and what was written so far
 abbrev pub State : Type 0
@@ -37,12 +37,18 @@ putField c xs b (Refused n p) = (b, Refused n p)
 
 -- ---- strings
 
+-- the refusal of a string's bytes, by what is asked of them, or 0
+unfoldable pub contentVerdict : Content → List ℕ → ℕ
+unfolding pick suits
+contentVerdict c xs = pick (suits c xs) 0 zero-byte
+
 -- the refusal of a string with a length of w bytes, or 0: "a name over 255 bytes is 7, then a name not inside the lent bytes is 2" (for a
--- length of one byte)
-unfoldable pub textVerdict : ℕ → List ℕ → Text → ℕ
-unfolding pick
-textVerdict w s (lent n) = pick (ltb (n .length) (256 ^ w)) (pick (leb (n .place + n .length) (length s)) 0 too-short) limit-passed
-textVerdict w s (letters xs) = pick (ltb (length xs) (256 ^ w)) 0 limit-passed
+-- length of one byte); then that of its bytes (document 02, T-06: "after 2 for the same field")
+unfoldable pub textVerdict : ℕ → Content → List ℕ → Text → ℕ
+unfolding pick contentVerdict bytesOf
+textVerdict w c s (lent n) =
+    pick (ltb (n .length) (256 ^ w)) (pick (leb (n .place + n .length) (length s)) (contentVerdict c (bytesOf s n)) too-short) limit-passed
+textVerdict w c s (letters xs) = pick (ltb (length xs) (256 ^ w)) (contentVerdict c xs) limit-passed
 
 -- of free content, which has no length of its own
 unfoldable pub freeVerdict : List ℕ → Text → ℕ
@@ -92,7 +98,7 @@ unfoldable pub put : (g : Layout) → List ℕ → Fields g → State → State
 unfolding putField putAll putIn opened closed
 put empty s f x = x
 put (number o w test k) s f x = put (k (f .0)) s (f .1) (putField (verdict test (f .0)) (digits o w (f .0)) (x .0) (x .1))
-put (string o w) s f x = putField (textVerdict w s f) (digits o w (length (textOf s f)) ++ textOf s f) (x .0) (x .1)
+put (string o w c) s f x = putField (textVerdict w c s f) (digits o w (length (textOf s f)) ++ textOf s f) (x .0) (x .1)
 put (a ▸ b) s f x = put b s (f .1) (put a s (f .0) x)
 put (times n a) s f x = putAll (put a s) f x
 put (leading b n a) s f x = put a s (f .1) (putField (runVerdict n (f .0)) (replicate (f .0) b) (x .0) (x .1))

@@ -6,9 +6,9 @@ use mathlib.Core.Option.{none, some}
 use mathlib.Core.List.{List, _∷_}
 use Prim.Native.Nat.{ℕ, _+_, _^_, _≤_, _<_}
 use lib.ListN.{length}
-use Rattle.layout.specs.Layout.{Order, Test, passes, Fill, exact, optional, open-ended, Layout, empty, number, string, _▸_, times, leading, region, nothing, All}
-use Rattle.layout.specs.Numbers.{refusal, too-short, differs, limit-passed}
-use Rattle.store.specs.Fields.{Text, lent, letters, FieldsIn, Fields, bytesIn}
+use Rattle.layout.specs.Layout.{Order, Test, passes, Content, suits, Fill, exact, optional, open-ended, Layout, empty, number, string, _▸_, times, leading, region, nothing, All}
+use Rattle.layout.specs.Numbers.{refusal, too-short, zero-byte, differs, limit-passed}
+use Rattle.store.specs.Fields.{Text, lent, letters, FieldsIn, Fields, textOf, bytesIn}
 
 -- how long a text is
 abbrev pub textLength : Text → ℕ
@@ -30,12 +30,12 @@ WritableIn optional P s none = Unit {0}
 WritableIn optional P s (some f) = P f
 WritableIn open-ended P s f = P (f .0) × Inside s (f .1)
 
--- fields that can be written: each number passes its test; each string is as short as its length's w bytes can say, and lies inside s; no run
--- is longer than it may be
+-- fields that can be written: each number passes its test; each string is as short as its length's w bytes can say, lies inside s and is what
+-- is asked of it; no run is longer than it may be
 abbrev pub Writable : (g : Layout) → List ℕ → Fields g → Type 0
 Writable empty s f = Unit {0}
 Writable (number o w test k) s f = (passes test (f .0) ≡ true) × Writable (k (f .0)) s (f .1)
-Writable (string o w) s f = (textLength f < 256 ^ w) × Inside s f
+Writable (string o w c) s f = (textLength f < 256 ^ w) × Inside s f × (suits c (textOf s f) ≡ true)
 Writable (a ▸ b) s f = Writable a s (f .0) × Writable b s (f .1)
 Writable (times n a) s f = All (Writable a s) f
 Writable (leading b n a) s f = (f .0 ≤ n) × Writable a s (f .1)
@@ -51,8 +51,12 @@ pub data Unwritable (s : List ℕ) : (g : Layout) → Fields g → ℕ → ℕ �
   number-then : {o : Order} {w : ℕ} {test : Test} {k : ℕ → Layout} {f : Fields (number o w test k)} {at n p : ℕ}
       → passes test (f .0) ≡ true → Unwritable s (k (f .0)) (f .1) (at + w) n p → Unwritable s (number o w test k) f at n p
   -- "a name over 255 bytes is 7, then a name not inside the lent bytes is 2, both at its length byte" (for a length of one byte)
-  text-long : {o : Order} {w : ℕ} {f : Text} {at : ℕ} → 256 ^ w ≤ textLength f → Unwritable s (string o w) f at limit-passed at
-  text-outside : {o : Order} {w : ℕ} {f : Text} {at : ℕ} → textLength f < 256 ^ w → Outside s f → Unwritable s (string o w) f at too-short at
+  text-long : {o : Order} {w : ℕ} {c : Content} {f : Text} {at : ℕ} → 256 ^ w ≤ textLength f → Unwritable s (string o w c) f at limit-passed at
+  text-outside : {o : Order} {w : ℕ} {c : Content} {f : Text} {at : ℕ}
+      → textLength f < 256 ^ w → Outside s f → Unwritable s (string o w c) f at too-short at
+  -- "after 2 for the same field" (document 02, T-06)
+  text-wrong : {o : Order} {w : ℕ} {c : Content} {f : Text} {at : ℕ}
+      → textLength f < 256 ^ w → Inside s f → suits c (textOf s f) ≡ false → Unwritable s (string o w c) f at zero-byte at
   -- "it goes front to back": the first, or the second after a first that can be written
   first : {a b : Layout} {f : Fields (a ▸ b)} {at n p : ℕ} → Unwritable s a (f .0) at n p → Unwritable s (a ▸ b) f at n p
   second : {a b : Layout} {f : Fields (a ▸ b)} {at n p : ℕ}

@@ -4,7 +4,7 @@ ghost use mathlib.Core.List.{[], _∷_, _++_};
 ghost use Prim.Native.Nat.{_+_, _^_, min};
 ghost use lib.ListN.{length};
 ghost use lib.Dec.{leb, ltb};
-ghost use Rattle.layout.specs.Layout.{little, big, the-number, a-color, at-most, string, times, digits, undigits};
+ghost use Rattle.layout.specs.Layout.{little, big, the-number, a-color, at-most, any-bytes, string, times, digits, undigits};
 ghost use Rattle.layout.specs.Conventions as grammar;
 ghost use Rattle.layout.specs.Reads.{order};
 ghost use Rattle.store.specs.Values.{bit, twos};
@@ -233,7 +233,7 @@ pub fn plain_letters(buf: &mut [u8], st: Step, text: &[u8]) -> Step
 
 // The refusal of a name, for a length of w bytes, or 0.
 fn name_verdict(names: &[u8], n: Name, w: usize) -> u32
-    ensures { λ c. ⌜ c ≡ textVerdict (min w 8) (now (names .entry)) (lent n) ⌝ }
+    ensures { λ c. ⌜ c ≡ textVerdict (min w 8) any-bytes (now (names .entry)) (lent n) ⌝ }
 {
     let place = n.place;
     let length = n.length;
@@ -248,7 +248,7 @@ fn name_verdict(names: &[u8], n: Name, w: usize) -> u32
 
 // A string whose bytes lie in those lent for names.
 pub fn name(buf: &mut [u8], st: Step, high: bool, w: usize, names: &[u8], n: Name) -> Step
-    ensures { λ r. ⌜ Puts (string (order high) (min w 8)) (now (names .entry)) (lent n) (now (buf .entry)) st (now (buf .exit)) r ⌝ }
+    ensures { λ r. ⌜ Puts (string (order high) (min w 8) any-bytes) (now (names .entry)) (lent n) (now (buf .entry)) st (now (buf .exit)) r ⌝ }
 {
     let c = name_verdict(names, n, w);
     let text = part(names, n.place, n.length);
@@ -257,7 +257,7 @@ pub fn name(buf: &mut [u8], st: Step, high: bool, w: usize, names: &[u8], n: Nam
 
 // A string of the writer's own letters.
 pub fn text(buf: &mut [u8], st: Step, high: bool, w: usize, text: &[u8]) -> Step
-    ensures { λ r. ⌜ PutsPlain (string (order high) (min w 8)) (letters (now (text .entry))) (now (buf .entry)) st (now (buf .exit)) r ⌝ }
+    ensures { λ r. ⌜ PutsPlain (string (order high) (min w 8) any-bytes) (letters (now (text .entry))) (now (buf .entry)) st (now (buf .exit)) r ⌝ }
 {
     let short = says(w, text.len());
     if short {

@@ -1,4 +1,4 @@
--- Bytes that fail by a layout without runs and regions: no farther than its longest fields reach, and by which numbers.
+-- Bytes that fail by a layout without runs and regions, whose strings may hold any bytes: no farther than its longest fields reach, and by which numbers.
 use mathlib.Core.Path.{_≡_, refl, sym}
 use mathlib.Core.Bool.{true, false, false≢true}
 use mathlib.Core.List.{List, [], _∷_}
@@ -6,9 +6,9 @@ use Prim.Native.Nat.{ℕ, _+_, _*_, _≤_}
 use native.Mathlib.Nat.{suc-mul, mul-le-mul-right}
 use native.Mathlib.Omega.{arith}
 use lib.ListN.{length, length-append}
-use Rattle.layout.specs.Layout.{Test, any-number, the-number, a-version, a-bool, at-most, one-of, a-color, among, passes, Layout, empty, number, string, _▸_, times, Tree, spellAll, spell, All, all-none, all-more, Valid}
+use Rattle.layout.specs.Layout.{Test, any-number, the-number, a-version, a-bool, at-most, one-of, a-color, among, passes, suits, Layout, empty, number, string, _▸_, times, Tree, spellAll, spell, All, all-none, all-more, Valid}
 use Rattle.layout.specs.Numbers.{refusal}
-use Rattle.layout.specs.Fails.{Fails, number-short, number-wrong, number-then, string-short, first, second, item, after-run, run-alone, region-short, content, bytes-left, too-deep}
+use Rattle.layout.specs.Fails.{Fails, number-short, number-wrong, number-then, string-short, string-wrong, first, second, item, after-run, run-alone, region-short, content, bytes-left, too-deep}
 use Rattle.layout.specs.Laws as laws
 use Rattle.store.specs.Laws.Bounds.{most, Bounded}
 
@@ -24,7 +24,7 @@ pub spell-most : (g : Layout) → Bounded g → (t : Tree g) → Valid g t → l
 unfolding spell
 spell-most empty h t v = omega arith
 spell-most (number o w test k) h t v = rw (length-append, laws.digits-length) (omega (arith, spell-most (k (t .0)) (h (t .0) .1) (t .1) (v .2), h (t .0) .0))
-spell-most (string o w) h t v = rw (length-append, laws.digits-length) (omega (arith, v .0))
+spell-most (string o w c) h t v = rw (length-append, laws.digits-length) (omega (arith, v .0))
 spell-most (a ▸ b) h t v = rw length-append (omega (arith, spell-most a (h .0) (t .0) (v .0), spell-most b (h .1) (t .1) (v .1)))
 spell-most (times n a) h t v = rw (← (v .0)) (all-most (spell a) (Valid a) (most a) (spell-most a h) (v .1))
 
@@ -35,6 +35,7 @@ fails-within (number-short l) h = omega arith
 fails-within (number-wrong v e) h = omega arith
 fails-within (number-then {n = n} v e f) h = omega (arith, fails-within f (h n .1), h n .0)
 fails-within (string-short u) h = omega arith
+fails-within (string-wrong v e) h = omega arith
 fails-within (first f) h = omega (arith, fails-within f (h .0))
 fails-within (second {a = a} {t = t} v f) h = omega (arith, spell-most a (h .0) t (v .valid), fails-within f (h .1))
 fails-within (item {n} {a} {ts = ts} v l f) h =
@@ -63,11 +64,12 @@ test-number (one-of ks) v e = refl
 test-number a-color v e = refl
 
 pub fails-numbers : {g : Layout} {s : List ℕ} {at n p : ℕ} → Fails g s at n p → Bounded g → among n field-numbers ≡ true
-unfolding among
+unfolding among suits
 fails-numbers (number-short l) h = refl
 fails-numbers (number-wrong {test = test} {n = n} v e) h = test-number test n e
 fails-numbers (number-then {n = n} v e f) h = fails-numbers f (h n .1)
 fails-numbers (string-short u) h = refl
+fails-numbers (string-wrong v e) h = absurd (false≢true (sym (rw h at e)))
 fails-numbers (first f) h = fails-numbers f (h .0)
 fails-numbers (second v f) h = fails-numbers f (h .1)
 fails-numbers (item v l f) h = fails-numbers f h

@@ -16,7 +16,7 @@ use Rattle.layout.specs.declared.Span.the-variants.{Of}
 use Rattle.layout.specs.declared.Span.the-variants as span
 use Rattle.layout.specs.declared.Step.{Step}
 use Rattle.layout.specs.declared.Step.the-variants.{Next, Refused}
-use Rattle.layout.specs.Layout.{Order, Test, any-number, the-number, a-bool, one-of, among, passes, Layout, empty, number, string, _▸_, times, Tree, spell, Bytes, pick, undigits}
+use Rattle.layout.specs.Layout.{Order, Test, any-number, the-number, a-bool, one-of, among, passes, suits, any-bytes, Layout, empty, number, string, _▸_, times, Tree, spell, Bytes, pick, undigits}
 use Rattle.layout.specs.Steps.Slices.{drop-bytes}
 use Rattle.layout.specs.Read.{Got, got, no, bind, readNumber, readTimes, read, too-short}
 use Rattle.layout.specs.Laws as laws
@@ -318,9 +318,9 @@ unfolding bytes pick
 bytes-length s b n h =
     simp (le-leb b (b + n) (omega arith), le-leb (b + n) (length s) h, add-sub-cancel-left) (length-take-le n (drop b s) (omega (arith, length-drop b s)))
 
-named : (o : Order) (w : ℕ) → 0 < w → (s : List ℕ) (at : ℕ) (t r : List ℕ) (p : ℕ) → read (string o w) (drop at s) at ≡ got t r p
+named : (o : Order) (w : ℕ) → 0 < w → (s : List ℕ) (at : ℕ) (t r : List ℕ) (p : ℕ) → read (string o w any-bytes) (drop at s) at ≡ got t r p
     → nameAt s (part o w s (Next at)) ≡ record { place = at + w; length = length t }
-unfolding read bind part
+unfolding read bind part suits pick
 named o w pos s at t r p e = go (counted-view o w (drop at s) at) e
   where
     go : {x : Got (List ℕ)} → Announced w (drop at s) at x → bind x (λ content rest at₁. got content rest (at₁ + length content)) ≡ got t r p
@@ -331,8 +331,8 @@ named o w pos s at t r p e = go (counted-view o w (drop at s) at) e
         rw (← t≡, bytes-length s (at + w) (length (take n (drop w (drop at s)))) (omega (arith, length-drop at s)))
     go too-few i = absurd (let z : _≡_ {A = ℕ} 0 1 = cc in omega arith)
 
-pub string-gives : {o : Order} {w : ℕ} {s : List ℕ} {st r : Step} {p : Span} {n : Name} → 0 < w → p ≡ part o w s st → r ≡ past p → n ≡ nameAt s p
-    → Gives (string o w) s st r (lent n)
+pub string-gives : {o : Order} {w : ℕ} {s : List ℕ} {st r : Step} {p : Span} {n : Name} → 0 < w → p ≡ part o w s st → r ≡ past any-bytes w s p
+    → n ≡ nameAt s p → Gives (string o w any-bytes) s st r (lent n)
 unfolding placed
 string-gives {o} {w} {s} {st} {r} {p} {n} h a b c = record {
   reads = string-of b a;

@@ -8,11 +8,12 @@ use native.Mathlib.Omega.{arith}
 use lib.ListN.{length, length-append}
 use lib.Dec.{eqb}
 use borrow.Author.Tests.{eqb-true}
-use Rattle.layout.specs.Layout.{Order, Test, any-number, the-number, a-version, a-bool, at-most, one-of, a-color, Fill, Layout, empty, number, string, _▸_, times, leading, region, nothing, Tree, spell, among, passes, Valid, pick}
-use Rattle.layout.specs.Numbers.{refusal, too-short, differs, ends-early, limit-passed}
-use Rattle.layout.specs.Fails.{Fails, number-short, number-wrong, number-then, string-short, first, second, item, after-run, run-alone, region-short, content, bytes-left, too-deep}
+use Rattle.layout.specs.Layout.{Test, any-number, the-number, a-version, a-bool, at-most, one-of, a-color, Content, any-bytes, no-zero, Layout, empty, number, string, _▸_, times, leading, region, nothing, Tree, spell, among, passes, suits, Valid}
+use Rattle.layout.specs.Numbers.{refusal, too-short, zero-byte, differs, ends-early, limit-passed}
+use Rattle.layout.specs.Fails.{Fails, number-short, number-wrong, number-then, string-short, string-wrong, first, second, item, after-run, run-alone, region-short, content, bytes-left, too-deep}
 use Rattle.layout.specs.Rule.{Rule, plain, _▸▸_, numbered, items, asked, tested, onto, Breaks}
 use Rattle.layout.specs.Rule as rule
+use Rattle.layout.specs.Laws.Uses.{Uses, of-empty, of-number, of-string, of-two, of-times, of-leading, of-region, of-nothing}
 use Rattle.layout.specs.Laws.Digits.{length-digits}
 use Rattle.layout.specs.Laws.FailsExactly.{place-inside}
 
@@ -25,7 +26,7 @@ allAmong (n ∷ ns) ks = among n ks && allAmong ns ks
 
 -- the numbers that a layout gives (document 01, "Refusal numbers")
 abbrev pub layoutNumbers : List ℕ
-layoutNumbers = 2 ∷ 3 ∷ 4 ∷ 5 ∷ 6 ∷ 7 ∷ 14 ∷ []
+layoutNumbers = 2 ∷ 3 ∷ 4 ∷ 5 ∷ 6 ∷ 7 ∷ 14 ∷ 18 ∷ []
 
 -- those among them that no test gives
 abbrev pub untested : List ℕ
@@ -41,23 +42,14 @@ testGives ks (at-most k) = among (refusal (at-most k)) ks
 testGives ks (one-of vs) = among (refusal (one-of vs)) ks
 testGives ks a-color = among (refusal a-color) ks
 
--- every broken test of the layout gives one of the ks
-pub data TestsGive (ks : List ℕ) : Layout → Type 0 where
-  of-empty : TestsGive ks empty
-  of-number : {o : Order} {w : ℕ} {test : Test} {k : ℕ → Layout} → testGives ks test ≡ true → ((n : ℕ) → TestsGive ks (k n)) → TestsGive ks (number o w test k)
-  of-string : {o : Order} {w : ℕ} → TestsGive ks (string o w)
-  of-two : {a b : Layout} → TestsGive ks a → TestsGive ks b → TestsGive ks (a ▸ b)
-  of-times : {n : ℕ} {a : Layout} → TestsGive ks a → TestsGive ks (times n a)
-  of-leading : {b n : ℕ} {a : Layout} → TestsGive ks a → TestsGive ks (leading b n a)
-  of-region : {o : Order} {f : Fill} {a : Layout} → TestsGive ks a → TestsGive ks (region o f a)
-  of-nothing : TestsGive ks nothing
+-- a string of forbidden content likewise
+unfoldable pub contentGives : List ℕ → Content → Bool
+contentGives ks any-bytes = true
+contentGives ks no-zero = among zero-byte ks
 
-pub of-pick : {ks : List ℕ} (b : Bool) {x y : Layout} → TestsGive ks x → TestsGive ks y → TestsGive ks (pick b x y)
-unfolding pick
-of-pick true h k = h
-of-pick false h k = k
-
-pub ruleset tests-give = (of-empty, of-number, of-string, of-two, of-times, of-leading, of-region, of-nothing, of-pick)
+-- whatever of the layout is broken gives one of the ks
+abbrev pub TestsGive : List ℕ → Layout → Type 0
+TestsGive ks g = Uses (testGives ks) (contentGives ks) g
 
 -- every number that the rule gives itself is one of the ks
 abbrev pub Numbered : {g : Layout} → List ℕ → Rule g → Type 0
@@ -89,6 +81,11 @@ broken-gives ks (at-most k) n h e = h
 broken-gives ks (one-of vs) n h e = h
 broken-gives ks a-color n h e = h
 
+wrong-gives : (ks : List ℕ) (c : Content) (xs : List ℕ) → contentGives ks c ≡ true → suits c xs ≡ false → among zero-byte ks ≡ true
+unfolding contentGives suits
+wrong-gives ks any-bytes xs h e = cc
+wrong-gives ks no-zero xs h e = h
+
 module _ (ks : List ℕ) (h : allAmong untested ks ≡ true) where
   pub fails-among : {g : Layout} → TestsGive ks g → {s : List ℕ} {at n p : ℕ} → Fails g s at n p → among n ks ≡ true
   unfolding among
@@ -96,6 +93,7 @@ module _ (ks : List ℕ) (h : allAmong untested ks ≡ true) where
   fails-among (of-number e t) (number-wrong {test = test} {n = n} v w) = broken-gives ks test n e w
   fails-among (of-number e t) (number-then {n = n} v w f) = fails-among (t n) f
   fails-among t (string-short u) = is-among 2 untested ks refl h
+  fails-among (of-string e) (string-wrong {c = c} {xs = xs} v w) = wrong-gives ks c xs e w
   fails-among (of-two t u) (first f) = fails-among t f
   fails-among (of-two t u) (second v f) = fails-among u f
   fails-among (of-times t) (item v l f) = fails-among t f
@@ -130,10 +128,15 @@ module _ (ks : List ℕ) (h : allAmong layoutNumbers ks ≡ true) where
   test-gives (one-of vs) = is-among 3 layoutNumbers ks refl h
   test-gives a-color = is-among 14 layoutNumbers ks refl h
 
+  content-gives : (c : Content) → contentGives ks c ≡ true
+  unfolding contentGives among
+  content-gives any-bytes = refl
+  content-gives no-zero = is-among 18 layoutNumbers ks refl h
+
   pub every-layout : (g : Layout) → TestsGive ks g
   every-layout empty = of-empty
   every-layout (number o w test k) = of-number (test-gives test) (λ n. every-layout (k n))
-  every-layout (string o w) = of-string
+  every-layout (string o w c) = of-string (content-gives c)
   every-layout (a ▸ b) = of-two (every-layout a) (every-layout b)
   every-layout (times n a) = of-times (every-layout a)
   every-layout (leading b n a) = of-leading (every-layout a)

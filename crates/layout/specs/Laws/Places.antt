@@ -9,8 +9,8 @@ use lib.ListN.{length, take, drop, length-drop}
 use lib.Seq.{drop-drop, length-take-le}
 use lib.Dec.{leb, ltb}
 use borrow.Author.Tests.{leb-true, ltb-true, ltb-false, lt-ltb, le-ltb}
-use Rattle.layout.specs.Layout.{Order, Fill, exact, optional, open-ended, Layout, empty, number, string, _▸_, times, leading, region, nothing, passes, pick, undigits}
-use Rattle.layout.specs.Read.{Got, got, no, bind, readNumber, readCounted, readTimes, lead, readLeading, ends, readFill, read, refusal, too-short, differs, limit-passed}
+use Rattle.layout.specs.Layout.{Order, Fill, exact, optional, open-ended, Layout, empty, number, string, _▸_, times, leading, region, nothing, passes, pick, undigits, suits}
+use Rattle.layout.specs.Read.{Got, got, no, bind, readNumber, readCounted, readTimes, lead, readLeading, ends, readFill, read, refusal, too-short, zero-byte, differs, limit-passed}
 use Rattle.layout.specs.Laws.Lead.{lead-short}
 
 -- ---- what is left is the tail from its place
@@ -172,7 +172,8 @@ within (number o w test k) s at =
     pick-within (passes test n)
     (λ e. within-more q (bind-within (within (k n) r p) (λ t r₂ p₂ q₂. w-got q₂)))
     (λ e. no-start s at (refusal test)))
-within (string o w) s at = counted-within (counted-view o w s at) (λ xs r p q. w-got (q .after))
+within (string o w c) s at = counted-within (counted-view o w s at) (λ xs r p q.
+    pick-within (suits c xs) (λ e. w-got (q .after)) (λ e. no-start s at zero-byte))
 within (a ▸ b) s at = bind-within (within a s at) (λ t r p q. within-more q (bind-within (within b r p) (λ u r₂ p₂ q₂. w-got q₂)))
 within (times n a) s at = times-stays (read a) (within a) n s at
 within (leading b n a) s at = leading-stays (read a) (within a) b n s at
@@ -262,7 +263,8 @@ shifts d empty s at q e = s-got e
 shifts d (number o w test k) s at q e =
     bind-shift (number-shifts d o w s at q e) (λ n r p p′ e′.
     pick-shift (passes test n) (bind-shift (shifts d (k n) r p p′ e′) (λ t r₂ p₂ q₂ e₂. s-got e₂)) (s-no e))
-shifts d (string o w) s at q e = bind-shift (counted-shifts d o w s at q e) (λ xs r p p′ e′. s-got (omega arith))
+shifts d (string o w c) s at q e =
+    bind-shift (counted-shifts d o w s at q e) (λ xs r p p′ e′. pick-shift (suits c xs) (s-got (omega arith)) (s-no e))
 shifts d (a ▸ b) s at q e =
     bind-shift (shifts d a s at q e) (λ t r p p′ e′. bind-shift (shifts d b r p p′ e′) (λ u r₂ p₂ q₂ e₂. s-got e₂))
 shifts d (times n a) s at q e = times-shifts d (read a) (shifts d a) n s at q e

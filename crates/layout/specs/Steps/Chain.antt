@@ -1,5 +1,6 @@
 -- One symbol after the other, a refusal that stays, and repetition.
 use mathlib.Core.Path.{_≡_, refl, ap, sym, _∙_}
+use mathlib.Core.Bool.{Bool, true, false}
 use mathlib.Core.List.{List, _∷_}
 use Prim.Native.Nat.{ℕ, zero, suc, _-_, _≤_, _<_}
 use native.Mathlib.Nat.{lt-irrefl}
@@ -8,7 +9,7 @@ use native.Mathlib.Omega.{arith}
 use lib.ListN.{drop}
 use Rattle.layout.specs.declared.Step.{Step}
 use Rattle.layout.specs.declared.Step.the-variants.{Next, Refused}
-use Rattle.layout.specs.Layout.{Layout, empty, _▸_, times, nothing}
+use Rattle.layout.specs.Layout.{Layout, empty, _▸_, times, nothing, pick}
 use Rattle.layout.specs.Read.{Got, got, no, bind, readTimes, read}
 use Rattle.layout.specs.Laws.Places.{Within, w-got, w-no, within, tail}
 use Rattle.layout.specs.Reads.{forget, step, chain, Reads, refused}
@@ -24,6 +25,12 @@ pub forget-rest : {A : Type 0} (rest : List ℕ) (x : Got A) → forget (bind x 
 unfolding bind
 forget-rest rest (got t s at) = refl
 forget-rest rest (no r p) = refl
+
+-- of two readings one
+pub forget-pick : {A : Type 0} (b : Bool) (x y : Got A) → pick b (forget x) (forget y) ≡ forget (pick b x y)
+unfolding pick
+forget-pick true x y = refl
+forget-pick false x y = refl
 
 -- what comes after a reading in s comes after its place
 forget-bind : {A B : Type 0} (s : List ℕ) (at : ℕ) {x : Got A} (f : A → List ℕ → ℕ → Got B) (F : ℕ → Step) → Within (drop at s) at x

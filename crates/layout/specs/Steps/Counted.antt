@@ -1,9 +1,10 @@
 -- Strings and regions: a count, and as many bytes.
 use mathlib.Core.Path.{_≡_, refl, ap, sym, _∙_}
+use mathlib.Core.Bool.{Bool, true, false}
 use mathlib.Core.Option.{some}
 use mathlib.Core.List.{List, [], _∷_}
-use Prim.Native.Nat.{ℕ, _+_, _≤_, _<_, min}
-use native.Mathlib.Nat.{add-zero, add-sub-cancel-left}
+use Prim.Native.Nat.{ℕ, zero, suc, _+_, _≤_, _<_, min}
+use native.Mathlib.Nat.{add-zero, add-sub-cancel-left, add-sub-cancel, sub-self}
 use native.Mathlib.Omega.{arith}
 use lib.ListN.{length, take, drop, length-drop}
 use lib.Seq.{drop-drop}
@@ -13,23 +14,11 @@ use Rattle.layout.specs.declared.Step.the-variants.{Next, Refused}
 use Rattle.layout.specs.declared.Span.{Span}
 use Rattle.layout.specs.declared.Span.the-variants.{Of}
 use Rattle.layout.specs.declared.Span.the-variants as span
-use Rattle.layout.specs.Layout.{Order, Fill, exact, optional, open-ended, Layout, string, region, pick}
-use Rattle.layout.specs.Read.{Got, got, no, too-short, bind, readCounted, ends, readFill, read}
+use Rattle.layout.specs.Layout.{Order, Content, suits, Fill, exact, optional, open-ended, Layout, string, region, pick}
+use Rattle.layout.specs.Read.{Got, got, no, too-short, zero-byte, bind, readCounted, ends, readFill, read}
 use Rattle.layout.specs.Laws.Places.{took-length, Within, w-got, w-no, within, Announced, announced, too-few, counted-view, announced-length, shift, read-shifts}
 use Rattle.layout.specs.Reads.{forget, step, chain, Reads, spanOf, part, bytes, past, filled, close}
-use Rattle.layout.specs.Steps.Chain.{forget-map, forget-rest}
-
-step-string : (o : Order) (w : ℕ) (s : List ℕ) (st : Step) → past (part o w s st) ≡ chain st (step (string o w) s)
-unfolding step read bind part chain
-step-string o w s (Next at) = go (readCounted o w (drop at s) at)
-  where
-    go : (x : Got (List ℕ)) → past (spanOf x) ≡ forget (bind x (λ content rest at₁. got content rest (at₁ + length content)))
-    go (got xs r p) = refl
-    go (no r p) = refl
-step-string o w s (Refused n p) = refl
-
-pub string-of : {o : Order} {w : ℕ} {s : List ℕ} {st r : Step} {p : Span} → r ≡ past p → p ≡ part o w s st → Reads (string o w) s st r
-string-of {o} {w} {s} {st} e f = record { is = e ∙ rw f (step-string o w s st) }
+use Rattle.layout.specs.Steps.Chain.{forget-map, forget-rest, forget-pick}
 
 -- a reading from b is one from 0, moved on by b
 shifted-by : (b : ℕ) (a : Layout) (c : List ℕ) → read a c b ≡ shift b (read a c 0)
@@ -69,11 +58,35 @@ module _ (b n : ℕ) where
       rw (ne-eqb b (b + n) ne, forget-map some (ends (read a (x ∷ xs) b)), shifted-by b a (x ∷ xs)) (exact-fills (x ∷ xs) long (within a (x ∷ xs) 0))
   fills open-ended a c long = rw (shifted-by b a c) (open-fills c long (within a c 0))
 
--- the bytes of a part that lies inside
-bytes-at : (s : List ℕ) (at w n : ℕ) → at + w + n ≤ length s → bytes s (Of (at + w) (at + w + n)) ≡ take n (drop w (drop at s))
+same : {A : Type 0} (b : Bool) (x : A) → pick b x x ≡ x
+unfolding pick
+same true x = refl
+same false x = refl
+
+-- the bytes of a part that is announced
+bytes-at : (s : List ℕ) (at w n : ℕ) → w + n ≤ length (drop at s) → bytes s (Of (at + w) (at + w + n)) ≡ take n (drop w (drop at s))
 unfolding bytes pick
-bytes-at s at w n h =
-    simp (le-leb (at + w) (at + w + n) (omega arith), le-leb (at + w + n) (length s) h, add-sub-cancel-left) (ap (take n) (sym (drop-drop w at s)))
+bytes-at s at w zero h = simp (add-zero, sub-self, same)
+bytes-at s at w (suc n) h =
+    let l : at + w + suc n ≤ length s = omega (arith, length-drop at s) in
+    simp (le-leb (at + w) (at + w + suc n) (omega arith), le-leb (at + w + suc n) (length s) l, add-sub-cancel-left)
+    (ap (take (suc n)) (sym (drop-drop w at s)))
+
+step-string : (o : Order) (w : ℕ) (c : Content) (s : List ℕ) (st : Step) → past c w s (part o w s st) ≡ chain st (step (string o w c) s)
+unfolding step read bind part chain past
+step-string o w c s (Next at) = go (counted-view o w (drop at s) at)
+  where
+    go : {x : Got (List ℕ)} → Announced w (drop at s) at x
+        → past c w s (spanOf x) ≡ forget (bind x (λ content rest at₁. pick (suits c content) (got content rest (at₁ + length content)) (no zero-byte at)))
+    go (announced n l) =
+        rw (announced-length w n (drop at s) l, bytes-at s at w n l, add-sub-cancel)
+        (forget-pick (suits c (take n (drop w (drop at s)))) _ _)
+    go too-few = refl
+step-string o w c s (Refused n p) = refl
+
+pub string-of : {o : Order} {w : ℕ} {c : Content} {s : List ℕ} {st r : Step} {p : Span}
+    → r ≡ past c w s p → p ≡ part o w s st → Reads (string o w c) s st r
+string-of {o} {w} {c} {s} {st} e f = record { is = e ∙ rw f (step-string o w c s st) }
 
 close-not : (f : Fill) (r p : ℕ) (i : Step) → close f (span.Refused r p) i ≡ Refused r p
 unfolding close
@@ -90,7 +103,7 @@ step-region o f a s at = go (counted-view o 4 (drop at s) at)
     go (announced n l) =
         let c = take n (drop 4 (drop at s)) in
         let e : length c ≡ n = announced-length 4 n (drop at s) l in
-        rw (e, bytes-at s at 4 n (omega (arith, length-drop at s)), forget-rest (drop (4 + n) (drop at s)) (readFill f (read a) c (at + 4)))
+        rw (e, bytes-at s at 4 n l, forget-rest (drop (4 + n) (drop at s)) (readFill f (read a) c (at + 4)))
         (sym (fills (at + 4) n f a c e))
     go too-few = close-not f too-short at _
 

@@ -9,7 +9,7 @@ use Rattle.layout.specs.Laws.{digits-length}
 unfoldable pub least : Layout → ℕ
 least empty = 0
 least (number o w test k) = w
-least (string o w) = 0
+least (string o w c) = 0
 least (a ▸ b) = least a + least b
 least (times n a) = 0
 least (leading b n a) = 1
@@ -20,7 +20,7 @@ pub least-spelt : (g : Layout) (t : Tree g) → Valid g t → least g ≤ length
 unfolding least spell
 least-spelt empty t v = omega arith
 least-spelt (number o w test k) t v = rw (length-append, digits-length) (omega arith)
-least-spelt (string o w) t v = omega arith
+least-spelt (string o w c) t v = omega arith
 least-spelt (a ▸ b) t v = rw length-append (omega (arith, least-spelt a (t .0) (v .0), least-spelt b (t .1) (v .1)))
 least-spelt (times n a) t v = omega arith
 least-spelt (leading b n a) t v = rw length-append (omega (arith, v .0 .some-byte))

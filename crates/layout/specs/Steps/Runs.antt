@@ -19,7 +19,7 @@ use Rattle.layout.specs.Reads.{forget, step, chain, Reads, skip}
 unfoldable pub begins : Layout → Bool
 begins empty = false
 begins (number o w test k) = ltb 0 w
-begins (string o w) = false
+begins (string o w c) = false
 begins (a ▸ b) = begins a
 begins (times n a) = false
 begins (leading b n a) = true
@@ -62,7 +62,7 @@ moves empty h s at = absurd (false≢true h)
 moves (number o w test k) h s at =
     bind-moves (pick-moves (leb w (length s)) (λ e. m-got {p = at + w} (omega (arith, ltb-true 0 w h))) m-no) (λ n r p l.
     pick-moves (passes test n) (λ e. later (λ t. (n, t)) l (within (k n) r p)) m-no)
-moves (string o w) h s at = absurd (false≢true h)
+moves (string o w c) h s at = absurd (false≢true h)
 moves (a ▸ b) h s at = bind-moves (moves a h s at) (λ t r p l. later (λ u. (t, u)) l (within b r p))
 moves (times n a) h s at = absurd (false≢true h)
 moves (leading b n a) h s at = leading-moves b n (read a) s at

@@ -30,13 +30,13 @@ color : Bounded grammar.AreaColor
 color = f & f & f & f & f & f & f
 
 style : Bounded grammar.AreaStyle
-style = (f & f & f & f & f & f & f & f & f & f & f) & (f & f & f & f & f & f & f) & (f & f & f & f & f & tt & f & f)
+style = (f & f & f & f & f & f & f & f & f & f & f) & (f & f & f & f & f & f & f) & (f & f & f & f & f & refl & f & f)
 
 areas : Bounded grammar.MostAreas
 areas = f & f & color & f & f & f & style
 
 v2-if : (b : Bool) → Bounded (grammar.V2StylesIf b)
-v2-if true = separator & tt & f & f & f & f
+v2-if true = separator & refl & f & f & f & f
 v2-if false = tt
 
 sections : (version : ℕ) → Bounded (grammar.sections version)

@@ -29,7 +29,7 @@ KeptText (letters xs) = Unit {0}
 abbrev pub Kept : (g : Layout) → Fields g → Type 0
 Kept empty f = Unit {0}
 Kept (number o w test k) f = Kept (k (f .0)) (f .1)
-Kept (string o w) f = KeptText f
+Kept (string o w c) f = KeptText f
 Kept (a ▸ b) f = Kept a (f .0) × Kept b (f .1)
 Kept (times n a) f = All (Kept a) f
 Kept (leading b n a) f = Unit {0}
@@ -51,7 +51,7 @@ unfolding placed spell
 kept-placed empty t at h = tt
 kept-placed (number o w test k) t at h =
     kept-placed (k (t .0)) (t .1) (at + w) (omega (arith, rw (length-append, laws.digits-length) at h))
-kept-placed (string o w) t at h =
+kept-placed (string o w c) t at h =
     let h′ : at + (w + length t) < 2 ^ 32 = rw (length-append, laws.digits-length) at h in
     (word-same (at + w) (omega arith), word-same (length t) (omega arith))
 kept-placed (a ▸ b) t at h =

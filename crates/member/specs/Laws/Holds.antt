@@ -14,7 +14,7 @@ use Rattle.layout.specs.Read.{Got, got, no}
 use Rattle.member.specs.declared.Answer.{Answer}
 use Rattle.member.specs.Member.{Member, cells, nodes, MemberDerivation, AsDemanded, LargeEnough}
 use Rattle.member.specs.Refused.{Refused, too-long, inside, left, RefusedWith, by-bytes, few-node-words, few-cell-words}
-use Rattle.member.specs.Laws.RefusedBounds.{number-among, place-inside}
+use Rattle.member.specs.Laws.RefusedBounds.{memberNumbers, number-among, place-inside}
 use Rattle.member.specs.Laws.RefusedExactly.{checked-exactly}
 use Rattle.member.specs.Checked.{checked}
 use Rattle.member.specs.Laws.Demanded.{accepted, derivation-checked, one-derivation}
@@ -30,8 +30,8 @@ unfolding refusal
 records n p a c N C = record { no-dimensions = (refl, refl); no-axes = (refl, refl, refl, refl); same-nodes = refl; same-cells = refl }
 
 -- a number of document 01's that bytes get
-not-number : (k n : ℕ) → among k (1 ∷ 2 ∷ 3 ∷ 4 ∷ 5 ∷ 6 ∷ 7 ∷ 8 ∷ 9 ∷ 10 ∷ 11 ∷ []) ≡ false → among n (1 ∷ 2 ∷ 3 ∷ 4 ∷ 5 ∷ 6 ∷ 7 ∷ 8 ∷ 9 ∷ 10 ∷ 11 ∷ []) ≡ true → n ≡ k → ⊥
-not-number k n e f h = let z : false ≡ true = sym e ∙ ap (λ (m : ℕ). among m (1 ∷ 2 ∷ 3 ∷ 4 ∷ 5 ∷ 6 ∷ 7 ∷ 8 ∷ 9 ∷ 10 ∷ 11 ∷ [])) (sym h) ∙ f in let w : _≡_ {A = ℕ} 0 1 = cc in omega arith
+not-number : (k n : ℕ) → among k memberNumbers ≡ false → among n memberNumbers ≡ true → n ≡ k → ⊥
+not-number k n e f h = let z : false ≡ true = sym e ∙ ap (λ (m : ℕ). among m memberNumbers) (sym h) ∙ f in let w : _≡_ {A = ℕ} 0 1 = cc in omega arith
 
 place-short : {bs : List ℕ} {n p : ℕ} → Refused bs n p → p ≤ member-bytes
 place-short (too-long l) = omega arith
@@ -62,7 +62,7 @@ module _ (bs : List ℕ) (b : Bytes bs) (N C : List ℕ) where
         place = (place-inside f, place-short f);
       }
     where
-      neither : among n (1 ∷ 2 ∷ 3 ∷ 4 ∷ 5 ∷ 6 ∷ 7 ∷ 8 ∷ 9 ∷ 10 ∷ 11 ∷ []) ≡ true → (n ≡ 12) ⊎ (n ≡ 13) → ⊥
+      neither : among n memberNumbers ≡ true → (n ≡ 12) ⊎ (n ≡ 13) → ⊥
       neither k (inl h) = not-number 12 n refl k h
       neither k (inr h) = not-number 13 n refl k h
 

@@ -1,16 +1,19 @@
--- Of every refusal of a member: its number is one of 1 to 11, and its place is in the member or right after its last byte.
+-- Of every refusal of a member: its number is one of 1 to 11 or 18, and its place is in the member or right after its last byte.
 use mathlib.Core.Path.{_≡_, refl}
 use mathlib.Core.Bool.{true}
 use mathlib.Core.List.{List, [], _∷_}
 use Prim.Native.Nat.{ℕ, _≤_}
 use native.Mathlib.Omega.{arith}
 use lib.ListN.{length, length-append, length-replicate}
-use Rattle.layout.specs.Layout.{among}
+use Rattle.layout.specs.Layout.{Content, any-bytes, no-zero, among}
 use Rattle.layout.specs.Laws.{breaks-among, break-inside}
-use Rattle.layout.specs.Laws.Bounds.{allAmong, is-among, Numbered, PlacesInside}
+use Rattle.layout.specs.Laws.Uses.{more-contents}
+use Rattle.layout.specs.Laws.Bounds.{allAmong, is-among, contentGives, TestsGive, Numbered, PlacesInside}
+use Rattle.layout.specs.Laws.Strings.{strict}
 use Rattle.table.specs.Laws.RuleBounds.{numbers, dimensions-numbered, axes-numbered, cells-numbered, dimensions-inside, axes-inside, cells-inside}
+use Rattle.member.specs.Member.{Member}
 use Rattle.member.specs.Refused.{memberRule, Refused, too-long, inside, left}
-use Rattle.member.specs.Laws.NoColor as no-color
+use Rattle.member.specs.Laws.MemberUses as member-uses
 use Rattle.table.specs.Records.{dimsOf}
 
 member-numbered : Numbered numbers memberRule
@@ -21,14 +24,22 @@ member-inside : PlacesInside memberRule
 unfolding memberRule
 member-inside = (((tt, λ _. dimensions-inside), λ t. axes-inside (dimsOf (t .1))), λ t. cells-inside _)
 
--- 1 for the length, 11 for bytes left; 12 and 13 tell of the lent areas, 14 to 16 of looks
+-- 1 for the length, 11 for bytes left; 18 for a zero byte; 12 and 13 tell of the lent areas, 14 to 16 of looks
 abbrev pub memberNumbers : List ℕ
-memberNumbers = 1 ∷ 2 ∷ 3 ∷ 4 ∷ 5 ∷ 6 ∷ 7 ∷ 8 ∷ 9 ∷ 10 ∷ 11 ∷ []
+memberNumbers = 1 ∷ 2 ∷ 3 ∷ 4 ∷ 5 ∷ 6 ∷ 7 ∷ 8 ∷ 9 ∷ 10 ∷ 11 ∷ 18 ∷ []
+
+member-gives : TestsGive numbers Member
+unfolding contentGives among
+member-gives = more-contents go member-uses.member
+  where
+    go : (c : Content) → strict c ≡ true → contentGives numbers c ≡ true
+    go any-bytes e = refl
+    go no-zero e = refl
 
 pub number-among : {bs : List ℕ} {n p : ℕ} → Refused bs n p → among n memberNumbers ≡ true
 unfolding among allAmong
 number-among (too-long l) = refl
-number-among (inside {n} l b) = is-among n numbers memberNumbers (breaks-among numbers refl no-color.member member-numbered b) refl
+number-among (inside {n} l b) = is-among n numbers memberNumbers (breaks-among numbers refl member-gives member-numbered b) refl
 number-among (left l v k r) = refl
 
 pub place-inside : {bs : List ℕ} {n p : ℕ} → Refused bs n p → p ≤ length bs

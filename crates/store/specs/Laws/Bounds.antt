@@ -1,4 +1,5 @@
 -- How many bytes the fields of a layout have at most.
+use mathlib.Core.Path.{_≡_}
 use mathlib.Core.List.{List}
 use Prim.Native.Nat.{ℕ, _+_, _*_, _-_, _^_, _≤_, max}
 use native.Mathlib.Nat.{suc-mul}
@@ -7,12 +8,12 @@ use lib.ListN.{length}
 use lib.Dec.{eqb}
 use Rattle.layout.specs.declared.Step.{Step}
 use Rattle.layout.specs.declared.Step.the-variants.{Next, Refused}
-use Rattle.layout.specs.Layout.{Order, Test, Layout, empty, number, string, _▸_, times, leading, region, nothing, All, all-none, all-more, pick}
+use Rattle.layout.specs.Layout.{Order, Test, Content, any-bytes, Layout, empty, number, string, _▸_, times, leading, region, nothing, All, all-none, all-more, pick}
 use Rattle.layout.specs.Reads.{chain, verdict}
 use Rattle.store.specs.Fields.{Text, Fields, textOf}
 use Rattle.store.specs.Check.{placeOf, judged, checkAll, check}
 use Rattle.store.specs.Fit.{Fit}
-use Rattle.store.specs.Laws.Verdicts.{NumberCase, number-good, number-bad, number-case, TextCase, text-good, text-longer, text-out, text-case, inside-length}
+use Rattle.store.specs.Laws.Verdicts.{NumberCase, number-good, number-bad, number-case, TextCase, text-good, text-longer, text-out, text-bad, text-case, inside-length}
 
 -- fields of g that fit have at most m bytes
 pub record AtMost (g : Layout) (m : ℕ) : Type 0 where
@@ -37,13 +38,14 @@ number-most {w = w} {test} {k} {m} h = record {
     here at (number-good e) = omega arith
     here at (number-bad e z) = rw z (omega arith)
 
-text-most : {o : Order} {w : ℕ} → AtMost (string o w) (w + (256 ^ w - 1))
+text-most : {o : Order} {w : ℕ} {c : Content} → AtMost (string o w c) (w + (256 ^ w - 1))
 unfolding check judged pick
-text-most {o} {w} = record { is = λ s f at e. here s f at (text-case w s f) }
+text-most {o} {w} {c} = record { is = λ s f at e. here s f at (text-case w c s f) }
   where
-    here : (s : List ℕ) (f : Text) (at : ℕ) {c : ℕ} → TextCase w s f c
-        → placeOf (pick (eqb c 0) (Next (at + (w + length (textOf s f)))) (Refused c at)) ≤ at + (w + (256 ^ w - 1))
-    here s f at (text-good l i) = omega (arith, inside-length s f i)
+    here : (s : List ℕ) (f : Text) (at : ℕ) {v : ℕ} → TextCase w c s f v
+        → placeOf (pick (eqb v 0) (Next (at + (w + length (textOf s f)))) (Refused v at)) ≤ at + (w + (256 ^ w - 1))
+    here s f at (text-bad l i e) = omega arith
+    here s f at (text-good l i e) = omega (arith, inside-length s f i)
     here s f at (text-longer l) = omega arith
     here s f at (text-out l i) = omega arith
 
@@ -65,12 +67,13 @@ times-most {a} {n} {m} x = record { is = λ s f at e. rw (← (e .0)) (all-most 
 weaker : {g : Layout} {m n : ℕ} → AtMost g m → m ≤ n → AtMost g n
 weaker x h = record { is = λ s f at e. omega (arith, x .is s f at e) }
 
--- ---- layouts without runs and regions, in which a number that is not 0, 1 or 2 asks for nothing longer than these do
+-- ---- layouts without runs and regions, whose strings may hold any bytes, and in which a number that is not 0, 1 or 2 asks for nothing
+-- longer than these do
 
 abbrev pub most : Layout → ℕ
 most empty = 0
 most (number o w test k) = w + max (most (k 0)) (max (most (k 1)) (most (k 2)))
-most (string o w) = w + (256 ^ w - 1)
+most (string o w c) = w + (256 ^ w - 1)
 most (a ▸ b) = most a + most b
 most (times n a) = n * most a
 most (leading b n a) = 0
@@ -80,7 +83,7 @@ most nothing = 0
 abbrev pub Bounded : Layout → Type 0
 Bounded empty = Unit {0}
 Bounded (number o w test k) = (n : ℕ) → (most (k n) ≤ max (most (k 0)) (max (most (k 1)) (most (k 2)))) × Bounded (k n)
-Bounded (string o w) = Unit {0}
+Bounded (string o w c) = c ≡ any-bytes
 Bounded (a ▸ b) = Bounded a × Bounded b
 Bounded (times n a) = Bounded a
 Bounded (leading b n a) = ⊥
@@ -90,6 +93,6 @@ Bounded nothing = ⊥
 pub at-most : (g : Layout) → Bounded g → AtMost g (most g)
 at-most empty h = empty-most
 at-most (number o w test k) h = number-most (λ n. weaker (at-most (k n) (h n .1)) (h n .0))
-at-most (string o w) h = text-most
+at-most (string o w c) h = text-most
 at-most (a ▸ b) h = then-most (at-most a (h .0)) (at-most b (h .1))
 at-most (times n a) h = times-most (at-most a h)

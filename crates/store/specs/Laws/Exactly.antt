@@ -10,15 +10,15 @@ use lib.ListN.{length, length-append, length-replicate}
 use lib.Dec.{eqb}
 use Rattle.layout.specs.declared.Step.{Step}
 use Rattle.layout.specs.declared.Step.the-variants.{Next, Refused}
-use Rattle.layout.specs.Layout.{Order, Test, passes, Fill, exact, optional, open-ended, Layout, empty, number, string, _▸_, times, leading, region, nothing, spellAll, spellFill, spell, all-none, all-more, pick}
+use Rattle.layout.specs.Layout.{Order, Test, passes, Content, Fill, exact, optional, open-ended, Layout, empty, number, string, _▸_, times, leading, region, nothing, spellAll, spellFill, spell, all-none, all-more, pick}
 use Rattle.layout.specs.Laws as laws
 use Rattle.layout.specs.Reads.{chain, verdict}
 use Rattle.layout.specs.Steps.Numbers.{broken}
 use Rattle.store.specs.Fields.{Text, FieldsIn, Fields, textOf, resolveAll, resolveIn, resolve, bytesIn, contentIn}
 use Rattle.store.specs.Put.{textVerdict, freeVerdict, runVerdict}
 use Rattle.store.specs.Check.{placeOf, judged, checkAll, checkIn, check}
-use Rattle.store.specs.Unwritable.{Writable, Unwritable, number-wrong, number-then, text-long, text-outside, first, second, here, later, run-long, run-then, content, optional-content, open-content, free-outside}
-use Rattle.store.specs.Laws.Verdicts.{NumberCase, number-good, number-bad, number-case, TextCase, text-good, text-longer, text-out, text-case, FreeCase, free-good, free-out, free-case, RunCase, run-good, run-longer, run-case, long-verdict, out-verdict, free-verdict, longer-run, good-run, not-outside}
+use Rattle.store.specs.Unwritable.{Writable, Unwritable, number-wrong, number-then, text-long, text-outside, text-wrong, first, second, here, later, run-long, run-then, content, optional-content, open-content, free-outside}
+use Rattle.store.specs.Laws.Verdicts.{NumberCase, number-good, number-bad, number-case, TextCase, text-good, text-longer, text-out, text-bad, text-case, FreeCase, free-good, free-out, free-case, RunCase, run-good, run-longer, run-case, long-verdict, out-verdict, bad-verdict, free-verdict, longer-run, good-run, not-outside}
 
 -- ---- how many bytes fields have
 
@@ -27,9 +27,9 @@ number-bytes : (o : Order) (w : ℕ) (test : Test) (k : ℕ → Layout) (s : Lis
 unfolding bytesIn spell resolve
 number-bytes o w test k s f = rw (length-append, laws.digits-length)
 
-text-bytes : (o : Order) (w : ℕ) (s : List ℕ) (f : Text) → length (bytesIn (string o w) s f) ≡ w + length (textOf s f)
+text-bytes : (o : Order) (w : ℕ) (c : Content) (s : List ℕ) (f : Text) → length (bytesIn (string o w c) s f) ≡ w + length (textOf s f)
 unfolding bytesIn spell resolve
-text-bytes o w s f = rw (length-append, laws.digits-length)
+text-bytes o w c s f = rw (length-append, laws.digits-length)
 
 both-bytes : (a b : Layout) (s : List ℕ) (f : Fields (a ▸ b)) → length (bytesIn (a ▸ b) s f) ≡ length (bytesIn a s (f .0)) + length (bytesIn b s (f .1))
 unfolding bytesIn spell resolve
@@ -59,14 +59,16 @@ data Answers (g : Layout) (s : List ℕ) (f : Fields g) (at : ℕ) : Step → Ty
   can : (p : ℕ) → Writable g s f → p ≡ at + length (bytesIn g s f) → Answers g s f at (Next p)
   can-not : {n p : ℕ} → Unwritable s g f at n p → Answers g s f at (Refused n p)
 
-text-answers : (o : Order) (w : ℕ) (s : List ℕ) (f : Text) (at : ℕ) → Answers (string o w) s f at (judged (textVerdict w s f) (w + length (textOf s f)) at)
+text-answers : (o : Order) (w : ℕ) (c : Content) (s : List ℕ) (f : Text) (at : ℕ)
+    → Answers (string o w c) s f at (judged (textVerdict w c s f) (w + length (textOf s f)) at)
 unfolding judged pick
-text-answers o w s f at = go (text-case w s f)
+text-answers o w c s f at = go (text-case w c s f)
   where
-    go : {c : ℕ} → TextCase w s f c → Answers (string o w) s f at (pick (eqb c 0) (Next (at + (w + length (textOf s f)))) (Refused c at))
-    go (text-good l i) = can (at + (w + length (textOf s f))) (l, i) (rw (text-bytes o w s f))
+    go : {v : ℕ} → TextCase w c s f v → Answers (string o w c) s f at (pick (eqb v 0) (Next (at + (w + length (textOf s f)))) (Refused v at))
+    go (text-good l i e) = can (at + (w + length (textOf s f))) (l, i, e) (rw (text-bytes o w c s f))
     go (text-longer l) = can-not (text-long l)
     go (text-out l i) = can-not (text-outside l i)
+    go (text-bad l i e) = can-not (text-wrong l i e)
 
 number-answers : (o : Order) (w : ℕ) (test : Test) (k : ℕ → Layout) (s : List ℕ) (f : Fields (number o w test k)) (at : ℕ)
     → Answers (k (f .0)) s (f .1) (at + w) (check (k (f .0)) s (f .1) (at + w))
@@ -153,7 +155,7 @@ answers : (g : Layout) (s : List ℕ) (f : Fields g) (at : ℕ) → Answers g s 
 unfolding check bytesIn spell resolve
 answers empty s f at = can at tt (omega arith)
 answers (number o w test k) s f at = number-answers o w test k s f at (answers (k (f .0)) s (f .1) (at + w))
-answers (string o w) s f at = text-answers o w s f at
+answers (string o w c) s f at = text-answers o w c s f at
 answers (a ▸ b) s f at = both-answer a b s f at (answers a s (f .0) at) (answers b s (f .1))
 answers (times n a) s f at = all-answer n a s (answers a s) f at
 answers (leading b n a) s f at = run-answers b n a s f at (answers a s (f .1) (at + f .0))
@@ -168,6 +170,7 @@ not-both (number-wrong e) v = false≢true (sym e ∙ v .0)
 not-both (number-then e u) v = not-both u (v .1)
 not-both (text-long h) v = omega (arith, v .0)
 not-both {s} (text-outside {f = f} h l) v = not-outside s f (v .1) l
+not-both (text-wrong h i e) v = false≢true (sym e ∙ v .2)
 not-both (first u) v = not-both u (v .0)
 not-both (second v₀ u) v = not-both u (v .1)
 not-both (here u) (all-more v vs) = not-both u v
@@ -185,6 +188,7 @@ refused-after (number-wrong e) = omega arith
 refused-after (number-then e u) = omega (arith, refused-after u)
 refused-after (text-long h) = omega arith
 refused-after (text-outside h l) = omega arith
+refused-after (text-wrong h i e) = omega arith
 refused-after (first u) = refused-after u
 refused-after (second v₀ u) = omega (arith, refused-after u)
 refused-after (here u) = refused-after u
@@ -205,8 +209,9 @@ refused : {s : List ℕ} {g : Layout} {f : Fields g} {at n p : ℕ} → Unwritab
 unfolding check checkAll checkIn judged chain pick verdict
 refused (number-wrong {test = test} {f = f} e) = rw (e, broken test (f .0) e)
 refused (number-then e u) = rw (e, refused u)
-refused {s} (text-long {w = w} {f = f} h) = rw (long-verdict w s f h)
-refused {s} (text-outside {w = w} {f = f} h l) = rw (out-verdict w s f h l)
+refused {s} (text-long {w = w} {c = c} {f = f} h) = rw (long-verdict w c s f h)
+refused {s} (text-outside {w = w} {c = c} {f = f} h l) = rw (out-verdict w c s f h l)
+refused {s} (text-wrong {w = w} {c = c} {f = f} h i e) = rw (bad-verdict w c s f h i e)
 refused (first u) = rw (refused u)
 refused {s} (second {a} {f = f} {at = at} v u) = rw (writable-answer (answers a s (f .0) at) v, refused u)
 refused (here u) = rw (refused u)

@@ -41,7 +41,7 @@ pub put-kept : (g : Layout) (s : List ℕ) (f : Fields g) (b : List ℕ) (n p : 
 unfolding put putField opened closed
 put-kept empty s f b n p = refl
 put-kept (number o w test k) s f b n p = put-kept (k (f .0)) s (f .1) b n p
-put-kept (string o w) s f b n p = refl
+put-kept (string o w c) s f b n p = refl
 put-kept (x ▸ y) s f b n p = rw (put-kept x s (f .0) b n p) (put-kept y s (f .1) b n p)
 put-kept (times m a) s f b n p = all-kept (put a s) (put-kept a s) f b n p
 put-kept (leading c m a) s f b n p = put-kept a s (f .1) b n p
@@ -104,7 +104,7 @@ put-long empty s f x = refl
 put-long (number o w test k) s f x =
     put-long (k (f .0)) s (f .1) (putField (verdict test (f .0)) (digits o w (f .0)) (x .0) (x .1))
     ∙ field-long (verdict test (f .0)) (digits o w (f .0)) (x .0) (x .1)
-put-long (string o w) s f x = field-long (textVerdict w s f) (digits o w (length (textOf s f)) ++ textOf s f) (x .0) (x .1)
+put-long (string o w c) s f x = field-long (textVerdict w c s f) (digits o w (length (textOf s f)) ++ textOf s f) (x .0) (x .1)
 put-long (y ▸ z) s f x = put-long z s (f .1) (put y s (f .0) x) ∙ put-long y s (f .0) x
 put-long (times m a) s f x = all-long (put a s) (put-long a s) f x
 put-long (leading c m a) s f x =
@@ -276,10 +276,10 @@ unfolding put check bytesIn spell resolve
 put-lands empty s f b at h = none-lands b at
 put-lands (number o w test k) s f b at h =
     after-field (k (f .0)) s (f .1) (put-lands (k (f .0)) s (f .1)) (verdict test (f .0)) (digits o w (f .0)) w (laws.digits-length o w (f .0)) b at h
-put-lands (string o w) s f b at h =
+put-lands (string o w c) s f b at h =
     let xs = digits o w (length (textOf s f)) ++ textOf s f in
     let l : length xs ≡ w + length (textOf s f) = rw (length-append, laws.digits-length) in
-    field-lands (textVerdict w s f) xs b at (w + length (textOf s f)) l h
+    field-lands (textVerdict w c s f) xs b at (w + length (textOf s f)) l h
 put-lands (x ▸ y) s f b at h =
     let u = put x s (f .0) (b, Next at) in
     then-lands (put y s (f .1)) (check y s (f .1)) (bytesIn y s (f .1)) (put-kept y s (f .1)) (forward y s (f .1)) (reach-of y s (f .1)) (put-lands y s (f .1))

@@ -12,7 +12,7 @@ use lib.Dec.{eqb, leb}
 use borrow.Author.Tests.{eq-eqb, eqb-true, le-leb, lt-leb, leb-true}
 use Rattle.layout.specs.declared.Step.{Step}
 use Rattle.layout.specs.declared.Step.the-variants.{Next, Refused}
-use Rattle.layout.specs.Layout.{Order, big, Bytes, Test, any-number, the-number, a-bool, passes, exact, Layout, empty, number, string, _▸_, times, region, digits, spellFill, all-none, all-more, pick, undigits}
+use Rattle.layout.specs.Layout.{Order, big, Bytes, Content, Test, any-number, the-number, a-bool, passes, exact, Layout, empty, number, string, _▸_, times, region, digits, spellFill, all-none, all-more, pick, undigits}
 use Rattle.layout.specs.Numbers.{too-short}
 use Rattle.layout.specs.Reads.{verdict}
 use Rattle.layout.specs.Laws.{digits-length}
@@ -106,13 +106,13 @@ number-puts l e x = switch-puts (λ _. empty) l e x empty-puts
 
 -- ---- strings
 
-pub text-puts : {o : Order} {w c : ℕ} {s : List ℕ} {t : Text} {xs b : List ℕ} {st : Step} {b′ : List ℕ} {r : Step} → FitText t → c ≡ textVerdict w s t
-    → (c ≡ 0 → xs ≡ textOf s t) → Stores c (digits o w (length xs) ++ xs) b st b′ r → Puts (string o w) s t b st b′ r
+pub text-puts : {o : Order} {w v : ℕ} {c : Content} {s : List ℕ} {t : Text} {xs b : List ℕ} {st : Step} {b′ : List ℕ} {r : Step} → FitText t
+    → v ≡ textVerdict w c s t → (v ≡ 0 → xs ≡ textOf s t) → Stores v (digits o w (length xs) ++ xs) b st b′ r → Puts (string o w c) s t b st b′ r
 unfolding put
-text-puts {o} {w} {c} {s} {t} {xs} {b} {st} {b′} {r} l e h x = record { is = go (eqb c 0) refl; fit = l }
+text-puts {o} {w} {v} {c} {s} {t} {xs} {b} {st} {b′} {r} l e h x = record { is = go (eqb v 0) refl; fit = l }
   where
-    go : (u : Bool) → eqb c 0 ≡ u → _≡_ {A = State} (b′, r) (putField (textVerdict w s t) (digits o w (length (textOf s t)) ++ textOf s t) b st)
-    go true z = rw (← e) (rw (h (eqb-true c 0 z)) at (x .is))
+    go : (u : Bool) → eqb v 0 ≡ u → _≡_ {A = State} (b′, r) (putField (textVerdict w c s t) (digits o w (length (textOf s t)) ++ textOf s t) b st)
+    go true z = rw (← e) (rw (h (eqb-true v 0 z)) at (x .is))
     go false z = rw (← e) (stores-other {ys = digits o w (length (textOf s t)) ++ textOf s t} z x .is)
 
 -- ---- regions

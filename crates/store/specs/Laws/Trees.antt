@@ -70,7 +70,7 @@ unfolding resolve placed spell
 resolve-placed empty t s at r h = refl
 resolve-placed (number o w test k) t s at r h =
     ap (λ (u : Tree (k (t .0))). (t .0, u)) (resolve-placed (k (t .0)) (t .1) s (at + w) r (after-number o w (t .0) (spell (k (t .0)) (t .1)) h))
-resolve-placed (string o w) t s at r h = text-there t s (at + w) r (after-number o w (length t) t h)
+resolve-placed (string o w c) t s at r h = text-there t s (at + w) r (after-number o w (length t) t h)
 resolve-placed (a ▸ b) t s at r h =
     let xs = spell a (t .0) in
     let ys = spell b (t .1) in
@@ -108,7 +108,9 @@ unfolding placed spell
 writable-placed empty t v s at r h = tt
 writable-placed (number o w test k) t v s at r h =
     (v .1, writable-placed (k (t .0)) (t .1) (v .2) s (at + w) r (after-number o w (t .0) (spell (k (t .0)) (t .1)) h))
-writable-placed (string o w) t v s at r h = (v .0, text-inside t s (at + w) r (after-number o w (length t) t h))
+writable-placed (string o w c) t v s at r h =
+    let there = after-number o w (length t) t h in
+    (v .0, text-inside t s (at + w) r there, rw (text-there t s (at + w) r there) (v .2))
 writable-placed (a ▸ b) t v s at r h =
     let xs = spell a (t .0) in
     let ys = spell b (t .1) in
@@ -159,7 +161,7 @@ pub valid-resolved : (g : Layout) (s : List ℕ) → Bytes s → (f : Fields g) 
 unfolding resolve bytesIn contentIn
 valid-resolved empty s bs f h w = tt
 valid-resolved (number o w test k) s bs f h u = (h .0, u .0, valid-resolved (k (f .0)) s bs (f .1) (h .1) (u .1))
-valid-resolved (string o w) s bs f h u = (rw (inside-length s f (u .1)) (u .0), text-valid s bs f h)
+valid-resolved (string o w c) s bs f h u = (rw (inside-length s f (u .1)) (u .0), text-valid s bs f h, u .2)
 valid-resolved (a ▸ b) s bs f h u = (valid-resolved a s bs (f .0) (h .0) (u .0), valid-resolved b s bs (f .1) (h .1) (u .1))
 valid-resolved (times n a) s bs f h u =
     (resolve-length (resolve a s) f ∙ h .0, valid-all (resolve a s) (Fit a s) (Writable a s) (Valid a) (λ x i j. valid-resolved a s bs x i j) (h .1) u)

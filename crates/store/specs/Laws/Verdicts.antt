@@ -1,6 +1,6 @@
 -- The verdict of a field, case by case.
-use mathlib.Core.Path.{_≡_, refl}
-use mathlib.Core.Bool.{Bool, true, false}
+use mathlib.Core.Path.{_≡_, refl, sym, _∙_}
+use mathlib.Core.Bool.{Bool, true, false, false≢true}
 use mathlib.Core.List.{List}
 use Prim.Native.Nat.{ℕ, _+_, _^_, _≤_, _<_}
 use native.Mathlib.Omega.{arith}
@@ -8,12 +8,12 @@ use lib.ListN.{length, drop, length-drop}
 use lib.Seq.{length-take-le}
 use lib.Dec.{eqb, leb, ltb}
 use borrow.Author.Tests.{leb-true, leb-false, ltb-true, ltb-false}
-use Rattle.layout.specs.Layout.{Test, passes, pick}
-use Rattle.layout.specs.Numbers.{refusal, too-short, differs, limit-passed}
+use Rattle.layout.specs.Layout.{Test, passes, Content, suits, pick}
+use Rattle.layout.specs.Numbers.{refusal, too-short, zero-byte, differs, limit-passed}
 use Rattle.layout.specs.Reads.{verdict}
 use Rattle.layout.specs.Steps.Numbers.{broken}
 use Rattle.store.specs.Fields.{Text, lent, letters, bytesOf, textOf}
-use Rattle.store.specs.Put.{textVerdict, freeVerdict, runVerdict}
+use Rattle.store.specs.Put.{contentVerdict, textVerdict, freeVerdict, runVerdict}
 use Rattle.store.specs.Unwritable.{textLength, Inside, Outside}
 
 -- a number
@@ -30,24 +30,33 @@ number-case test n = go (passes test n) refl
     go false e = number-bad e (broken test n e)
 
 -- a string with a length of w bytes
-pub data TextCase (w : ℕ) (s : List ℕ) (t : Text) : ℕ → Type 0 where
-  text-good : textLength t < 256 ^ w → Inside s t → TextCase w s t 0
-  text-longer : 256 ^ w ≤ textLength t → TextCase w s t limit-passed
-  text-out : textLength t < 256 ^ w → Outside s t → TextCase w s t too-short
+pub data TextCase (w : ℕ) (c : Content) (s : List ℕ) (t : Text) : ℕ → Type 0 where
+  text-good : textLength t < 256 ^ w → Inside s t → suits c (textOf s t) ≡ true → TextCase w c s t 0
+  text-longer : 256 ^ w ≤ textLength t → TextCase w c s t limit-passed
+  text-out : textLength t < 256 ^ w → Outside s t → TextCase w c s t too-short
+  text-bad : textLength t < 256 ^ w → Inside s t → suits c (textOf s t) ≡ false → TextCase w c s t zero-byte
 
-pub text-case : (w : ℕ) (s : List ℕ) (t : Text) → TextCase w s t (textVerdict w s t)
-unfolding textVerdict pick
-text-case w s (lent n) = go (ltb (n .length) (256 ^ w)) refl (leb (n .place + n .length) (length s)) refl
+content-case : {w : ℕ} {c : Content} {s : List ℕ} {t : Text} → textLength t < 256 ^ w → Inside s t → TextCase w c s t (contentVerdict c (textOf s t))
+unfolding contentVerdict pick
+content-case {w} {c} {s} {t} l i = go (suits c (textOf s t)) refl
+  where
+    go : (b : Bool) → suits c (textOf s t) ≡ b → TextCase w c s t (pick b 0 zero-byte)
+    go true e = text-good l i e
+    go false e = text-bad l i e
+
+pub text-case : (w : ℕ) (c : Content) (s : List ℕ) (t : Text) → TextCase w c s t (textVerdict w c s t)
+unfolding textVerdict pick textOf
+text-case w c s (lent n) = go (ltb (n .length) (256 ^ w)) refl (leb (n .place + n .length) (length s)) refl
   where
     go : (a : Bool) → ltb (n .length) (256 ^ w) ≡ a → (b : Bool) → leb (n .place + n .length) (length s) ≡ b
-        → TextCase w s (lent n) (pick a (pick b 0 too-short) limit-passed)
-    go true i true j = text-good (ltb-true (n .length) (256 ^ w) i) (leb-true (n .place + n .length) (length s) j)
+        → TextCase w c s (lent n) (pick a (pick b (contentVerdict c (bytesOf s n)) too-short) limit-passed)
+    go true i true j = content-case (ltb-true (n .length) (256 ^ w) i) (leb-true (n .place + n .length) (length s) j)
     go true i false j = text-out (ltb-true (n .length) (256 ^ w) i) (leb-false (n .place + n .length) (length s) j)
     go false i b j = text-longer (ltb-false (n .length) (256 ^ w) i)
-text-case w s (letters xs) = go (ltb (length xs) (256 ^ w)) refl
+text-case w c s (letters xs) = go (ltb (length xs) (256 ^ w)) refl
   where
-    go : (a : Bool) → ltb (length xs) (256 ^ w) ≡ a → TextCase w s (letters xs) (pick a 0 limit-passed)
-    go true i = text-good (ltb-true (length xs) (256 ^ w) i) tt
+    go : (a : Bool) → ltb (length xs) (256 ^ w) ≡ a → TextCase w c s (letters xs) (pick a (contentVerdict c xs) limit-passed)
+    go true i = content-case (ltb-true (length xs) (256 ^ w) i) tt
     go false i = text-longer (ltb-false (length xs) (256 ^ w) i)
 
 -- free content
@@ -90,21 +99,33 @@ not-outside s (letters xs) i o = o
 
 -- ---- which verdict a case has
 
-pub long-verdict : (w : ℕ) (s : List ℕ) (t : Text) → 256 ^ w ≤ textLength t → textVerdict w s t ≡ limit-passed
-long-verdict w s t h = go (text-case w s t)
+pub long-verdict : (w : ℕ) (c : Content) (s : List ℕ) (t : Text) → 256 ^ w ≤ textLength t → textVerdict w c s t ≡ limit-passed
+long-verdict w c s t h = go (text-case w c s t)
   where
-    go : {c : ℕ} → TextCase w s t c → c ≡ limit-passed
-    go (text-good l i) = absurd (omega arith)
+    go : {v : ℕ} → TextCase w c s t v → v ≡ limit-passed
+    go (text-good l i e) = absurd (omega arith)
     go (text-longer l) = refl
     go (text-out l i) = absurd (omega arith)
+    go (text-bad l i e) = absurd (omega arith)
 
-pub out-verdict : (w : ℕ) (s : List ℕ) (t : Text) → textLength t < 256 ^ w → Outside s t → textVerdict w s t ≡ too-short
-out-verdict w s t h o = go (text-case w s t)
+pub out-verdict : (w : ℕ) (c : Content) (s : List ℕ) (t : Text) → textLength t < 256 ^ w → Outside s t → textVerdict w c s t ≡ too-short
+out-verdict w c s t h o = go (text-case w c s t)
   where
-    go : {c : ℕ} → TextCase w s t c → c ≡ too-short
-    go (text-good l i) = absurd (not-outside s t i o)
+    go : {v : ℕ} → TextCase w c s t v → v ≡ too-short
+    go (text-good l i e) = absurd (not-outside s t i o)
     go (text-longer l) = absurd (omega arith)
     go (text-out l i) = refl
+    go (text-bad l i e) = absurd (not-outside s t i o)
+
+pub bad-verdict : (w : ℕ) (c : Content) (s : List ℕ) (t : Text) → textLength t < 256 ^ w → Inside s t → suits c (textOf s t) ≡ false
+    → textVerdict w c s t ≡ zero-byte
+bad-verdict w c s t h i e = go (text-case w c s t)
+  where
+    go : {v : ℕ} → TextCase w c s t v → v ≡ zero-byte
+    go (text-good l j q) = absurd (false≢true (sym e ∙ q))
+    go (text-longer l) = absurd (omega arith)
+    go (text-out l o) = absurd (not-outside s t i o)
+    go (text-bad l j q) = refl
 
 pub free-verdict : (s : List ℕ) (t : Text) → Outside s t → freeVerdict s t ≡ too-short
 free-verdict s t o = go (free-case s t)

@@ -23,9 +23,9 @@ use Rattle.table.specs.Laws.Lengths.{size-category, size-dimension}
 
 -- ---- numbers
 
--- the numbers from 2 to 10: the grammar's without a look's 14, and those of the tests below
+-- 2 to 10 and 18: the grammar's without a look's 14, and those of the tests below
 abbrev pub numbers : List ℕ
-numbers = 2 ∷ 3 ∷ 4 ∷ 5 ∷ 6 ∷ 7 ∷ 8 ∷ 9 ∷ 10 ∷ []
+numbers = 2 ∷ 3 ∷ 4 ∷ 5 ∷ 6 ∷ 7 ∷ 8 ∷ 9 ∷ 10 ∷ 18 ∷ []
 
 kind-numbered : (d : ℕ) (below : List (Tree (CategoryIn d)) → Rule (CategoryIn d)) → ((done : List (Tree (CategoryIn d))) → Numbered numbers (below done))
     → (k : ℕ) → Numbered numbers (kindRule d below k)

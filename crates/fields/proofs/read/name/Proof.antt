@@ -1,11 +1,14 @@
 use mathlib.Core.Path.{refl}
 use borrow.Author.Needs.{needs}
 use native.Mathlib.Omega.{arith}
+use Rattle.layout.specs.Layout.{suits, pick}
+use Rattle.layout.specs.Reads as spec
 use Rattle.fields.specs.Laws.Gives.{string-gives, next-value}
 use Rattle.fields.proofs.read.name.Statement.{statement}
 use Rattle.fields.proofs.read.name.Tie as tie
 
 pub name-spec : {M : Type 1} → statement M
+unfolding spec.past suits pick
 name-spec =
     tie.close
     (tie.spec

@@ -1,9 +1,20 @@
 use borrow.Author.Needs.{needs}
+use mathlib.Core.Path.{sym}
+use Rattle.layout.specs.Layout.{pick, suits}
+use Rattle.layout.specs.Reads as spec
 use Rattle.layout.proofs.region.past.Statement.{statement}
 use Rattle.layout.proofs.region.past.Tie as tie
 
 pub past-spec : {M : Type 1} → statement M
+unfolding spec.past suits pick
 past-spec =
     tie.close
     (tie.spec
-    (λ c. search needs) (λ c. search needs) (λ c. simp (c .before .p .given .1)) (λ c. simp (c .before .p2 .given .1)))
+    (λ c. search needs) (λ _ _. tt) (λ _ _. tt) (λ _ _. tt)
+    (λ c.
+    let k = c .before .before .before in
+    simp (c .before .before .before .before .before .p .given .1, sym (k .bytes .ensures), sym (c .before .before .has-null .ensures), c .before .if1 .taken, c .between .ensures))
+    (λ c. search needs)
+    (λ c.
+    simp (c .before .before .before .before .p .given .1, sym (c .before .before .bytes .ensures), sym (c .before .has-null .ensures), c .if1 .left))
+    (λ c. simp (c .before .p2 .given .1)))

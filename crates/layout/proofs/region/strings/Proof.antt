@@ -1,7 +1,7 @@
 use Prim.Native.Nat.{min}
 use borrow.Author.Needs.{needs}
 use native.Mathlib.Omega.{arith}
-use Rattle.layout.specs.Layout.{string}
+use Rattle.layout.specs.Layout.{no-zero, string}
 use Rattle.layout.specs.Reads.{order}
 use Rattle.layout.specs.Steps.Chain.{Left, left-more, left-none, left-kept}
 use Rattle.layout.proofs.region.strings.Statement.{statement}
@@ -11,7 +11,7 @@ pub strings-spec : {M : Type 1} → statement M
 strings-spec =
     tie.close
     (tie.spec
-    (λ s high w n at₀ k₀ at k. Left (string (order high) (min w 8)) s n at₀ k at) (λ s high w n at₀ k₀ at k. k)
+    (λ s high w n at₀ k₀ at k. Left (string (order high) (min w 8) no-zero) s n at₀ k at) (λ s high w n at₀ k₀ at k. k)
     (λ c r h. h) (λ c. search needs) (λ c. left-kept (c .before .before .before .loop .inv) (c .enum-told .given .1))
     (λ c. search needs) (λ _ _. tt) (λ c. omega arith) (λ c. omega arith)
     (λ c. left-more (c .before .before .before .before .loop .inv) (c .before .before .before .loop-test .taken) (c .string .ensures))

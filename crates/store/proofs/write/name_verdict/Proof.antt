@@ -5,20 +5,20 @@ use Prim.Native.Nat.{ℕ, _+_, _^_}
 use native.Mathlib.Nat.{add-zero}
 use lib.ListN.{length}
 use lib.Dec.{leb, ltb}
-use Rattle.layout.specs.Layout.{pick}
+use Rattle.layout.specs.Layout.{any-bytes, suits, pick}
 use Rattle.store.specs.declared.Name.{Name}
 use Rattle.store.specs.Fields.{lent}
-use Rattle.store.specs.Put.{textVerdict}
+use Rattle.store.specs.Put.{contentVerdict, textVerdict}
 use Rattle.store.proofs.write.name_verdict.Statement.{statement}
 use Rattle.store.proofs.write.name_verdict.Tie as tie
 
 verdict-of : (w : ℕ) (s : List ℕ) (n : Name) (short inside : Bool) → short ≡ ltb (n .length) (256 ^ w) → inside ≡ leb (n .place + n .length + 0) (length s)
-    → pick short (pick inside 0 2) 7 ≡ textVerdict w s (lent n)
-unfolding textVerdict pick
+    → pick short (pick inside 0 2) 7 ≡ textVerdict w any-bytes s (lent n)
+unfolding textVerdict contentVerdict suits pick
 verdict-of w s n short inside e i = rw (e, i, add-zero)
 
-long-of : (w : ℕ) (s : List ℕ) (n : Name) {short : Bool} → short ≡ ltb (n .length) (256 ^ w) → short ≡ false → 7 ≡ textVerdict w s (lent n)
-unfolding textVerdict pick
+long-of : (w : ℕ) (s : List ℕ) (n : Name) {short : Bool} → short ≡ ltb (n .length) (256 ^ w) → short ≡ false → 7 ≡ textVerdict w any-bytes s (lent n)
+unfolding textVerdict contentVerdict suits pick
 long-of w s n e z = rw (sym e ∙ z)
 
 pub name-verdict-spec : {M : Type 1} → statement M

@@ -4,16 +4,16 @@ use mathlib.Core.List.{List}
 use Prim.Native.Nat.{ℕ, _^_}
 use lib.ListN.{length}
 use lib.Dec.{ltb}
-use Rattle.layout.specs.Layout.{pick}
+use Rattle.layout.specs.Layout.{any-bytes, suits, pick}
 use Rattle.layout.specs.Steps.Slices.{bytes-of}
 use Rattle.store.specs.Fields.{letters, textOf}
-use Rattle.store.specs.Put.{textVerdict}
+use Rattle.store.specs.Put.{contentVerdict, textVerdict}
 use Rattle.store.specs.Laws.Puts.{text-puts, long-plain}
 use Rattle.store.proofs.write.text.Statement.{statement}
 use Rattle.store.proofs.write.text.Tie as tie
 
-verdict-of : (w : ℕ) (s xs : List ℕ) {short : Bool} → short ≡ ltb (length xs) (256 ^ w) → pick short 0 7 ≡ textVerdict w s (letters xs)
-unfolding textVerdict pick
+verdict-of : (w : ℕ) (s xs : List ℕ) {short : Bool} → short ≡ ltb (length xs) (256 ^ w) → pick short 0 7 ≡ textVerdict w any-bytes s (letters xs)
+unfolding textVerdict contentVerdict suits pick
 verdict-of w s xs e = rw e
 
 returns : tie.Need-returns
