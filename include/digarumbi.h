@@ -41,6 +41,7 @@ extern "C" {
  *   15   look writer: output too short                                            0
  *   16   look writer: version 00 with V2 data not all zero, undrawn and with an   where V2 would stand
  *        empty continuation
+ *   18   a zero byte inside a string of a member                                  its first length byte
  *
  * Number 7 stands at the count for dimensions, footnotes and cells; at the first byte of the 4,097th category; at the first byte of a
  * Value or category that is too deep; for the product of all n at the first axis count; at a look's shading byte above 10; at 0 for

@@ -163,12 +163,31 @@ impl<'a> Cursor<'a> {
         Ok(Span { place, length })
     }
 
-    pub fn string(&mut self) -> Result<Span, Refusal> {
+    fn counted_little(&mut self) -> Result<Span, Refusal> {
         self.counted(|cursor| Ok(cursor.int32()? as usize))
     }
 
-    pub fn bestring(&mut self) -> Result<Span, Refusal> {
+    fn counted_big(&mut self) -> Result<Span, Refusal> {
         self.counted(|cursor| Ok(cursor.be32()? as usize))
+    }
+
+    /// A string that started at `start`, if it holds no zero byte.
+    fn without_zero(&self, string: Span, start: usize) -> Result<Span, Refusal> {
+        let bytes = &self.bytes[string.place..string.place + string.length];
+        refuse_if(bytes.iter().fold(false, |zero, &byte| zero | (byte == 0)), ZERO_BYTE, start)?;
+        Ok(string)
+    }
+
+    pub fn string(&mut self) -> Result<Span, Refusal> {
+        let start = self.place;
+        let string = self.counted_little()?;
+        self.without_zero(string, start)
+    }
+
+    pub fn bestring(&mut self) -> Result<Span, Refusal> {
+        let start = self.place;
+        let string = self.counted_big()?;
+        self.without_zero(string, start)
     }
 
     /// A name whose length is one byte.
@@ -182,13 +201,13 @@ impl<'a> Cursor<'a> {
 
     /// A little-endian count and its region, as one field.
     pub fn count(&mut self) -> Result<Cursor<'a>, Refusal> {
-        let content = self.string()?;
+        let content = self.counted_little()?;
         Ok(self.region(content))
     }
 
     /// A big-endian count and its region, as one field.
     pub fn becount(&mut self) -> Result<Cursor<'a>, Refusal> {
-        let content = self.bestring()?;
+        let content = self.counted_big()?;
         Ok(self.region(content))
     }
 

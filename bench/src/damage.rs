@@ -21,9 +21,10 @@ fn change(bytes: &mut [u8], random: &mut Random) {
     }
     for _ in 0..=random.size(3) {
         let place = random.size(bytes.len() - 1);
-        bytes[place] = match random.below(4) {
+        bytes[place] = match random.below(5) {
             0 => bytes[place].wrapping_add(1),
             1 => bytes[place].wrapping_sub(1),
+            2 => 0,
             _ => random.byte(),
         };
     }

@@ -18,6 +18,7 @@ pub const CELL_AREA: u32 = 13;
 pub const COLOR: u32 = 14;
 pub const OUTPUT_TOO_SHORT: u32 = 15;
 pub const V2_DATA: u32 = 16;
+pub const ZERO_BYTE: u32 = 18;
 
 #[derive(Clone, Copy, Debug, PartialEq, Eq)]
 pub struct Refusal {

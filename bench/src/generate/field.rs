@@ -24,9 +24,10 @@ pub fn bools(random: &mut Random, times: usize) -> Vec<u8> {
     (0..times).map(|_| random.bool()).collect()
 }
 
+/// A member's text: no byte of it is zero.
 fn text(random: &mut Random) -> Vec<u8> {
     let length = if random.once_in(16) { random.size(60) } else { random.size(4) };
-    random.bytes(length)
+    random.bytes(length).into_iter().map(|byte| byte.max(1)).collect()
 }
 
 pub fn string(random: &mut Random) -> Vec<u8> {

@@ -6,6 +6,7 @@ mod front;
 mod selection;
 mod settings;
 mod values;
+mod zeros;
 
 use crate::parts::{Parts, Section};
 
@@ -71,6 +72,7 @@ pub fn cases() -> Vec<Case> {
     settings::add(&mut cases);
     dimensions::add(&mut cases);
     cells::add(&mut cases);
+    zeros::add(&mut cases);
     cases.0
 }
 

@@ -25,7 +25,7 @@ const GENERATED_LOOKS: u64 = 25_000;
 
 /// The refusal numbers that these functions can give. 16 is not among them: it is the writer's
 /// for looks that no file gives.
-const MEMBER_NUMBERS: [u32; 13] = [1, 2, 3, 4, 5, 6, 7, 8, 9, 10, 11, 12, 13];
+const MEMBER_NUMBERS: [u32; 14] = [1, 2, 3, 4, 5, 6, 7, 8, 9, 10, 11, 12, 13, 18];
 const LOOK_NUMBERS: [u32; 8] = [2, 3, 4, 5, 7, 11, 14, 15];
 
 fn main() -> ExitCode {
