@@ -5,6 +5,7 @@ pub mod NoColor
 pub mod RefusedBounds
 pub mod RefusedExactly
 pub mod RecordsSpelt
+pub mod NodesBelow
 pub mod NoCells
 -- the readers
 pub mod Whole

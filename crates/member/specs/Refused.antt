@@ -30,7 +30,7 @@ use Rattle.table.specs.Records.{dimsOf}
 --      an entry is no dimension or is repeated                 the entry, as soon as read      table Rules: entryRule
 -- 10   cell index not below the product, or seen before        that index, as soon as read     table Rules: cellRule
 -- 11   bytes left at the end                                   first of them                   left, below
--- 12   node area shorter than 6 words a node                   0                               few-node-words, below
+-- 12   node area shorter than 7 words a node                   0                               few-node-words, below
 -- 13   cell area shorter than 3 words a cell                   0                               few-cell-words, below
 
 -- the member's sections in their order, each with its tests: `Front` is Header to Formats, which the layout tests alone
