@@ -81,16 +81,20 @@ fn records_of_an_accepted_member() {
 #[test]
 fn areas_too_short() {
     let member = example().bytes();
-    for (node_words, cell_words, number) in
-        [(27, 6, NODE_AREA), (27, 5, NODE_AREA), (0, 0, NODE_AREA), (28, 5, CELL_AREA)]
-    {
+    let (nodes, cells) = (4 * NODE_WORDS, 2 * CELL_WORDS);
+    for (node_words, cell_words, number) in [
+        (nodes - 1, cells, NODE_AREA),
+        (nodes - 1, cells - 1, NODE_AREA),
+        (0, 0, NODE_AREA),
+        (nodes, cells - 1, CELL_AREA),
+    ] {
         let (answer, nodes, cells) = read(&member, node_words, cell_words);
         let expected =
             Answer { refusal: number, node_count: 4, cell_count: 2, ..Answer::default() };
         assert_eq!(answer, expected);
         assert!(nodes.iter().chain(&cells).all(|&word| word == UNTOUCHED));
     }
-    assert_eq!(read(&member, 28, 6).0.refusal, 0);
+    assert_eq!(read(&member, nodes, cells).0.refusal, 0);
 }
 
 #[test]

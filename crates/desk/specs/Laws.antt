@@ -4,7 +4,7 @@ use mathlib.Core.Path.{_≡_, refl, ap}
 use mathlib.Core.Logic.{_↔_}
 use mathlib.Core.Bool.{Bool, true, false}
 use mathlib.Core.List.{List, [], _++_}
-use Prim.Native.Nat.{ℕ, _+_, _*_, _≤_, _<_, min}
+use Prim.Native.Nat.{ℕ, _+_, _*_, _/_, _≤_, _<_, min}
 use native.Mathlib.Omega.{arith}
 use lib.ListN.{length, take, drop, getD, length-append, length-take}
 use lib.Seq.{take-at}
@@ -92,11 +92,15 @@ module _ {bs nodes₀ cells₀ : List ℕ} {r : Answer} {nodes₁ cells₁ : Lis
       let y = call .yields a in
       rw (y .node-area, y .number-of-nodes) (only-records (nodeRecords t) (drop (node-words * nodes t) nodes₀) (nodes t) (node-width (a .derivation)))
 
+  -- a `Desk` of them has as many records as there are nodes
+  pub as-many : length (filledOf nodes₁ (r .nodes)) / node-words ≡ r .nodes
+  as-many = rw (the-records, node-width (a .derivation), call .yields a .number-of-nodes) (omega arith)
+
   -- the names are those of the derivation's records
   pub of-the-derivation : (i : ℕ) → nameOf bs (filledOf nodes₁ (r .nodes)) i ≡ nameOf bs (nodeRecords (a .derivation .tree)) i
   of-the-derivation i = rw the-records
 
-  -- node j is below node i, by the parent words, exactly when it comes after i and before the node that `node_after` gives
+  -- node j is below node i, by the parent words, exactly when it comes after i and before the node that `node_after` gives, and `after` too (`as-many`)
   pub skips-exactly : (i j : ℕ) → i < r .nodes → let ws = filledOf nodes₁ (r .nodes) in Below ws (r .nodes) i j ↔ ((i < j) × (j < afterOf ws (r .nodes) i))
   unfolding afterOf pick
   skips-exactly i j h =

@@ -1,6 +1,9 @@
 // The member and its filled node area, kept together (01, "What the caller gets"). The functions over `Desk` are thin and proved by
 // hand; the work is in `filled` and `name_of`, which take slices.
 ghost use mathlib.Core.Path.{_≡_};
+ghost use Prim.Native.Nat.{_/_};
+ghost use lib.ListN.{length};
+ghost use Rattle.sizes.specs.Sizes.{node-words};
 ghost use Rattle.desk.specs.Desk.{filledOf, nameOf, afterOf};
 use member::part;
 use sizes::NAME_LENGTH;
@@ -94,4 +97,18 @@ pub fn node_after(area: &[u32], count: usize, i: usize) -> usize
     ensures { λ r. ⌜ r ≡ afterOf (filledOf (now (area .entry)) count) count i ⌝ }
 {
     after_of(filled(area, count), count, i)
+}
+
+// The same of all the records that the words are.
+fn after_in(nodes: &[u32], i: usize) -> usize
+    ensures { λ r. ⌜ r ≡ afterOf (now (nodes .entry)) (length (now (nodes .entry)) / node-words) i ⌝ }
+{
+    after_of(nodes, nodes.len() / NODE_WORDS, i)
+}
+
+// The node after node i's group; the number of nodes where there is none.
+pub fn after<'a, 'b>(desk: Desk<'a, 'b>, i: usize) -> usize
+    ensures { λ r. ⌜ r ≡ afterOf (now (desk .entry .nodes)) (length (now (desk .entry .nodes)) / node-words) i ⌝ }
+{
+    after_in(desk.nodes, i)
 }

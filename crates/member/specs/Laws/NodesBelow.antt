@@ -1,14 +1,14 @@
 -- Document 02, T-07: "A node's descendants are then exactly the records directly after it, that many less one." Over the records of a whole
 -- member, all dimensions together.
-use mathlib.Core.Path.{sym}
+use mathlib.Core.Path.{_≡_, sym}
 use mathlib.Core.Logic.{_↔_}
 use mathlib.Core.List.{List, [], append-nil}
 use Prim.Native.Nat.{ℕ, _+_, _≤_, _<_}
 use native.Mathlib.Nat.{zero-add}
 use native.Mathlib.Omega.{arith}
 use Rattle.sizes.specs.Sizes.{no-parent}
-use Rattle.table.specs.Below.{sizeOf, Below}
-use Rattle.table.specs.Laws.Groups.{Groups, Group, group-of, dims-groups, below-exactly}
+use Rattle.table.specs.Below.{parentOf, sizeOf, Below}
+use Rattle.table.specs.Laws.Groups.{Groups, group-of, dims-groups, below-exactly, next-child, next-top}
 use Rattle.member.specs.Member.{dimensions, nodes, dimensionsAt, nodeRecords, MemberDerivation}
 
 module _ {bs : List ℕ} (d : MemberDerivation bs) where
@@ -24,3 +24,11 @@ module _ {bs : List ℕ} (d : MemberDerivation bs) where
   -- a node contains itself, and no more nodes than follow it
   pub size-inside : (i : ℕ) → i < nodes (d .tree) → let n = sizeOf (nodeRecords (d .tree)) i in (1 ≤ n) × (i + n ≤ nodes (d .tree))
   size-inside i h = let g = group-of all-groups i (omega arith) h in (g .itself, g .ends)
+
+  -- the node after node i's group has the same parent, where that parent's group goes on there; nodes without a parent likewise
+  pub next-sibling : (i : ℕ) → i < nodes (d .tree) → let ws = nodeRecords (d .tree) in let p = parentOf ws i in let j = i + sizeOf ws i in
+      (p < nodes (d .tree) → j < p + sizeOf ws p → parentOf ws j ≡ p) × (p ≡ no-parent → j < nodes (d .tree) → parentOf ws j ≡ no-parent)
+  next-sibling i h =
+      let ws = nodeRecords (d .tree) in
+      let n = nodes (d .tree) in
+      (next-child ws n all-groups (omega (arith, d .few-nodes)) i h, next-top ws n all-groups (omega (arith, d .few-nodes)) i)

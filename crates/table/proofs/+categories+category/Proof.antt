@@ -6,7 +6,7 @@ use borrow.Fn.Kinds.{In}
 use borrow.Fn.PlainCycle.{Measures, is, falls, and}
 use lib.ListN.{length}
 use Rattle.table.specs.Laws.Heads.{head-off}
-use Rattle.table.specs.Laws.Nodes.{Walking, walking, walks-on, walks-off, walks-to, Stored, stored, not-stored, too-deep, one-too-many, no-head, with-head}
+use Rattle.table.specs.Laws.Nodes.{Walking, walking, walks-on, walks-off, walks-to, stored, not-stored, too-deep, one-too-many, no-head, with-head}
 use Rattle.table.proofs.categories.Reads as categories
 use Rattle.table.proofs.categories.Kinds as categories-kinds
 use Rattle.table.proofs.+categories+category.Lts-categories as categories-lts

@@ -125,34 +125,62 @@ all-below {ws} {count} {par} c (one-group {a = a} {m = m} p s g h) j l u =
     (λ before. ⊎-elim (λ z. rw z at first) (λ after. through first (all-below (omega (arith, ordered h)) g j (omega arith) before)) (eq-or-lt-of-le l))
     (λ later. all-below c h j later u) (before-or-not j m)
 
--- node j lies in the group of its parent
-abbrev InParent : List ℕ → ℕ → Type 0
-InParent ws j = (parentOf ws j < j) × (j < parentOf ws j + sizeOf ws (parentOf ws j))
+-- node j lies in the group of its parent, which has the number a or a later one
+abbrev InParent : List ℕ → ℕ → ℕ → Type 0
+InParent ws a j = (a ≤ parentOf ws j) × (parentOf ws j < j) × (j < parentOf ws j + sizeOf ws (parentOf ws j))
 
-in-parent : {ws : List ℕ} {par a e : ℕ} → Groups ws par a e → (j : ℕ) → a ≤ j → j < e → (parentOf ws j ≡ par) ⊎ InParent ws j
+in-parent : {ws : List ℕ} {par a e : ℕ} → Groups ws par a e → (j : ℕ) → a ≤ j → j < e → (parentOf ws j ≡ par) ⊎ InParent ws a j
 in-parent no-groups j l u = absurd (omega arith)
 in-parent {ws} {par} (one-group {a = a} {m = m} p s g h) j l u =
     ⊎-elim
     (λ before.
     ⊎-elim (λ z. inl (rw z at p))
-    (λ after. inr (⊎-elim (λ z. rw z (after, omega (arith, s))) (λ k. k) (in-parent g j (omega arith) before))) (eq-or-lt-of-le l))
-    (λ later. in-parent h j later u) (before-or-not j m)
+    (λ after. inr (⊎-elim (λ z. rw z (omega arith, after, omega (arith, s))) (λ k. (omega (arith, k .0), k .1, k .2)) (in-parent g j (omega arith) before))) (eq-or-lt-of-le l))
+    (λ later. ⊎-elim inl (λ k. inr (omega (arith, k .0, ordered g, s), k .1, k .2)) (in-parent h j later u)) (before-or-not j m)
+
+first-parent : {ws : List ℕ} {par a e : ℕ} → Groups ws par a e → a < e → parentOf ws a ≡ par
+first-parent no-groups l = absurd (omega arith)
+first-parent (one-group p s g h) l = p
+
+-- after a group with the parent par comes the next one with that parent, or the end
+next-parent : {ws : List ℕ} {par a e : ℕ} → Groups ws par a e → (par < a) ⊎ (e ≤ par) → (i : ℕ) → a ≤ i → i + sizeOf ws i < e → parentOf ws i ≡ par → parentOf ws (i + sizeOf ws i) ≡ par
+next-parent no-groups o i l u q = absurd (omega arith)
+next-parent {ws} {par} (one-group {a = a} {m = m} {e = e} p s g h) o i l u q =
+    ⊎-elim
+    (λ before.
+    ⊎-elim (λ z. rw (← z, s) (first-parent h (omega (arith, rw (← z) at u, s))))
+    (λ after. absurd (⊎-elim
+    (λ z. ⊎-elim (λ k. omega arith) (λ k. omega (arith, ordered h)) o)
+    (λ k. ⊎-elim (λ n. omega (arith, k .0)) (λ n. omega (arith, k .1, ordered h)) o)
+    (in-parent g i (omega arith) before))) (eq-or-lt-of-le l))
+    (λ later. next-parent h (⊎-elim (λ k. inl (omega (arith, ordered g))) inr o) i later u q) (before-or-not i m)
 
 module _ (ws : List ℕ) (count : ℕ) (all : Groups ws no-parent 0 count) (few : count ≤ no-parent) where
-  of-parent : {j : ℕ} → j < count → parentOf ws j < count → InParent ws j
+  of-parent : {j : ℕ} → j < count → parentOf ws j < count → InParent ws 0 j
   of-parent {j} l h = ⊎-elim (λ z. absurd (omega arith)) (λ k. k) (in-parent all j (omega arith) l)
 
   inside : {i j : ℕ} → i < count → Below ws count i j → (i < j) × (j < i + sizeOf ws i)
-  inside h (child l e) = rw e at (of-parent l (rw e h))
+  inside h (child l e) = let k = of-parent l (rw e h) in (rw e at (k .1), rw e at (k .2))
   inside {i} h (deeper {j = j} l b) =
       let own = group-of all i (omega arith) h in
       let k = inside h b in
       let q = of-parent l (omega (arith, own .ends)) in
       let n = group-of (own .inner) (parentOf ws j) (omega arith) (k .1) in
-      (omega (arith, q), omega (arith, q, n .ends))
+      (omega (arith, q .1), omega (arith, q .2, n .ends))
 
   -- node j is below node i, by the parent words, exactly when it is one of the records directly after it, as many as its size less one
   pub below-exactly : (i j : ℕ) → i < count → Below ws count i j ↔ ((i < j) × (j < i + sizeOf ws i))
   below-exactly i j h =
       let own = group-of all i (omega arith) h in
       (inside h, λ k. all-below (own .ends) (own .inner) j (omega arith) (k .1))
+
+  -- the node after node i's group, if the parent's group goes on there, has the same parent; so the children of a node are found one after the other
+  pub next-child : (i : ℕ) → i < count → parentOf ws i < count → let p = parentOf ws i in let j = i + sizeOf ws i in j < p + sizeOf ws p → parentOf ws j ≡ p
+  next-child i h k l =
+      let p = parentOf ws i in
+      let q = of-parent h k in
+      next-parent (group-of all p (omega arith) k .inner) (inl (omega arith)) i (omega (arith, q .1)) l refl
+
+  -- and so are the nodes without a parent
+  pub next-top : (i : ℕ) → parentOf ws i ≡ no-parent → i + sizeOf ws i < count → parentOf ws (i + sizeOf ws i) ≡ no-parent
+  next-top i e l = next-parent all (inr few) i (omega arith) l e
