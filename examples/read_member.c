@@ -29,6 +29,11 @@ int main(int argc, char **argv)
     size_t length;
     FILE *file;
 
+    if (digarumbi_abi() != DIGARUMBI_ABI) {
+        fprintf(stderr, "read_member: compiled for version %lu of the library, linked with %lu\n", (unsigned long)DIGARUMBI_ABI,
+                (unsigned long)digarumbi_abi());
+        return 2;
+    }
     if (argc != 2) {
         fprintf(stderr, "usage: read_member FILE\n");
         return 2;

@@ -1,7 +1,7 @@
 /* Digarumbi: reads version 3 light detail members and binary table looks (.tlo).
  *
- * "01", "002" and "003" below are the papers that the library follows: document 01 (the rules), source document 002 (looks) and source
- * document 003 (members).
+ * "01", "02", "002" and "003" below are the papers that the library follows: document 01 (the rules), document 02 (changes to them), source
+ * document 002 (looks) and source document 003 (members).
  *
  * Any bytes and areas of any length get an answer. The functions allocate nothing, keep nothing between calls and are reentrant:
  * threads may call them at the same time, each with areas of its own. For the stack that they use see docs/BENCHMARKS.md.
@@ -21,6 +21,18 @@
 extern "C" {
 #endif
 
+/* The version of this interface. A program compares it once with what the archive says that it is linked with:
+ *
+ *     if (digarumbi_abi() != DIGARUMBI_ABI)
+ *         stop: the records do not have the words that this header says
+ *
+ * Before 2 there was no number, and node records had 6 words; in 2 they have 7 (02, T-07). An archive from before doesn't link with such a
+ * program. A program compiled with a header from before doesn't ask: compile it anew. The number grows whenever a program that was
+ * compiled with an older header would misread an answer or a record. */
+#define DIGARUMBI_ABI UINT32_C(2)
+
+uint32_t digarumbi_abi(void);
+
 /* Refusal numbers (01, "Refusal numbers"). A place is an offset in the input. 0 is no refusal.
  *
  *   No.  When                                                                     Place
@@ -35,7 +47,7 @@ extern "C" {
  *    9   axis counts don't add up / an entry is no dimension or is repeated       first count / the entry
  *   10   cell index not below the product, or seen before                         that index
  *   11   bytes left at the end                                                    first of them
- *   12   node area shorter than 6 words a node                                    0
+ *   12   node area shorter than 7 words a node                                    0
  *   13   cell area shorter than 3 words a cell                                    0
  *   14   look: a color's high byte not 0                                          the color
  *   15   look writer: output too short                                            0
@@ -74,23 +86,25 @@ enum {
 /* The four words of dimension i stand at DIGARUMBI_DIMENSIONS + 4 * i: place and length of its name, a Value; n, its number of leaves
  * at any depth; its first node, which is the number of nodes before it. Words of dimensions that are not there are 0. */
 
-/* A node record has 6 words, in file order:
+/* A node record has 7 words, in file order:
  *   0  0 for a leaf, 1 for a group
  *   1  dimension
  *   2  number of the parent node, or DIGARUMBI_NO_PARENT
  *   3  place of the name, a Value, its leading 00 bytes included
  *   4  length of the name
  *   5  leaf index of a leaf, number of direct children of a group
+ *   6  number of nodes that it contains at any depth, itself included: 1 for a leaf and for an empty group
+ * The nodes below node i are exactly the records directly after it, as many as word 6 less one.
  * A cell record has 3 words, in file order: index; place and length of its Value.
  *
  * A cell's index (003, Cells): k = 0; for each dimension i from the first to the last, k = n_i * k + x_i. The coordinate x_i is the leaf
  * index of the cell's category in dimension i. */
-#define DIGARUMBI_NODE_RECORD 6
+#define DIGARUMBI_NODE_RECORD 7
 #define DIGARUMBI_CELL_RECORD 3
 #define DIGARUMBI_NO_PARENT UINT32_C(4294967295)
 
 /* Words that always suffice for the two record areas: 4,096 records each. */
-#define DIGARUMBI_NODE_AREA 24576
+#define DIGARUMBI_NODE_AREA 28672
 #define DIGARUMBI_CELL_AREA 12288
 
 /* Reads a member.
@@ -103,10 +117,20 @@ size_t digarumbi_read_member(const uint8_t *member, size_t member_length, uint32
                              size_t node_words, uint32_t *cells, size_t cell_words);
 
 /* The name of node i: returns its length and stores its place in the member, for the member that was read, the node area and the count
- * of nodes in the answer. Of the area only the words of `count` records are looked at, 6 words a node; an area with fewer has none
+ * of nodes in the answer. Of the area only the words of `count` records are looked at, 7 words a node; an area with fewer has none
  * filled. Returns 0 and stores 0 if there is no record i among them, or if it points outside the member. */
 size_t digarumbi_node_name(const uint8_t *member, size_t member_length, const uint32_t *nodes, size_t node_words, size_t count,
                            size_t i, size_t *place);
+
+/* The node after node i and all the nodes below it, by word 6 of its record: the next one with the same parent, or where the group that
+ * node i stands in ends. `count` where there is none. Of the area the same words are looked at as by digarumbi_node_name, and no word is
+ * trusted: if there is no record i among them, or its word 6 is 0 or more than the nodes that there are, the answer is `count`. So for
+ * every i below `count` it is greater than i and at most `count`, whatever the words are. The direct children of node i:
+ *
+ *     end = digarumbi_node_after(nodes, node_words, count, i);
+ *     for (child = i + 1; child < end; child = digarumbi_node_after(nodes, node_words, count, child))
+ */
+size_t digarumbi_node_after(const uint32_t *nodes, size_t node_words, size_t count, size_t i);
 
 /* The length of the part of the member at `place`: `length`, or 0 if that part doesn't lie inside the member. */
 size_t digarumbi_part(const uint8_t *member, size_t member_length, size_t place, size_t length);

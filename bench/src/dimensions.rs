@@ -18,6 +18,8 @@ pub struct Node {
     pub dimension: u32,
     pub parent: u32,
     pub name: Span,
+    /// Number of nodes it contains at any depth, itself included.
+    pub size: u32,
 }
 
 pub struct Dimension {
@@ -100,20 +102,23 @@ struct CategoryReader<'a> {
 }
 
 impl CategoryReader<'_> {
+    /// Gives the number of nodes read.
     fn categories(
         &mut self,
         cursor: &mut Cursor,
         count: u32,
         parent: u32,
         depth: u32,
-    ) -> Result<(), Refusal> {
+    ) -> Result<u32, Refusal> {
+        let mut size = 0;
         for _ in 0..count {
-            self.category(cursor, parent, depth)?;
+            size += self.category(cursor, parent, depth)?;
         }
-        Ok(())
+        Ok(size)
     }
 
-    fn category(&mut self, cursor: &mut Cursor, parent: u32, depth: u32) -> Result<(), Refusal> {
+    /// Gives the number of nodes read, the category's own included.
+    fn category(&mut self, cursor: &mut Cursor, parent: u32, depth: u32) -> Result<u32, Refusal> {
         let limit_passed = self.nodes.len() >= NODES || depth > CATEGORY_DEPTH;
         refuse_if(limit_passed, LIMIT, cursor.place())?;
         let name = value(cursor)?;
@@ -125,14 +130,14 @@ impl CategoryReader<'_> {
         }
     }
 
-    fn leaf(&mut self, cursor: &mut Cursor, parent: u32, name: Span) -> Result<(), Refusal> {
+    fn leaf(&mut self, cursor: &mut Cursor, parent: u32, name: Span) -> Result<u32, Refusal> {
         cursor.fixed_int32(2)?;
         let place = cursor.place();
         let index = cursor.int32()?;
         cursor.fixed_int32(0)?;
         self.leaf_indexes.push(LeafIndex { index, place });
         self.push(NodeKind::Leaf { index }, parent, name);
-        Ok(())
+        Ok(1)
     }
 
     fn group(
@@ -141,16 +146,18 @@ impl CategoryReader<'_> {
         parent: u32,
         name: Span,
         depth: u32,
-    ) -> Result<(), Refusal> {
+    ) -> Result<u32, Refusal> {
         cursor.int32()?;
         cursor.fixed_int32(u32::MAX)?;
         let children = cursor.int32()?;
-        let number = self.nodes.len() as u32;
+        let number = self.nodes.len();
         self.push(NodeKind::Group { children }, parent, name);
-        self.categories(cursor, children, number, depth + 1)
+        let size = 1 + self.categories(cursor, children, number as u32, depth + 1)?;
+        self.nodes[number].size = size;
+        Ok(size)
     }
 
     fn push(&mut self, kind: NodeKind, parent: u32, name: Span) {
-        self.nodes.push(Node { kind, dimension: self.dimension, parent, name });
+        self.nodes.push(Node { kind, dimension: self.dimension, parent, name, size: 1 });
     }
 }

@@ -55,6 +55,26 @@ pub fn record_lines(reading: &Reading) -> Vec<String> {
     lines
 }
 
+/// A line for each node of an accepted member: its number, the node after it and all that is below
+/// it, the length of its name and the name's bytes; none for a refused one.
+pub fn name_lines(member: &[u8], reading: &Reading) -> Vec<String> {
+    if reading.answer.refusal != 0 {
+        return Vec::new();
+    }
+    let records = reading.nodes.chunks(NODE_WORDS).take(reading.answer.node_count as usize);
+    records.enumerate().map(|(i, record)| name_line(member, i, record)).collect()
+}
+
+fn name_line(member: &[u8], i: usize, record: &[u32]) -> String {
+    let [.., place, length, _, size] = record else { unreachable!("a record of a node") };
+    let name = &member[*place as usize..][..*length as usize];
+    let mut line = format!("name {i} {} {length}", i + *size as usize);
+    for byte in name {
+        line.push_str(&format!(" {byte:02x}"));
+    }
+    line
+}
+
 fn area_lines(name: &str, area: &[u32], words: usize, count: u32) -> Vec<String> {
     area.chunks(words).take(count as usize).map(|record| words_line(name, record)).collect()
 }

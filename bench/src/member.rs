@@ -8,7 +8,7 @@ use crate::limits::{DIMENSIONS, MEMBER_BYTES};
 use crate::refusal::*;
 use crate::{sections, titles};
 
-pub const NODE_WORDS: usize = 6;
+pub const NODE_WORDS: usize = 7;
 pub const CELL_WORDS: usize = 3;
 
 #[derive(Clone, Copy, Debug, Default, PartialEq, Eq)]
@@ -147,7 +147,7 @@ fn node_record(node: &Node) -> [u32; NODE_WORDS] {
         NodeKind::Group { children } => (1, children),
     };
     let (place, length) = (node.name.place as u32, node.name.length as u32);
-    [kind, node.dimension, node.parent, place, length, last]
+    [kind, node.dimension, node.parent, place, length, last, node.size]
 }
 
 fn cell_record(cell: &Cell) -> [u32; CELL_WORDS] {

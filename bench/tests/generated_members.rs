@@ -2,7 +2,7 @@
 
 use digarumbi_bench::damage::damaged;
 use digarumbi_bench::generate::member;
-use digarumbi_bench::member::{read_member, section_ends, Answer};
+use digarumbi_bench::member::{read_member, section_ends, Answer, CELL_WORDS, NODE_WORDS};
 use digarumbi_bench::random::Random;
 
 const UNTOUCHED: u32 = 0x5555_aaaa;
@@ -25,7 +25,7 @@ fn generated_members_are_accepted() {
 fn a_cut_member_is_refused() {
     for seed in 0..40 {
         let bytes = member(&mut Random::new(seed)).bytes;
-        let final_01 = read_member(&bytes[..bytes.len() - 1], &mut [0; 25_000], &mut [0; 13_000]);
+        let final_01 = read_member(&bytes[..bytes.len() - 1], &mut [0; 30_000], &mut [0; 13_000]);
         let shortest = bytes.len() - usize::from(final_01.refusal == 0);
         for length in 0..shortest {
             let answer = read_member(&bytes[..length], &mut [], &mut []);
@@ -51,8 +51,8 @@ fn damaged_members_leave_the_areas_when_refused() {
     for seed in 0..20_000 {
         let mut random = Random::new(seed);
         let bytes = damaged(&member(&mut random).bytes, &mut random);
-        let mut nodes = vec![UNTOUCHED; 6 * 4_096];
-        let mut cells = vec![UNTOUCHED; 3 * 4_096];
+        let mut nodes = vec![UNTOUCHED; NODE_WORDS * 4_096];
+        let mut cells = vec![UNTOUCHED; CELL_WORDS * 4_096];
         let answer = read_member(&bytes, &mut nodes, &mut cells);
         numbers[answer.refusal as usize] += 1;
         if answer.refusal != 0 {

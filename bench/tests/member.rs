@@ -2,7 +2,7 @@
 
 use digarumbi_bench::encode::list;
 use digarumbi_bench::limits::MEMBER_BYTES;
-use digarumbi_bench::member::{read_member, Answer, DimensionAnswer};
+use digarumbi_bench::member::{read_member, Answer, DimensionAnswer, CELL_WORDS, NODE_WORDS};
 use digarumbi_bench::parts::*;
 use digarumbi_bench::refusal::*;
 
@@ -47,7 +47,7 @@ fn example() -> Parts {
 #[test]
 fn records_of_an_accepted_member() {
     let parts = example();
-    let (answer, nodes, cells) = read(&parts.bytes(), 4 * 6 + 2, 2 * 3 + 1);
+    let (answer, nodes, cells) = read(&parts.bytes(), 4 * NODE_WORDS + 2, 2 * CELL_WORDS + 1);
     let first = parts.start(Section::Dimensions) as u32 + 4;
     let second = first + 26 + 3 * 24;
     let mut expected = Answer {
@@ -66,10 +66,10 @@ fn records_of_an_accepted_member() {
 
     let none = u32::MAX;
     let expected_nodes = [
-        [0, 0, none, first + 26, 9, 1],
-        [1, 0, none, first + 26 + 24, 9, 1],
-        [0, 0, 1, first + 26 + 48, 9, 0],
-        [0, 1, none, second + 26, 9, 0],
+        [0, 0, none, first + 26, 9, 1, 1],
+        [1, 0, none, first + 26 + 24, 9, 1, 2],
+        [0, 0, 1, first + 26 + 48, 9, 0, 1],
+        [0, 1, none, second + 26, 9, 0, 1],
     ];
     assert_eq!(nodes, [&expected_nodes.concat()[..], &[UNTOUCHED; 2]].concat());
 
@@ -81,16 +81,20 @@ fn records_of_an_accepted_member() {
 #[test]
 fn areas_too_short() {
     let member = example().bytes();
-    for (node_words, cell_words, number) in
-        [(23, 6, NODE_AREA), (23, 5, NODE_AREA), (0, 0, NODE_AREA), (24, 5, CELL_AREA)]
-    {
+    let (nodes, cells) = (4 * NODE_WORDS, 2 * CELL_WORDS);
+    for (node_words, cell_words, number) in [
+        (nodes - 1, cells, NODE_AREA),
+        (nodes - 1, cells - 1, NODE_AREA),
+        (0, 0, NODE_AREA),
+        (nodes, cells - 1, CELL_AREA),
+    ] {
         let (answer, nodes, cells) = read(&member, node_words, cell_words);
         let expected =
             Answer { refusal: number, node_count: 4, cell_count: 2, ..Answer::default() };
         assert_eq!(answer, expected);
         assert!(nodes.iter().chain(&cells).all(|&word| word == UNTOUCHED));
     }
-    assert_eq!(read(&member, 24, 6).0.refusal, 0);
+    assert_eq!(read(&member, nodes, cells).0.refusal, 0);
 }
 
 #[test]
@@ -111,7 +115,7 @@ fn a_late_refusal_leaves_the_areas() {
 #[test]
 fn at_most_4096_categories() {
     let parts = table(&[4_000, 96], &[]);
-    let (answer, _, _) = read(&parts.bytes(), 6 * 4_096, 0);
+    let (answer, _, _) = read(&parts.bytes(), NODE_WORDS * 4_096, 0);
     assert_eq!((answer.refusal, answer.node_count), (0, 4_096));
     let parts = table(&[4_000, 97], &[]);
     let place = parts.start(Section::Axes) - 24;
@@ -122,7 +126,8 @@ fn at_most_4096_categories() {
 #[test]
 fn at_most_4096_cells() {
     let all: Vec<u64> = (0..4_096).collect();
-    let (answer, _, _) = read(&table(&[64, 64], &all).bytes(), 6 * 128, 3 * 4_096);
+    let (answer, _, _) =
+        read(&table(&[64, 64], &all).bytes(), NODE_WORDS * 128, CELL_WORDS * 4_096);
     assert_eq!((answer.refusal, answer.cell_count), (0, 4_096));
     let more: Vec<u64> = (0..4_097).collect();
     let parts = table(&[65, 64], &more);

@@ -5,7 +5,7 @@ use std::{env, fs, path::Path};
 
 use digarumbi_bench::{
     line::line,
-    member::{read_member, Answer},
+    member::{read_member, Answer, CELL_WORDS, NODE_WORDS},
 };
 
 fn counts(answer: &Answer) {
@@ -24,7 +24,8 @@ fn main() -> std::io::Result<()> {
         let member = fs::read(&path)?;
         println!("{}", Path::new(&path).file_name().unwrap_or_default().to_string_lossy());
         let answer = areas(&member, 0, 0);
-        let (nodes, cells) = (6 * answer.node_count as usize, 3 * answer.cell_count as usize);
+        let nodes = NODE_WORDS * answer.node_count as usize;
+        let cells = CELL_WORDS * answer.cell_count as usize;
         areas(&member, nodes.saturating_sub(1), cells);
         areas(&member, nodes, cells.saturating_sub(1));
         areas(&member, nodes, cells);

@@ -21,6 +21,14 @@ impl Category {
             Category::Group(categories) => leaves(categories),
         }
     }
+
+    /// The nodes it contains, itself included.
+    fn size(&self) -> u32 {
+        match self {
+            Category::Leaf => 1,
+            Category::Group(categories) => 1 + categories.iter().map(Category::size).sum::<u32>(),
+        }
+    }
 }
 
 fn leaves(categories: &[Category]) -> u32 {
@@ -158,13 +166,15 @@ fn append_category(
             let index = leaf_indexes.pop().expect("one index for each leaf");
             member.bytes.extend([0, 0, 0]);
             member.bytes.extend(encode::int32s(&[2, index, 0]));
-            member.nodes.extend([0, dimension, parent, place, length, index]);
+            member.nodes.extend([0, dimension, parent, place, length, index, 1]);
         }
         Category::Group(categories) => {
             member.bytes.extend([random.bool(), 0, 1]);
             member.bytes.extend(int32(random));
             member.bytes.extend([0xff; 4]);
-            member.nodes.extend([1, dimension, parent, place, length, categories.len() as u32]);
+            let children = categories.len() as u32;
+            let record = [1, dimension, parent, place, length, children, category.size()];
+            member.nodes.extend(record);
             append_categories(member, categories, number, leaf_indexes, random);
         }
     }

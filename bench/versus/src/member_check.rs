@@ -156,7 +156,8 @@ impl MemberCheck {
         Ok(answer)
     }
 
-    /// The names of an accepted member's nodes, and what node areas with any words get.
+    /// The names of an accepted member's nodes and the nodes after their groups, and what node
+    /// areas with any words get.
     fn check_names(&mut self, member: &[u8], counts: Counts) -> Result<(), Difference> {
         let nodes = self.expected.nodes.lent();
         for i in 0..=counts.nodes.min(NAMES_ASKED) {
@@ -165,12 +166,15 @@ impl MemberCheck {
                 check_name(member, nodes, count, i)?;
             }
         }
+        for i in 0..counts.nodes.min(NAMES_ASKED) {
+            check_children(nodes, counts.nodes, i)?;
+        }
         let last = counts.nodes.saturating_sub(1);
         check_name(member, &nodes[..nodes.len().saturating_sub(1)], counts.nodes, last)?;
         check_name(member, nodes, counts.nodes, usize::MAX)?;
         check_name(member, nodes, usize::MAX, last)?;
-        // Six times this is the right number of words, if it is not seen to be too large.
-        check_name(member, nodes, usize::MAX / 2 + 1 + counts.nodes, last)?;
+        // As words this is fewer than the area has, if it is not seen to be too large.
+        check_name(member, nodes, usize::MAX / NODE_RECORD + counts.nodes, last)?;
         let words: Vec<u32> =
             (0..self.random.size(40)).map(|_| self.number(member.len()) as u32).collect();
         let counts = [words.len() / NODE_RECORD, self.random.size(8), self.number(words.len())];
@@ -231,5 +235,30 @@ fn expected_name(member: &[u8], area: &[u32], count: usize, i: usize) -> (usize,
 fn check_name(member: &[u8], nodes: &[u32], count: usize, i: usize) -> Result<(), Difference> {
     let expected = expected_name(member, nodes, count, i);
     let found = lent::node_name(member, nodes, count, i);
-    Difference::compare(format_args!("name of node {i} of {count} in {nodes:?}"), &expected, &found)
+    let of = format_args!("node {i} of {count} in {nodes:?}");
+    Difference::compare(format_args!("name of {of}"), &expected, &found)?;
+    let expected = expected_after(nodes, count, i);
+    let found = lent::node_after(nodes, count, i);
+    Difference::compare(format_args!("node after {of}"), &expected, &found)
+}
+
+/// The direct children of a node are those whose parent it is.
+fn check_children(nodes: &[u32], count: usize, i: usize) -> Result<(), Difference> {
+    let parent = |j: &usize| nodes[NODE_RECORD * j + 2] as usize == i;
+    let expected: Vec<usize> = (0..count).filter(parent).collect();
+    let found: Vec<usize> = lent::children(nodes, count, i).collect();
+    Difference::compare(format_args!("children of node {i} in {nodes:?}"), &expected, &found)
+}
+
+/// The node after node `i` and all that is below it, `count` for a record that is not there or has
+/// a last word that no record has.
+fn expected_after(area: &[u32], count: usize, i: usize) -> usize {
+    let record = filled(area, count).chunks_exact(NODE_RECORD).nth(i);
+    let size = record.map_or(0, |record| record[6] as usize);
+    let after = i.saturating_add(size);
+    if i < after && after < count {
+        after
+    } else {
+        count
+    }
 }

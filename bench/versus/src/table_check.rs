@@ -15,7 +15,11 @@ pub fn check_table(
     let expected = Table {
         dimensions: dimensions(member, answer),
         axes: axes(answer),
-        nodes: nodes.chunks(NODE_WORDS).map(|record| node(member, record)).collect(),
+        nodes: nodes
+            .chunks(NODE_WORDS)
+            .zip(0..)
+            .map(|(record, i)| node(member, record, i))
+            .collect(),
         cells: cells.chunks(CELL_WORDS).map(|record| cell(member, record)).collect(),
     };
     Difference::compare("the bindings' table", &Ok(expected), &digarumbi::read_member(member))
@@ -51,7 +55,7 @@ fn axes(answer: &Answer) -> Axes {
     }
 }
 
-fn node<'a>(member: &'a [u8], record: &[u32]) -> Node<'a> {
+fn node<'a>(member: &'a [u8], record: &[u32], i: usize) -> Node<'a> {
     let kind = if record[0] == 0 {
         NodeKind::Leaf { index: record[5] }
     } else {
@@ -62,6 +66,7 @@ fn node<'a>(member: &'a [u8], record: &[u32]) -> Node<'a> {
         kind,
         dimension: record[1] as usize,
         parent: (record[2] != u32::MAX).then_some(record[2] as usize),
+        below: i + 1..i + record[6] as usize,
     }
 }
 

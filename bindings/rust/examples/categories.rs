@@ -22,16 +22,21 @@ fn main() -> Result<(), Box<dyn Error>> {
 fn print_dimension(table: &Table, number: usize) {
     let dimension = &table.dimensions[number];
     println!("dimension {number}: {} (n = {})", value_text(dimension.name), dimension.n);
-    for node in table.categories(number) {
-        print_node(table, node);
+    for node in table.top(number) {
+        print_node(table, &table.nodes[node], 1);
     }
 }
 
-fn print_node(table: &Table, node: &Node) {
-    let indent = "  ".repeat(table.depth(node) + 1);
+fn print_node(table: &Table, node: &Node, depth: usize) {
+    let indent = "  ".repeat(depth);
     let name = value_text(node.name);
     match node.kind {
-        NodeKind::Group { children } => println!("{indent}{name} (group of {children})"),
+        NodeKind::Group { children } => {
+            println!("{indent}{name} (group of {children})");
+            for child in table.children(node) {
+                print_node(table, &table.nodes[child], depth + 1);
+            }
+        }
         NodeKind::Leaf { index } => {
             println!("{indent}{name} (leaf {index} of dimension {})", node.dimension);
             for cell in table.cells_under(node.dimension, index) {

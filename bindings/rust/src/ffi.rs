@@ -4,6 +4,8 @@
 //! overlaps nothing else that the call is given.
 
 extern "C" {
+    pub fn digarumbi_abi() -> u32;
+
     pub fn digarumbi_read_member(
         member: *const u8,
         member_length: usize,
@@ -23,6 +25,13 @@ extern "C" {
         count: usize,
         i: usize,
         place: *mut usize,
+    ) -> usize;
+
+    pub fn digarumbi_node_after(
+        nodes: *const u32,
+        node_words: usize,
+        count: usize,
+        i: usize,
     ) -> usize;
 
     pub fn digarumbi_part(

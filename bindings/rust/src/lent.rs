@@ -5,8 +5,15 @@
 //! Each call is safe: the functions take any bytes and areas of any length, every pointer comes
 //! with the length of its slice, and Rust's borrows keep a slice that is written from overlapping
 //! the others.
+//!
+//! The functions over members panic if the archive has another interface than these declarations.
+
+use std::iter::successors;
 
 use crate::ffi;
+
+/// The version of the interface that these declarations are for.
+pub const ABI: u32 = 2;
 
 /// Words of a member's answer.
 pub const MEMBER_ANSWER: usize = 88;
@@ -16,17 +23,31 @@ pub const LOOK_ANSWER: usize = 264;
 pub const REWRITE_ANSWER: usize = 3;
 
 /// Words of a node record.
-pub const NODE_RECORD: usize = 6;
+pub const NODE_RECORD: usize = 7;
 /// Words of a cell record.
 pub const CELL_RECORD: usize = 3;
 
 /// Words that always suffice for the node records.
-pub const NODE_AREA: usize = 24_576;
+pub const NODE_AREA: usize = 28_672;
 /// Words that always suffice for the cell records.
 pub const CELL_AREA: usize = 12_288;
 
 /// Bytes of the longest look.
 pub const LONGEST_LOOK: usize = 3_160;
+
+/// The version of the interface that the archive has.
+///
+/// ```
+/// assert_eq!(digarumbi::lent::abi(), digarumbi::lent::ABI);
+/// ```
+pub fn abi() -> u32 {
+    unsafe { ffi::digarumbi_abi() }
+}
+
+/// Panics if the records of the archive are not those of these declarations.
+fn test_abi() {
+    assert_eq!(abi(), ABI, "the archive has another interface than these bindings");
+}
 
 /// Reads a member. Returns [`MEMBER_ANSWER`], or 0 if `answer` has fewer words.
 pub fn read_member(
@@ -35,6 +56,7 @@ pub fn read_member(
     nodes: &mut [u32],
     cells: &mut [u32],
 ) -> usize {
+    test_abi();
     unsafe {
         ffi::digarumbi_read_member(
             member.as_ptr(),
@@ -54,12 +76,13 @@ pub fn read_member(
 ///
 /// ```
 /// use digarumbi::lent::node_name;
-/// let nodes = [0, 0, u32::MAX, 2, 3, 0];
+/// let nodes = [0, 0, u32::MAX, 2, 3, 0, 1];
 /// assert_eq!(node_name(b"member", &nodes, 1, 0), (2, 3));
 /// assert_eq!(node_name(b"member", &nodes, 0, 0), (0, 0));
 /// assert_eq!(node_name(b"member", &nodes, 2, 0), (0, 0));
 /// ```
 pub fn node_name(member: &[u8], nodes: &[u32], count: usize, i: usize) -> (usize, usize) {
+    test_abi();
     let mut place = 0;
     let length = unsafe {
         ffi::digarumbi_node_name(
@@ -73,6 +96,40 @@ pub fn node_name(member: &[u8], nodes: &[u32], count: usize, i: usize) -> (usize
         )
     };
     (place, length)
+}
+
+/// The node after node `i` and all the nodes below it, `count` where there is none.
+/// Of `nodes` the same words are looked at as by [`node_name`]. For every `i` below `count` the
+/// answer is greater than `i` and at most `count`, whatever the words are.
+///
+/// ```
+/// use digarumbi::lent::node_after;
+/// let nodes = [[1, 0, u32::MAX, 0, 0, 1, 2], [0, 0, 0, 0, 0, 0, 1], [0, 0, u32::MAX, 0, 0, 1, 1]];
+/// assert_eq!(node_after(nodes.as_flattened(), 3, 0), 2);
+/// assert_eq!(node_after(nodes.as_flattened(), 3, 2), 3);
+/// assert_eq!(node_after(nodes.as_flattened(), 1, 0), 1);
+/// assert_eq!(node_after(&[], 3, 0), 3);
+/// ```
+pub fn node_after(nodes: &[u32], count: usize, i: usize) -> usize {
+    test_abi();
+    unsafe { ffi::digarumbi_node_after(nodes.as_ptr(), nodes.len(), count, i) }
+}
+
+/// The direct children of node `i`, each skipped with all that is below it. None if there is no
+/// node `i`. It ends, whatever the words are.
+///
+/// ```
+/// use digarumbi::lent::children;
+/// let nodes = [[1, 0, u32::MAX, 0, 0, 1, 3], [1, 0, 0, 0, 0, 1, 2], [0, 0, 1, 0, 0, 0, 1]];
+/// assert_eq!(children(nodes.as_flattened(), 3, 0).collect::<Vec<_>>(), [1]);
+/// assert_eq!(children(nodes.as_flattened(), 3, 2).count(), 0);
+/// ```
+pub fn children(nodes: &[u32], count: usize, i: usize) -> impl Iterator<Item = usize> + '_ {
+    let end = if i < count { node_after(nodes, count, i) } else { 0 };
+    let inside = move |i: usize| (i < end).then_some(i);
+    successors(i.checked_add(1).and_then(inside), move |&child| {
+        inside(node_after(nodes, count, child))
+    })
 }
 
 /// The length of the part of the member at `place`: `length`, or 0 if it does not lie inside.

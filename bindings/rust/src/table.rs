@@ -1,5 +1,6 @@
 //! Members: the table that an accepted one holds.
 
+use std::iter::successors;
 use std::ops::Range;
 
 use crate::lent::{self, CELL_AREA, CELL_RECORD, MEMBER_ANSWER, NODE_AREA, NODE_RECORD};
@@ -43,6 +44,8 @@ pub struct Node<'a> {
     pub dimension: usize,
     /// Number of the group it stands in.
     pub parent: Option<usize>,
+    /// The nodes below it at any depth, by their numbers in the table.
+    pub below: Range<usize>,
 }
 
 #[derive(Clone, Copy, Debug, PartialEq, Eq)]
@@ -144,18 +147,20 @@ fn node_records<'a>(member: &'a [u8], nodes: &[u32], count: usize) -> Vec<Node<'
         .enumerate()
         .map(|(i, record)| {
             let (place, length) = lent::node_name(member, nodes, count, i);
-            node(&member[place..place + length], record)
+            let below = i + 1..lent::node_after(nodes, count, i);
+            node(&member[place..place + length], record, below)
         })
         .collect()
 }
 
-fn node<'a>(name: &'a [u8], record: &[u32]) -> Node<'a> {
+fn node<'a>(name: &'a [u8], record: &[u32], below: Range<usize>) -> Node<'a> {
     let kind = match record[0] {
         0 => NodeKind::Leaf { index: record[5] },
         _ => NodeKind::Group { children: record[5] },
     };
     let parent = Some(record[2]).filter(|&parent| parent != NO_PARENT);
-    Node { name, kind, dimension: record[1] as usize, parent: parent.map(|parent| parent as usize) }
+    let parent = parent.map(|parent| parent as usize);
+    Node { name, kind, dimension: record[1] as usize, parent, below }
 }
 
 fn cell<'a>(member: &'a [u8], record: &[u32]) -> Cell<'a> {
@@ -166,6 +171,30 @@ impl<'a> Table<'a> {
     /// The categories of a dimension and their groups, in file order.
     pub fn categories(&self, dimension: usize) -> &[Node<'a>] {
         &self.nodes[self.dimensions[dimension].nodes.clone()]
+    }
+
+    /// The categories and groups that stand directly in a dimension, by their numbers.
+    pub fn top(&self, dimension: usize) -> impl Iterator<Item = usize> + '_ {
+        self.skipping(self.dimensions[dimension].nodes.clone())
+    }
+
+    /// The direct children of a node, by their numbers.
+    ///
+    /// ```
+    /// let member = std::fs::read("../../examples/spine_18.bin")?;
+    /// let table = digarumbi::read_member(&member)?;
+    /// assert_eq!(table.top(0).collect::<Vec<_>>(), [0, 3, 5, 6]);
+    /// assert_eq!(table.children(&table.nodes[0]).collect::<Vec<_>>(), [1, 2]);
+    /// # Ok::<(), Box<dyn std::error::Error>>(())
+    /// ```
+    pub fn children(&self, node: &Node) -> impl Iterator<Item = usize> + '_ {
+        self.skipping(node.below.clone())
+    }
+
+    /// The nodes of a range, each skipped with all that is below it.
+    fn skipping(&self, nodes: Range<usize>) -> impl Iterator<Item = usize> + '_ {
+        let inside = move |i: usize| (i < nodes.end).then_some(i);
+        successors(inside(nodes.start), move |&i| inside(self.nodes[i].below.end))
     }
 
     /// How many groups a node stands in.

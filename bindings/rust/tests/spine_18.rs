@@ -44,6 +44,30 @@ fn categories_in_file_order() {
 }
 
 #[test]
+fn groups_are_skipped() {
+    let table = table();
+    let below: Vec<_> = table.nodes.iter().map(|node| node.below.len()).collect();
+    assert_eq!(below, [2, 0, 0, 1, 0, 0, 0, 0, 0]);
+    assert_eq!(table.top(0).collect::<Vec<_>>(), [0, 3, 5, 6]);
+    assert_eq!(table.top(1).collect::<Vec<_>>(), [7, 8]);
+    for (i, node) in table.nodes.iter().enumerate() {
+        let children = (0..table.nodes.len()).filter(|&j| table.nodes[j].parent == Some(i));
+        assert!(table.children(node).eq(children));
+    }
+}
+
+#[test]
+fn bad_words_are_not_followed() {
+    let record = |size| [1, 0, u32::MAX, 0, 0, 0, size];
+    let nodes = [record(0), record(4), record(u32::MAX), record(2)];
+    let after = |count, i| lent::node_after(nodes.as_flattened(), count, i);
+    assert_eq!([0, 1, 2, 3].map(|i| after(4, i)), [4; 4]);
+    assert_eq!([after(4, 4), after(5, 0), after(0, 0), after(4, usize::MAX)], [4, 5, 0, 4]);
+    assert_eq!(lent::children(nodes.as_flattened(), 4, 0).collect::<Vec<_>>(), [1]);
+    assert_eq!(lent::children(nodes.as_flattened(), 4, usize::MAX).count(), 0);
+}
+
+#[test]
 fn cells_and_their_coordinates() {
     let table = table();
     let indexes: Vec<u32> = table.cells.iter().map(|cell| cell.index).collect();
@@ -89,8 +113,8 @@ fn lent_areas_that_are_too_small() {
         assert!(nodes.iter().chain(&cells).all(|&word| word == 7));
         answer[..5].to_vec()
     };
-    assert_eq!(refused(53, 30), [12, 0, 0, 9, 10]);
-    assert_eq!(refused(54, 29), [13, 0, 0, 9, 10]);
+    assert_eq!(refused(62, 30), [12, 0, 0, 9, 10]);
+    assert_eq!(refused(63, 29), [13, 0, 0, 9, 10]);
     assert_eq!(lent::read_member(MEMBER, &mut [7; 87], &mut [], &mut []), 0);
 }
 

@@ -6,12 +6,12 @@ ghost use mathlib.Core.Path.{_≡_};
 ghost use Prim.Native.Nat.{_+_};
 ghost use lib.ListN.{length};
 ghost use lib.Dec.{leb};
-ghost use Rattle.sizes.specs.Sizes.{look-answer-words};
+ghost use Rattle.sizes.specs.Sizes.{abi, look-answer-words};
 ghost use Rattle.layout.specs.Layout.{pick};
 ghost use Rattle.layout.specs.Read.{read};
 ghost use Rattle.units.specs.Units.{in-pixels, in-points, height};
 ghost use Rattle.layout.specs.Part.{partOf};
-ghost use Rattle.desk.specs.Desk.{filledOf, nameOf};
+ghost use Rattle.desk.specs.Desk.{filledOf, nameOf, afterOf};
 ghost use Rattle.look.specs.Look.{TableLook};
 ghost use Rattle.look.specs.Answers.{expected};
 ghost use Rattle.look_words.specs.FieldWords as look_spec;
@@ -20,6 +20,7 @@ ghost use Rattle.api.specs.Api.{MemberRead, namePlace, Rewritten};
 use crate::answers::member_words;
 use crate::answers::step_words;
 use desk::filled;
+use desk::node_after;
 use desk::node_name;
 use look::Answer;
 use look::read::read_look;
@@ -28,6 +29,7 @@ use look_write::Written;
 use look_write::write_look;
 use member::part;
 use member::read_member;
+use sizes::ABI;
 use sizes::ANSWER_WORDS;
 use sizes::NAME_LENGTH;
 use sizes::NAME_PLACE;
@@ -38,6 +40,15 @@ use units::Px;
 use units::font_height;
 use units::pt_to_px;
 use units::px_to_pt;
+
+// The version of this interface. The header that a program was compiled with has its own: a record's words are as it says where the two are
+// the same.
+#[no_mangle]
+pub extern "C" fn digarumbi_abi() -> u32
+    ensures { λ r. ⌜ r ≡ abi ⌝ }
+{
+    ABI
+}
 
 // Reads a member. ANSWER_WORDS, with the answer in as many words at the front of `answer` and the records in the two areas where it is
 // accepted; 0, with nothing read and nothing changed, if `answer` is shorter.
@@ -96,6 +107,15 @@ pub extern "C" fn digarumbi_node_name(
     let words = filled(nodes, count);
     *place = name_place(member, words, i);
     node_name(member, nodes, count, i).len()
+}
+
+// The node after node i and all that is below it; `count` where there is none, and for a record that is not there or has a word that no
+// record has. Of `nodes` only the words of `count` records are looked at, as by `digarumbi_node_name`.
+#[no_mangle]
+pub extern "C" fn digarumbi_node_after(nodes: &[u32], count: usize, i: usize) -> usize
+    ensures { λ r. ⌜ r ≡ afterOf (filledOf (now (nodes .entry)) count) count i ⌝ }
+{
+    node_after(nodes, count, i)
 }
 
 // The length of that part of the member; 0 if it does not lie inside.

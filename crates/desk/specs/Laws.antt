@@ -1,21 +1,25 @@
 -- Document 01: "of the area only the words filled", and "the empty part if there is no record i, or if it points outside the member".
+-- Document 02, T-07: a node's descendants are the records directly after it, and are skipped by its record alone.
 use mathlib.Core.Path.{_≡_, refl, ap}
+use mathlib.Core.Logic.{_↔_}
 use mathlib.Core.Bool.{Bool, true, false}
 use mathlib.Core.List.{List, [], _++_}
-use Prim.Native.Nat.{ℕ, _+_, _*_, _≤_, _<_}
+use Prim.Native.Nat.{ℕ, _+_, _*_, _/_, _≤_, _<_, min}
 use native.Mathlib.Omega.{arith}
 use lib.ListN.{length, take, drop, getD, length-append, length-take}
 use lib.Seq.{take-at}
 use lib.Dec.{leb}
-use borrow.Author.Tests.{le-leb, lt-leb}
+use borrow.Author.Tests.{le-leb, lt-leb, leb-true}
 use Rattle.sizes.specs.Sizes.{node-words, name-place, name-length}
 use Rattle.layout.specs.Layout.{pick}
 use Rattle.member.specs.declared.Answer.{Answer}
 use Rattle.layout.specs.Part.{partOf}
+use Rattle.table.specs.Below.{sizeOf, Below}
 use Rattle.member.specs.Member.{nodes, nodeRecords}
 use Rattle.member.specs.Laws.RecordsSpelt.{node-width}
+use Rattle.member.specs.Laws.NodesBelow.{nodes-below, size-inside}
 use Rattle.member.specs.Demand3.{Accepted, Demand3}
-use Rattle.desk.specs.Desk.{filledOf, nameOf}
+use Rattle.desk.specs.Desk.{filledOf, nameOf, afterOf}
 
 -- ---- the words filled
 
@@ -60,11 +64,51 @@ unfolding nameOf partOf pick
 outside member ns i h =
     rw (lt-leb (getD ns (node-words * i + name-place) 0 + getD ns (node-words * i + name-length) 0) (length member) h) (same (leb (node-words * (i + 1)) (length ns)) [])
 
--- after a call of `read_member` that accepts, the names are those of the derivation's records
-pub of-the-derivation : {bs nodes₀ cells₀ : List ℕ} {r : Answer} {nodes₁ cells₁ : List ℕ}
-    → Demand3 bs nodes₀ cells₀ r nodes₁ cells₁ → (a : Accepted bs (length nodes₀) (length cells₀)) (i : ℕ)
-    → nameOf bs (filledOf nodes₁ (r .nodes)) i ≡ nameOf bs (nodeRecords (a .derivation .tree)) i
-of-the-derivation {bs} {nodes₀} call a i =
-    let t = a .derivation .tree in
-    let y = call .yields a in
-    rw (y .node-area, y .number-of-nodes) (beyond bs (nodeRecords t) (drop (node-words * nodes t) nodes₀) (nodes t) i (node-width (a .derivation)))
+-- ---- the node after a group
+
+-- whatever the words are, it lies further on, at most at the end: a walk by it ends
+pub leads-on : (ws : List ℕ) (count i : ℕ) → i < count → (i < afterOf ws count i) × (afterOf ws count i ≤ count)
+unfolding afterOf pick
+leads-on ws count i h = whole (leb (node-words * (i + 1)) (length ws))
+  where
+    n : ℕ
+    n = sizeOf ws i
+
+    counted : (b : Bool) → leb 1 n ≡ b → (i < pick b (min (i + n) count) count) × (pick b (min (i + n) count) count ≤ count)
+    counted true e = let l = leb-true 1 n e in (omega arith, omega arith)
+    counted false e = (h, omega arith)
+
+    whole : (b : Bool) → (i < pick b (pick (leb 1 n) (min (i + n) count) count) count) × (pick b (pick (leb 1 n) (min (i + n) count) count) count ≤ count)
+    whole true = counted (leb 1 n) refl
+    whole false = (h, omega arith)
+
+-- ---- after a call of `read_member` that accepts
+
+module _ {bs nodes₀ cells₀ : List ℕ} {r : Answer} {nodes₁ cells₁ : List ℕ} (call : Demand3 bs nodes₀ cells₀ r nodes₁ cells₁) (a : Accepted bs (length nodes₀) (length cells₀)) where
+  -- the words filled are the derivation's records
+  the-records : filledOf nodes₁ (r .nodes) ≡ nodeRecords (a .derivation .tree)
+  the-records =
+      let t = a .derivation .tree in
+      let y = call .yields a in
+      rw (y .node-area, y .number-of-nodes) (only-records (nodeRecords t) (drop (node-words * nodes t) nodes₀) (nodes t) (node-width (a .derivation)))
+
+  -- a `Desk` of them has as many records as there are nodes
+  pub as-many : length (filledOf nodes₁ (r .nodes)) / node-words ≡ r .nodes
+  as-many = rw (the-records, node-width (a .derivation), call .yields a .number-of-nodes) (omega arith)
+
+  -- the names are those of the derivation's records
+  pub of-the-derivation : (i : ℕ) → nameOf bs (filledOf nodes₁ (r .nodes)) i ≡ nameOf bs (nodeRecords (a .derivation .tree)) i
+  of-the-derivation i = rw the-records
+
+  -- node j is below node i, by the parent words, exactly when it comes after i and before the node that `node_after` gives, and `after` too (`as-many`)
+  pub skips-exactly : (i j : ℕ) → i < r .nodes → let ws = filledOf nodes₁ (r .nodes) in Below ws (r .nodes) i j ↔ ((i < j) × (j < afterOf ws (r .nodes) i))
+  unfolding afterOf pick
+  skips-exactly i j h =
+      let t = a .derivation .tree in
+      let ws = nodeRecords t in
+      let n = nodes t in
+      let h′ : i < n = rw (call .yields a .number-of-nodes) at h in
+      let s = size-inside (a .derivation) i h′ in
+      let whole : node-words * (i + 1) ≤ length ws = omega (arith, node-width (a .derivation)) in
+      let z : min (i + sizeOf ws i) n ≡ i + sizeOf ws i = omega (arith, s .1) in
+      rw (the-records, call .yields a .number-of-nodes, le-leb (node-words * (i + 1)) (length ws) whole, le-leb 1 (sizeOf ws i) (s .0), z) (nodes-below (a .derivation) i j h′)

@@ -1,5 +1,5 @@
-// One member of at most 65,536 bytes on standard input; the test program's line and, if it is accepted, the name of each node: its
-// number, its length and its bytes in hexadecimal.
+// One member of at most 65,536 bytes on standard input; the test program's line and, if it is accepted, a line for each node: its number,
+// the node after it and all that is below it, the length of its name and the name's bytes in hexadecimal.
 use libc::STDIN_FILENO;
 use libc::STDOUT_FILENO;
 use report::LINE_BYTES;
@@ -27,9 +27,11 @@ fn bytes(s: &[u8]) {
     }
 }
 
-fn line(i: usize, name: &[u8]) {
+fn line(i: usize, after: usize, name: &[u8]) {
     text(b"name ");
     number(i);
+    text(b" ");
+    number(after);
     text(b" ");
     number(name.len());
     bytes(name);
@@ -39,7 +41,8 @@ fn line(i: usize, name: &[u8]) {
 fn names(s: &[u8], nodes: &[u32], count: usize) {
     let mut i = 0;
     while i < count {
-        line(i, desk::node_name(s, nodes, count, i));
+        let after = desk::node_after(nodes, count, i);
+        line(i, after, desk::node_name(s, nodes, count, i));
         i += 1;
     }
 }

@@ -8,6 +8,7 @@ use native.Mathlib.Omega.{arith}
 use lib.ListN.{length}
 use lib.Dec.{ltb}
 use borrow.Author.Tests.{ltb-true}
+use Rattle.sizes.specs.Sizes.{no-parent}
 use Rattle.layout.specs.Layout.{le, digits, spellAll, spellFill, spell, Tree, passes, suits, among, pick, Bytes, no-bytes, byte, size}
 use Rattle.layout.specs.Read.{Got, got, no, lead, read, refusal}
 use Rattle.layout.specs.Check.{check}
@@ -16,9 +17,9 @@ use Rattle.sections.specs.Sections.{HeaderFlags, HeaderNumbers, Header, Titles,
 use Rattle.once.specs.Once.{fresh, firstBad}
 use Rattle.index.specs.Index.{product}
 use Rattle.table.specs.Table.{DimProperties}
-use Rattle.table.specs.Records.{sum, nodes as categoryNodes, leafIndexes, dimNodes, dimLeaves}
+use Rattle.table.specs.Records.{sum, nodes as categoryNodes, leafIndexes, dimNodes, dimLeaves, nodeRecord, wordsAll, treeWords, dimWords, dimsWords}
 use Rattle.table.specs.Rules.{categoryRule, leavesAll, treeLeaves, leavesOf, dimensionRule, dimensionsRule, entryRule, axesRule, cellRule, cellsRule}
-use Rattle.member.specs.Member.{Member, dimensions, nodes, cells, MemberDerivation, AsDemanded}
+use Rattle.member.specs.Member.{Member, dimensions, nodes, cells, nodeRecords, MemberDerivation, AsDemanded}
 use Rattle.member.specs.Refused.{memberRule}
 use Rattle.member.specs.Checked.{ended, checked}
 use Rattle.member.specs.Laws.Demanded.{accepted}
@@ -146,8 +147,8 @@ toLine (got t r p) = accepted-with (length (dimensions t)) (nodes t) (length (ce
 toLine (no n p) = refused-at n p
 
 -- with all that it takes to compute it
-unfoldable pub line : List ℕ → Line
-unfolding toLine checked ended check read passes suits among refusal pick lead spell digits le spellAll spellFill
+unfoldable computed : List ℕ → Got (Tree Member)
+unfolding checked ended check read passes suits among refusal pick lead spell digits le spellAll spellFill
     Front Header HeaderFlags HeaderNumbers Titles Footnote Footnotes AreaFont AreaColors AreaMargins Area EightAreas
     Areas BordersContent Borders PrintSettingsContent PrintSettings BreaksContent TableFlags TableSettingsContent TableSettings
     Y0 CustomCurrency X1Start X1 X2 X1X2 X3 Formats
@@ -155,7 +156,11 @@ unfolding toLine checked ended check read passes suits among refusal pick lead s
     Form01 Form02 Form03 Form04 Form05 Form06 RawValueOf ValueIn Value
     DimProperties memberRule dimensionsRule dimensionRule categoryRule leavesOf leavesAll treeLeaves entryRule axesRule cellRule cellsRule
     fresh firstBad product sum categoryNodes size leafIndexes dimNodes dimLeaves
-line bs = toLine (checked bs)
+computed bs = checked bs
+
+unfoldable pub line : List ℕ → Line
+unfolding toLine computed
+line bs = toLine (computed bs)
 
 -- a derivation of bytes that is as demanded, with so many dimensions, nodes and cells
 pub record HasTable (bs : List ℕ) (d n c : ℕ) : Type 0 where
@@ -168,7 +173,7 @@ same-counts d n c d′ n′ c′ e = (cc, cc, cc)
 
 -- Accepted: bytes that are read so have such a derivation
 pub line-demanded : (bs : List ℕ) → Bytes bs → (d n c : ℕ) → line bs ≡ accepted-with d n c → HasTable bs d n c
-unfolding line
+unfolding line computed
 line-demanded bs b d n c e = go (checked bs) refl e
   where
     go : (x : Got (Tree Member)) → checked bs ≡ x → toLine x ≡ accepted-with d n c → HasTable bs d n c
@@ -180,5 +185,20 @@ line-demanded bs b d n c e = go (checked bs) refl e
 
 -- Example: the bytes above have a derivation as demanded, with 2 dimensions, 5 nodes and 2 cells
 pub member-demanded : HasTable member 2 5 2
-unfolding member line below256
+unfolding member line computed below256
 member-demanded = line-demanded member (are-bytes member refl) 2 5 2 refl
+
+-- the node records, where nothing is refused
+unfoldable pub nodesRead : Got (Tree Member) → List ℕ
+nodesRead (got t r p) = nodeRecords t
+nodesRead (no n p) = []
+
+-- Example: its node records, as the reader of bench/ prints them. The group contains three nodes, each leaf itself (document 02, T-07)
+pub member-nodes : nodesRead (checked member)
+    ≡ nodeRecord 1 0 no-parent 736 9 2 3
+    ++ nodeRecord 0 0 0 760 9 1 1
+    ++ nodeRecord 0 0 0 784 9 0 1
+    ++ nodeRecord 0 1 no-parent 834 9 0 1
+    ++ nodeRecord 0 1 no-parent 858 9 1 1
+unfolding member nodesRead computed wordsAll treeWords dimWords dimsWords
+member-nodes = refl

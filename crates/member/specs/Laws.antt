@@ -7,6 +7,7 @@ pub mod NoZeroInside
 pub mod RefusedBounds
 pub mod RefusedExactly
 pub mod RecordsSpelt
+pub mod NodesBelow
 pub mod NoCells
 -- the readers
 pub mod Whole

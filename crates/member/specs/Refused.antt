@@ -30,7 +30,7 @@ use Rattle.table.specs.Records.{dimsOf}
 --      an entry is no dimension or is repeated                 the entry, as soon as read      table Rules: entryRule
 -- 10   cell index not below the product, or seen before        that index, as soon as read     table Rules: cellRule
 -- 11   bytes left at the end                                   first of them                   left, below
--- 12   node area shorter than 6 words a node                   0                               few-node-words, below
+-- 12   node area shorter than 7 words a node                   0                               few-node-words, below
 -- 13   cell area shorter than 3 words a cell                   0                               few-cell-words, below
 -- 18   a zero byte inside a string (document 02, T-06)         its first length byte           layout Fails: string-wrong
 

@@ -37,9 +37,9 @@ most-places = 2 ^ 32 - 1
 
 -- ---- document 01, "What the caller gets"
 
--- "Node, 6 words"
+-- "Node, 6 words"; "Add a seventh word to each node record" (document 02, T-07)
 abbrev pub node-words : ℕ
-node-words = 6
+node-words = 7
 
 -- "Cell, 3 words"
 abbrev pub cell-words : ℕ
@@ -49,7 +49,11 @@ cell-words = 3
 abbrev pub dimension-words : ℕ
 dimension-words = 4
 
--- the words of a node record: "place and length of the name Value", "leaf index or number of direct children"
+-- the words of a node record: "number of the parent node", "place and length of the name Value", "leaf index or number of direct children",
+-- and "how many nodes it contains at any depth, itself included" (document 02, T-07)
+abbrev pub node-parent : ℕ
+node-parent = 2
+
 abbrev pub name-place : ℕ
 name-place = 3
 
@@ -58,6 +62,9 @@ name-length = 4
 
 abbrev pub leaf-index : ℕ
 leaf-index = 5
+
+abbrev pub node-size : ℕ
+node-size = 6
 
 -- the word of a dimension's entry that is its n
 abbrev pub dimension-n : ℕ
@@ -85,6 +92,12 @@ dimension-area = dimension-words * most-dimensions
 -- an answer as words: eight numbers, the entries of the dimensions and the axis order
 abbrev pub answer-words : ℕ
 answer-words = 8 + dimension-area + most-dimensions
+
+-- ---- the interface for C
+
+-- its version, which the header has too: 2 since a node record has seven words (our rule)
+abbrev pub abi : ℕ
+abi = 2
 
 -- ---- looks
 

@@ -21,17 +21,20 @@ pub const MOST_PLACES: u64 = 4294967295;
 
 // ---- document 01, "What the caller gets"
 
-pub const NODE_WORDS: usize = 6;
+// of a node: seven with how many nodes it contains (document 02, T-07)
+pub const NODE_WORDS: usize = 7;
 
 pub const CELL_WORDS: usize = 3;
 // of a dimension: the place and length of its name, its n and its first node
 pub const DIMENSION_WORDS: usize = 4;
-// the words of a node record: of its name, of a leaf's index or the number of direct children
+// the words of a node record: of its name, of a leaf's index or the number of direct children, of how many nodes it contains
 pub const NAME_PLACE: usize = 3;
 
 pub const NAME_LENGTH: usize = 4;
 
 pub const LEAF_INDEX: usize = 5;
+
+pub const NODE_SIZE: usize = 6;
 // the word of a dimension's entry that is its n
 pub const DIMENSION_N: usize = 2;
 // the parent of a node that has none
@@ -50,6 +53,11 @@ pub const DIMENSION_AREA: usize = DIMENSION_WORDS * MOST_DIMENSIONS;
 
 // an answer as words: eight numbers, the entries of the dimensions and the axis order
 pub const ANSWER_WORDS: usize = 8 + DIMENSION_AREA + MOST_DIMENSIONS;
+
+// ---- the interface for C
+
+// its version, which the header has too: 2 since a node record has seven words (our rule)
+pub const ABI: u32 = 2;
 
 // ---- looks
 

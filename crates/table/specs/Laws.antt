@@ -3,6 +3,7 @@
 pub mod Lengths
 pub mod LeastBytes
 pub mod RecordsPoint
+pub mod Groups
 -- the rules
 pub mod KeptTable
 pub mod RuleBounds

@@ -103,19 +103,20 @@ unfoldable pub wordsAll : {A : Type 0} → (A → ℕ) → (A → ℕ) → (ℕ 
 wordsAll count size f used at [] = []
 wordsAll count size f used at (t ∷ ts) = f used at t ++ wordsAll count size f (used + count t) (at + size t) ts
 
--- the words of a node: 0 leaf or 1 group; dimension; parent; place and length of the name; leaf index or children
-abbrev pub nodeRecord : ℕ → ℕ → ℕ → ℕ → ℕ → ℕ → List ℕ
-nodeRecord kind dim par place long word = kind ∷ dim ∷ par ∷ place ∷ long ∷ word ∷ []
+-- the words of a node: 0 leaf or 1 group; dimension; parent; place and length of the name; leaf index or children; and (02, T-07) how many
+-- nodes it contains at any depth, itself included
+abbrev pub nodeRecord : ℕ → ℕ → ℕ → ℕ → ℕ → ℕ → ℕ → List ℕ
+nodeRecord kind dim par place long word many = kind ∷ dim ∷ par ∷ place ∷ long ∷ word ∷ many ∷ []
 
--- those of a category at the place `at`
-abbrev pub nodeWords : ℕ → ℕ → ℕ → Tree Head → List ℕ
-nodeWords dim par at h = nodeRecord (kindOf h) dim par at (size Value (headName h)) (wordOf h)
+-- those of a category at the place `at` that contains so many nodes
+abbrev pub nodeWords : ℕ → ℕ → ℕ → ℕ → Tree Head → List ℕ
+nodeWords dim par at many h = nodeRecord (kindOf h) dim par at (size Value (headName h)) (wordOf h) many
 
 -- the records of a category at the place `at` whose node has the number `used`, in file order
 unfoldable pub treeWords : (d dim par used at : ℕ) → Tree (CategoryIn d) → List ℕ
 treeWords zero dim par used at t = []
 treeWords (suc d) dim par used at t =
-    nodeWords dim par at (front d t)
+    nodeWords dim par at (nodes (suc d) t) (front d t)
     ++ wordsAll (nodes d) (size (CategoryIn d)) (treeWords d dim used) (used + 1) (at + size Head (front d t)) (children d t)
 
 -- ---- leaves

@@ -25,6 +25,7 @@ use layout::number::field;
 use layout::number::fixed;
 use layout::number::peek;
 use sizes::MOST_NODES;
+use sizes::NODE_SIZE;
 use sizes::NODE_WORDS;
 use value::value;
 
@@ -89,16 +90,18 @@ fn store_node(
     place: u32,
     size: u32,
     word: u32,
+    many: u32,
 )
     requires { ⌜ i < most-nodes ⌝ }
-    ensures { λ _. ⌜ now (nodes .exit) ≡ sets (now (nodes .entry)) (node-words * i) (nodeRecord kind dimension parent place size word) ⌝ }
+    ensures { λ _. ⌜ now (nodes .exit) ≡ sets (now (nodes .entry)) (node-words * i) (nodeRecord kind dimension parent place size word many) ⌝ }
 {
     let at = NODE_WORDS * i;
     put_three(nodes, at, kind, dimension, parent);
     put_three(nodes, at + 3, place, size, word);
+    put(nodes, at + NODE_SIZE, many);
 }
 
-// The length of what lies from a to e, as a word.
+// How many lie from a up to e, as a word.
 pub fn length(a: usize, e: usize) -> u32
     ensures { λ r. ⌜ r ≡ word32 (e - a) ⌝ }
 {
@@ -173,7 +176,8 @@ fn head(s: &[u8], at: usize) -> NodeStart
 
 // ---- categories
 
-// A category, `depth` levels of which are allowed, and its nodes from the number `used` on.
+// A category, `depth` levels of which are allowed, and its nodes from the number `used` on. Its own record is stored once those below it
+// are read, since it says how many nodes they are.
 fn category(
     s: &[u8],
     at: usize,
@@ -194,20 +198,34 @@ fn category(
     }
     match head(s, at) {
         NodeStart::Refused(r, p) => Walk::Refused(r, p),
-        NodeStart::Node(kind, size, word, children, next) => {
-            let place = (at % 4294967296) as u32;
-            store_node(nodes, used, kind, dimension, parent, place, size, word);
-            categories(
-                s,
-                next,
-                depth - 1,
-                dimension,
-                used as u32,
-                children,
-                used + 1,
-                nodes,
-            )
-        }
+        NodeStart::Node(kind, size, word, children, next) => match categories(
+            s,
+            next,
+            depth - 1,
+            dimension,
+            used as u32,
+            children,
+            used + 1,
+            nodes,
+        ) {
+            Walk::Refused(r, p) => Walk::Refused(r, p),
+            Walk::On(p, u) => {
+                let place = (at % 4294967296) as u32;
+                let many = length(used, u);
+                store_node(
+                    nodes,
+                    used,
+                    kind,
+                    dimension,
+                    parent,
+                    place,
+                    size,
+                    word,
+                    many,
+                );
+                Walk::On(p, u)
+            }
+        },
     }
 }
 

@@ -8,5 +8,5 @@ pub names-spec : {M : Type 1} → statement M
 names-spec =
     tie.close
     (tie.spec
-    (λ s nodes count i₀ i. Unit {0}) (λ s nodes count i₀ i. count - i) (λ c. tt) (λ _ _. tt) (λ _ _. tt) (λ c. omega arith)
+    (λ s nodes count i₀ i. Unit {0}) (λ s nodes count i₀ i. count - i) (λ c. tt) (λ _ _. tt) (λ _ _. tt) (λ _ _. tt) (λ c. omega arith)
     (λ c. omega arith) (λ c. tt) (λ c. tt))

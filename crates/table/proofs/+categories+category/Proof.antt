@@ -6,7 +6,7 @@ use borrow.Fn.Kinds.{In}
 use borrow.Fn.PlainCycle.{Measures, is, falls, and}
 use lib.ListN.{length}
 use Rattle.table.specs.Laws.Heads.{head-off}
-use Rattle.table.specs.Laws.Nodes.{Walking, walking, walks-on, walks-off, walks-to, too-deep, one-too-many, no-head, with-head}
+use Rattle.table.specs.Laws.Nodes.{Walking, walking, walks-on, walks-off, walks-to, stored, not-stored, too-deep, one-too-many, no-head, with-head}
 use Rattle.table.proofs.categories.Reads as categories
 use Rattle.table.proofs.categories.Kinds as categories-kinds
 use Rattle.table.proofs.+categories+category.Lts-categories as categories-lts
@@ -14,6 +14,7 @@ use Rattle.table.proofs.category.Reads as category
 use Rattle.table.proofs.category.Kinds as category-kinds
 use Rattle.table.proofs.+categories+category.Lts-category as category-lts
 use Rattle.table.proofs.head.Reads as head-reads
+use Rattle.table.proofs.length.Reads as length-reads
 use Rattle.table.proofs.store_node.Reads as store-node-reads
 use Rattle.table.proofs.+categories+category.{statement}
 use Rattle.table.proofs.+categories+category.Tie.{close}
@@ -61,16 +62,16 @@ pub +categories+category-spec : {M : Type 1} → statement M
     (λ c. omega arith)
     (λ c. walks-to _ _ _ _ _ _ _ _ (c .before .loop .inv .1) (omega arith)))
     (λ t.
-    category-lts.spec (head-reads.Asked, head-reads.Learnt, store-node-reads.Asked, store-node-reads.Learnt, categories-below t, categories.Post) (category-at t) category.Post
+    category-lts.spec (head-reads.Asked, head-reads.Learnt, categories-below t, categories.Post, length-reads.Asked, length-reads.Learnt, store-node-reads.Asked, store-node-reads.Learnt) (category-at t) category.Post
     (λ c. rw (c .if1 .taken) (too-deep 0 _ _ _ _ _ _))
     (λ c.
     let a = c .before .before .before .before .args in
     let e : a .depth ≡ suc (a .depth - 1) = omega arith in
     rw e (one-too-many (a .depth - 1) (a .s .now) (a .dimension) (a .parent) (a .at) (a .used) (a .nodes .now) (c .if2 .taken)))
-    (λ c κs. omega arith) (λ c. search needs) (λ c. search needs) (λ c. search needs)
-    (λ c κs. omega arith) (λ c. omega arith) (λ c. omega arith)
-    (λ c. omega arith)
+    (λ c κs. omega arith) (λ c. search needs) (λ c. search needs)
+    (λ c. omega arith) (λ c. omega arith) (λ c. omega arith)
     (λ c κs. (omega arith, (omega arith, omega arith)))
+    (λ c. search needs) (λ c. search needs) (λ c. search needs) (λ _ _. tt) (λ c κs. omega arith)
     (λ c.
     let h = c .before .before .before in
     let a = h .before .before .before .before .before .args in
@@ -78,13 +79,24 @@ pub +categories+category-spec : {M : Type 1} → statement M
     rw e (no-head (a .depth - 1) (a .s .now) (a .dimension) (a .parent) (a .at) (a .used) (a .nodes .now) (h .before .if2 .left) (head-off (h .head .ensures) (c .before .r .given .1))))
     (λ c. omega arith)
     (λ c.
-    let k = c .before .before in
-    let p₁ = k .before .before .before .before in
-    let f = p₁ .before .before .before in
-    let v = f .kind .given .0 in
+    let k = c .before .before .before .before .before in
+    let f = k .before .before .before in
     let h = f .before .before in
     let a = h .before .before .before .before .before .args in
     let e : a .depth ≡ suc (a .depth - 1) = omega arith in
     let small : length (a .s .now) < 2 ^ 32 = omega (arith, h .before .before .before .before .before .pre .1 .0) in
     rw e (with-head (a .depth - 1) (a .s .now) (a .dimension) (a .parent) (a .at) (a .used) (a .nodes .now) small (h .before .if2 .left) (rw (f .kind .given .1) at (h .head .ensures)) refl
-    (p₁ .store-node .ensures) (k .categories .ensures))))
+    (rw (c .before .r2 .given .1) at (k .categories .ensures)) not-stored))
+    (λ c. omega arith)
+    (λ c.
+    let q = c .before .before in
+    let n = q .before .before in
+    let p = n .before .before in
+    let k = p .before .before .before .before in
+    let f = k .before .before .before in
+    let h = f .before .before in
+    let a = h .before .before .before .before .before .args in
+    let e : a .depth ≡ suc (a .depth - 1) = omega arith in
+    let small : length (a .s .now) < 2 ^ 32 = omega (arith, h .before .before .before .before .before .pre .1 .0) in
+    rw e (with-head (a .depth - 1) (a .s .now) (a .dimension) (a .parent) (a .at) (a .used) (a .nodes .now) small (h .before .if2 .left) (rw (f .kind .given .1) at (h .head .ensures)) refl
+    (rw (p .p .given .1) at (k .categories .ensures)) (stored (rw (n .length .ensures) at (q .store-node .ensures))))))

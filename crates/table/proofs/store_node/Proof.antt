@@ -11,9 +11,11 @@ pub store-node-spec : {M : Type 1} → statement M
 store-node-spec =
     tie.close
     (tie.spec
-    (λ c. omega arith) (λ _ _. tt) (λ c. omega arith) (λ _ _. tt) (λ c. search needs)
+    (λ c. omega arith) (λ _ _. tt) (λ c. omega arith) (λ _ _. tt) (λ c. omega arith) (λ _ _. tt) (λ c. search needs)
     (λ c.
-    let k = c .before .before in
+    let z = c .before .before in
+    let k = z .before .before .before .before in
     let p = k .before .before .before .before in
     let a = p .before .before .before .args in
-    sets-then (a .kind ∷ a .dimension ∷ a .parent ∷ []) (a .place ∷ a .size ∷ a .word ∷ []) (a .nodes .now) (node-words * a .i) (p .put-three .ensures) (k .put-three2 .ensures)))
+    let six = sets-then (a .kind ∷ a .dimension ∷ a .parent ∷ []) (a .place ∷ a .size ∷ a .word ∷ []) (a .nodes .now) (node-words * a .i) (p .put-three .ensures) (k .put-three2 .ensures) in
+    sets-then (a .kind ∷ a .dimension ∷ a .parent ∷ a .place ∷ a .size ∷ a .word ∷ []) (a .many ∷ []) (a .nodes .now) (node-words * a .i) six (z .put .ensures)))

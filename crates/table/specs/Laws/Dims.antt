@@ -245,7 +245,7 @@ pub record Dims (at : ℕ) (x : Kept) (ts : List (Tree Dimension)) (p : ℕ) (y 
   pub words : y .words ≡ sets (x .words) (node-words * x .used) (dimsWords (x .number) (x .used) at ts)
   pub entries : y .entries ≡ sets (x .entries) (dimension-words * x .number) (dimsEntries (x .used) at ts)
 
-width-dim : (i used at : ℕ) (t : Tree Dimension) → length (dimWords i used at t) ≡ node-words * dimNodes t
+pub width-dim : (i used at : ℕ) (t : Tree Dimension) → length (dimWords i used at t) ≡ node-words * dimNodes t
 unfolding dimWords dimNodes
 width-dim i used at t =
     width-all (nodes category-depth) (size Category) (treeWords category-depth i no-parent) (width-tree category-depth i no-parent) used (at + size (Value ▸ DimProperties) (dimOwn t) + 4) (dimCategories t)

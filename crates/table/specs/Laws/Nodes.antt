@@ -1,7 +1,7 @@
 -- What the walk over categories keeps: the number of nodes so far, and their words.
 use mathlib.Core.Path.{_≡_, refl, ap, _∙_}
-use mathlib.Core.List.{List, [], _∷_}
-use Prim.Native.Nat.{ℕ, zero, suc, _+_, _*_, _^_, _≤_, _<_}
+use mathlib.Core.List.{List, [], _∷_, _++_}
+use Prim.Native.Nat.{ℕ, zero, suc, _+_, _-_, _*_, _^_, _≤_, _<_}
 use native.Mathlib.Omega.{arith}
 use native.Mathlib.Nat.{sub-zero}
 use lib.ListN.{length, drop, length-append, length-drop}
@@ -28,7 +28,7 @@ use Rattle.table.specs.Table.{KindOf, CategoryIn}
 use Rattle.table.specs.Records.{Head, belowOf, sum, nodes, wordsAll, nodeWords, treeWords, nodeRecord}
 use Rattle.table.specs.Rules.{kindRule, nodeRule, categoryRule, categoriesRule}
 use Rattle.table.specs.Laws.Lengths.{size-category}
-use Rattle.table.specs.Laws.Words.{sets-append, width-tree}
+use Rattle.table.specs.Laws.Words.{sets-append, sets-before, width-tree}
 use Rattle.table.specs.Laws.Heads.{HeadRead, head-there}
 
 -- an answer of the code, and the node words with it
@@ -94,37 +94,52 @@ inside {s} small {at} q =
     let l = simp (length-append, digits-length) at (ap length (q .spelt)) in
     word-same at (omega (arith, length-drop at s, l))
 
+-- what the categories below a node gave, and then with the node's own words, once it is known how many nodes there are
+pub data Stored (used : ℕ) (own : ℕ → List ℕ) : Out (ℕ × List ℕ) → Out (ℕ × List ℕ) → Type 0 where
+  stored : {p : ℕ} {y : ℕ × List ℕ} {ms : List ℕ} → ms ≡ sets (y .1) (node-words * used) (own (word32 (y .0 - used))) → Stored used own (on p y) (on p (y .0, ms))
+  not-stored : {n p : ℕ} → Stored used own (off n p) (off n p)
+
 module _ (d : ℕ) (s : List ℕ) (dim par at used : ℕ) (ns : List ℕ) where
   abbrev next : List (Tree (CategoryIn d)) → Rule (CategoryIn d)
   next done = categoryRule d (used + 1 + sum (nodes d) done)
 
-  -- a node's own words, and then those of the categories below it
-  joined : (h : Tree Head) {p : ℕ} {ms : List ℕ} → p ≡ at + size Head h → ms ≡ sets ns (node-words * used) (nodeWords dim par at h) → used < most-nodes
-      → {y : Got (List (Tree (CategoryIn d)))} {o : Out (ℕ × List ℕ)} → check (items {n = belowOf h} next) (drop p s) p ≡ y → Keeps s (Each (Node d dim used) p (used + 1, ms)) y o
-      → Keeps s (Node (suc d) dim par at (used, ns)) (bind y (λ ts s₁ at₁. got (join d h ts) s₁ at₁)) o
+  -- the words are the node's own, and then those of the categories below it
+  own-first : (h : Tree Head) {p q : ℕ} {ts : List (Tree (CategoryIn d))} {z : ℕ × List ℕ} {ms : List ℕ} → p ≡ at + size Head h → z .0 ≤ most-nodes → Nodes d dim used p (used + 1, ns) ts q z
+      → ms ≡ sets (z .1) (node-words * used) (nodeWords dim par at (word32 (z .0 - used)) h)
+      → ms ≡ sets ns (node-words * used) (nodeWords dim par at (1 + sum (nodes d) ts) h ++ wordsAll (nodes d) (size (CategoryIn d)) (treeWords d dim used) (used + 1) (at + size Head h) ts)
+  own-first h {p} {q} {ts} {z} e few w own =
+      let n : z .0 - used ≡ 1 + sum (nodes d) ts = omega (arith, w .count) in
+      let many : word32 (z .0 - used) ≡ 1 + sum (nodes d) ts = ap word32 n ∙ word-same (1 + sum (nodes d) ts) (omega (arith, w .count)) in
+      let next : node-words * (used + 1) ≡ node-words * used + node-words = omega arith in
+      own ∙ rw (many, w .words, e) (sets-before (nodeWords dim par at (1 + sum (nodes d) ts) h) (wordsAll (nodes d) (size (CategoryIn d)) (treeWords d dim used) (used + 1) (at + size Head h) ts) ns (node-words * used) (node-words * (used + 1)) next)
+
+  joined : (h : Tree Head) {p : ℕ} → p ≡ at + size Head h → used < most-nodes
+      → {y : Got (List (Tree (CategoryIn d)))} {o o′ : Out (ℕ × List ℕ)} → check (items {n = belowOf h} next) (drop p s) p ≡ y → Keeps s (Each (Node d dim used) p (used + 1, ns)) y o
+      → Stored used (λ many. nodeWords dim par at many h) o o′ → Keeps s (Node (suc d) dim par at (used, ns)) (bind y (λ ts s₁ at₁. got (join d h ts) s₁ at₁)) o′
   unfolding bind nodes treeWords check checkTimes sum wordsAll
-  joined (m, (zero, t)) {p} {ms} e₁ e₂ l c (keeps-on {t = ts} {r = r} {p = q} {x = z} e k) =
-      let w : Nodes d dim used p (used + 1, ms) ts q z = all-nodes k in
+  joined (m, (zero, t)) {p} e₁ l c (keeps-on {t = ts} {r = r} {p = q} {x = z} e k) (stored {ms = ms} own) =
+      let w : Nodes d dim used p (used + 1, ns) ts q z = all-nodes k in
       let c′ : got [] (drop p s) p ≡ got ts r q = c in
       let none : ts ≡ [] = cc in
-      let w′ : Nodes d dim used p (used + 1, ms) [] q z = rw none at w in
-      keeps-on {t = (m, (zero, t))} {p = q} {x = z} e record {
+      let w′ : Nodes d dim used p (used + 1, ns) [] q z = rw none at w in
+      let few : z .0 ≤ most-nodes = w .few (omega arith) in
+      keeps-on {t = (m, (zero, t))} {p = q} {x = (z .0, ms)} e record {
         place = omega (arith, size-category d (m, (zero, t)), w′ .place, e₁);
         count = omega (arith, w′ .count);
-        few = w .few (omega arith);
-        words = w′ .words ∙ e₂;
+        few = few;
+        words = own-first (m, (zero, t)) e₁ few w′ own;
       }
-  joined (m, (suc k, (t, (n, u)))) {p} {ms} e₁ e₂ l c (keeps-on {t = ts} {p = q} {x = z} e v) =
-      let w : Nodes d dim used p (used + 1, ms) ts q z = all-nodes v in
+  joined (m, (suc k, (t, (n, u)))) {p} e₁ l c (keeps-on {t = ts} {p = q} {x = z} e v) (stored {ms = ms} own) =
+      let w : Nodes d dim used p (used + 1, ns) ts q z = all-nodes v in
       let tree : Tree (CategoryIn (suc d)) = (m, (suc k, (t, (n, ts)))) in
-      let next : node-words * used + node-words ≡ node-words * (used + 1) = omega arith in
-      keeps-on {t = tree} {p = q} {x = z} e record {
+      let few : z .0 ≤ most-nodes = w .few (omega arith) in
+      keeps-on {t = tree} {p = q} {x = (z .0, ms)} e record {
         place = omega (arith, size-category d tree, w .place, e₁);
         count = omega (arith, w .count);
-        few = w .few (omega arith);
-        words = w .words ∙ rw (sets-append, next, ← e₂, ← e₁);
+        few = few;
+        words = own-first (m, (suc k, (t, (n, u)))) e₁ few w own;
       }
-  joined h e₁ e₂ l c keeps-off = keeps-off
+  joined h e₁ l c keeps-off not-stored = keeps-off
 
   -- too deep, or one node too many
   pub too-deep : Keeps s (Node 0 dim par at (used, ns)) (check (categoryRule 0 used) (drop at s) at) (off 7 at)
@@ -142,13 +157,13 @@ module _ (d : ℕ) (s : List ℕ) (dim par at used : ℕ) (ns : List ℕ) where
 
   -- the code's words of a node are those of the head
   pub with-head : length s < 2 ^ 32 → used < most-nodes → {y : Got (Tree Head)} {kind z word n p : ℕ} → HeadRead s at y (start.Node kind z word n p) → read Head (drop at s) at ≡ y
-      → {ms : List ℕ} → ms ≡ sets ns (node-words * used) (nodeRecord kind dim par (word32 at) z word) → {o : Out (ℕ × List ℕ)}
-      → Keeps s (Each (Node d dim used) p (used + 1, ms)) (check (categoriesRule d (used + 1) n) (drop p s) p) o
-      → Keeps s (Node (suc d) dim par at (used, ns)) (check (categoryRule (suc d) used) (drop at s) at) o
+      → {o o′ : Out (ℕ × List ℕ)} → Keeps s (Each (Node d dim used) p (used + 1, ns)) (check (categoriesRule d (used + 1) n) (drop p s) p) o
+      → Stored used (λ many. nodeRecord kind dim par (word32 at) z word many) o o′
+      → Keeps s (Node (suc d) dim par at (used, ns)) (check (categoryRule (suc d) used) (drop at s) at) o′
   unfolding categoryRule check pick bind
-  with-head small l (head-there {h = h} f) e {ms} m k =
-      let w : ms ≡ sets ns (node-words * used) (nodeWords dim par at h) = rw (inside small f) at m in
-      rw (lt-ltb used most-nodes l, check-node d next (drop at s) at, e) (joined h (f .place) w l refl k)
+  with-head small l (head-there {h = h} f) e {o} {o′} k own =
+      let w : Stored used (λ many. nodeWords dim par at many h) o o′ = rw (inside small f) at own in
+      rw (lt-ltb used most-nodes l, check-node d next (drop at s) at, e) (joined h (f .place) l refl k w)
 
 -- ---- categories, one after the other
 

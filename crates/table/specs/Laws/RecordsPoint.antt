@@ -124,7 +124,7 @@ tree-point s zero dim par used at t r e = no-records
 tree-point s (suc d) dim par used at t r e =
     let below = spellAll (spell (CategoryIn d)) (children d t) in
     let h : drop at s ≡ spell Head (front d t) ++ (below ++ r) = e ∙ (ap (λ (xs : List ℕ). xs ++ r) (spell-category d t) ∙ append-assoc (spell Head (front d t)) below r) in
-    one-record (nodeWords dim par at (front d t)) refl (node-point s at (front d t) (below ++ r) h)
+    one-record (nodeWords dim par at (nodes (suc d) t) (front d t)) refl (node-point s at (front d t) (below ++ r) h)
     (all-point s (CategoryIn d) (treeNames d) (nodes d) (treeWords d dim used) (λ u a x q k. tree-point s d dim used u a x q k)
     (used + 1) (at + size Head (front d t)) (children d t) r (after s at (spell Head (front d t)) (below ++ r) h))
 

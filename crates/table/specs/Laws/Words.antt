@@ -1,11 +1,12 @@
 -- Words of records: where they are stored, and how many there are.
 use mathlib.Core.Path.{_≡_, refl, sym, ap, _∙_}
+use mathlib.Core.Logic.{_≢_}
 use mathlib.Core.List.{List, [], _∷_, _++_, append-assoc}
-use Prim.Native.Nat.{ℕ, zero, suc, _+_, _*_, _≤_}
+use Prim.Native.Nat.{ℕ, zero, suc, _+_, _*_, _≤_, _<_}
 use native.Mathlib.Nat.{mul-zero, mul-suc, add-comm}
 use native.Mathlib.Omega.{arith}
 use lib.ListN.{length, drop, take, set, length-append}
-use lib.Seq.{sets, sets-eq, drop-at, length-take-le}
+use lib.Seq.{sets, sets-eq, set-comm, drop-at, length-take-le}
 use Rattle.sizes.specs.Sizes.{node-words}
 use Rattle.layout.specs.Layout.{Tree, size}
 use Rattle.table.specs.Table.{CategoryIn}
@@ -39,6 +40,17 @@ four-sets ws i a b c d = rw (three-sets ws i a b c) (sym (sets-append (a ∷ b �
 -- some words, and others after them
 pub sets-then : (xs ys ws : List ℕ) (i : ℕ) {vs us : List ℕ} → vs ≡ sets ws i xs → us ≡ sets vs (i + length xs) ys → us ≡ sets ws i (xs ++ ys)
 sets-then xs ys ws i h k = k ∙ rw h (sym (sets-append xs ys ws i))
+
+-- words before others, stored after them
+set-before : (ws l : List ℕ) (i j v : ℕ) → i < j → set (sets l j ws) i v ≡ sets (set l i v) j ws
+set-before [] l i j v h = refl
+set-before (w ∷ ws) l i j v h =
+    let apart : j ≢ i = λ e. omega arith in
+    set-before ws (set l j w) i (suc j) v (omega arith) ∙ rw (set-comm l j i w v apart)
+
+pub sets-before : (vs ws l : List ℕ) (i j : ℕ) → j ≡ i + length vs → sets (sets l j ws) i vs ≡ sets l i (vs ++ ws)
+sets-before [] ws l i j e = let e′ : j ≡ i = omega arith in rw e′
+sets-before (v ∷ vs) ws l i j e = rw (set-before ws l i j v (omega arith)) (sets-before vs ws (set l i v) (suc i) j (omega arith))
 
 pub drop-sets : (ns ws : List ℕ) (i : ℕ) → i + length ws ≤ length ns → drop i (sets ns i ws) ≡ ws ++ drop (i + length ws) ns
 drop-sets ns ws i h =
