@@ -1,5 +1,5 @@
 // The member and its filled node area, kept together (01, "What the caller gets"). The functions over `Desk` are thin and proved by
-// hand; the work is in `filled` and `name_of`, which take slices.
+// hand; the work is in `filled`, `name_of` and `after_of`, which take slices.
 ghost use mathlib.Core.Path.{_≡_};
 ghost use Prim.Native.Nat.{_/_};
 ghost use lib.ListN.{length};
