@@ -33,7 +33,8 @@ pub fn member_with_cells(indexes: &[u64]) -> Vec<u8> {
 /// The places of the table of `member_with_large_indexes`.
 pub const LARGE_PLACES: u64 = 3 << 30;
 
-/// A member with a table of 16 dimensions, which has `LARGE_PLACES` places, and cells with these indexes.
+/// A member with a table of 16 dimensions, which has `LARGE_PLACES` places, and cells with these
+/// indexes.
 pub fn member_with_large_indexes(indexes: &[u64]) -> Vec<u8> {
     let mut leaves = [4; 16];
     leaves[0] = 3;

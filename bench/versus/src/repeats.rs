@@ -8,7 +8,8 @@ use crate::large::{
 /// with some of its index; and the same of the cell before.
 pub const CUT_BYTES: [usize; 6] = [0, 1, 14, 15, 23, 36];
 
-/// The numbers of cells: those at which the test of repeats goes another way, and ones next to them.
+/// The numbers of cells: those at which the test of repeats goes another way, and ones next to
+/// them.
 const NUMBERS_OF_CELLS: [u64; 9] = [2, 16, 17, 32, 33, 34, 512, 513, 4_096];
 
 /// Large indexes in no order, where none repeats another or one does; and the same with an index
