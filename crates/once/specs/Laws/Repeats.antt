@@ -159,5 +159,5 @@ module _ (step : ℕ) (ws : List ℕ) (n k x : ℕ) (marks : List ℕ) (v : Mark
 -- with the number of marks, the look for its mark, the store of its mark
 pub record ByMarks (w : ℕ → ℕ) (m : ℕ) (small : Bool) (at steps : ℕ) : Type 0 where
   pub few : steps ≤ 3 * m
-  pub exact : 3 * at < steps + 1
+  pub counted : 3 * at ≤ steps
   pub found : small ≡ true → Answered w m 3 at steps

@@ -23,7 +23,7 @@ by-marks-spec =
     (λ c. (refl, omega arith, omega arith, c .before .before .pre .2, none-new _))
     (λ c κs. omega arith) (λ c. omega arith) (λ c. omega arith)
     (λ c. c .before .before .before .loop .inv .0)
-    (λ c. record { few = omega arith; exact = omega arith; found = λ e. absurd (false≢true e) })
+    (λ c. record { few = omega arith; counted = omega arith; found = λ e. absurd (false≢true e) })
     (λ c. omega arith) (λ c. omega arith)
     (λ c. c .before .before .before .before .before .loop .inv .0)
     (λ c.
@@ -32,7 +32,7 @@ by-marks-spec =
     let b = marked-old _ _ _ _ _ _ (l .loop .inv .3) (a .nth .ensures) (omega arith) (c .if2 .taken) in
     record {
       few = omega arith;
-      exact = omega arith;
+      counted = omega arith;
       found = λ _. record { first = found-at _ _ _ (l .loop .inv .4) (omega arith) b; few = omega arith; counted = omega arith };
     })
     (λ c. omega arith) (λ c. omega arith) (λ c. omega arith) (λ c. omega arith)
@@ -50,6 +50,6 @@ by-marks-spec =
     (λ c.
     record {
       few = omega arith;
-      exact = omega arith;
+      counted = omega arith;
       found = λ _. record { first = none-found _ _ _ (c .before .loop .inv .4) (omega arith); few = omega arith; counted = omega arith };
     }))
