@@ -1,10 +1,9 @@
 //! Cells.
 
-use std::collections::HashSet;
-
 use crate::cursor::{Cursor, Span};
 use crate::limits::CELLS;
 use crate::refusal::*;
+use crate::seen::Seen;
 use crate::value::value;
 
 pub struct Cell {
@@ -22,11 +21,11 @@ pub fn cells(cursor: &mut Cursor, table_places: u64) -> Result<Vec<Cell>, Refusa
     let place = cursor.place();
     let count = cursor.int32()?;
     refuse_if(count > CELLS, LIMIT, place)?;
-    let mut seen = HashSet::with_capacity(count as usize);
+    let mut seen = Seen::none(count, table_places);
     (0..count).map(|_| cell(cursor, table_places, &mut seen)).collect()
 }
 
-fn cell(cursor: &mut Cursor, table_places: u64, seen: &mut HashSet<u64>) -> Result<Cell, Refusal> {
+fn cell(cursor: &mut Cursor, table_places: u64, seen: &mut Seen) -> Result<Cell, Refusal> {
     let place = cursor.place();
     let index = cursor.int64()?;
     let bad = index >= table_places || !seen.insert(index);

@@ -16,6 +16,7 @@ pub mod parts;
 pub mod random;
 pub mod refusal;
 pub mod sections;
+pub mod seen;
 pub mod stored_looks;
 pub mod titles;
 pub mod units;

@@ -1,5 +1,8 @@
 //! Made members of a chosen size.
 
+use std::collections::HashSet;
+use std::iter;
+
 use digarumbi_bench::encode::{count, int32, int32s, int64, list, string};
 use digarumbi_bench::parts::*;
 use digarumbi_bench::random::Random;
@@ -15,11 +18,27 @@ fn number(x: f64) -> Vec<u8> {
     [vec![0x01, 0x58], int32(0x0005_2802), x.to_bits().to_le_bytes().to_vec()].concat()
 }
 
-/// A member with a table of 64 by 64 and cells with these indexes, each with a number.
-pub fn member_with_cells(indexes: &[u64]) -> Vec<u8> {
+/// A member with a table of these dimensions and cells with these indexes, each with a number.
+fn table_with_cells(leaves: &[u32], indexes: &[u64]) -> Vec<u8> {
     let cells: Vec<Vec<u8>> =
         indexes.iter().map(|&index| [int64(index), number(index as f64)].concat()).collect();
-    table(&[64, 64], &[]).with(Section::Cells, list(&cells)).bytes()
+    table(leaves, &[]).with(Section::Cells, list(&cells)).bytes()
+}
+
+/// A member with a table of 64 by 64 and cells with these indexes.
+pub fn member_with_cells(indexes: &[u64]) -> Vec<u8> {
+    table_with_cells(&[64, 64], indexes)
+}
+
+/// The places of the table of `member_with_large_indexes`.
+pub const LARGE_PLACES: u64 = 3 << 30;
+
+/// A member with a table of 16 dimensions, which has `LARGE_PLACES` places, and cells with these
+/// indexes.
+pub fn member_with_large_indexes(indexes: &[u64]) -> Vec<u8> {
+    let mut leaves = [4; 16];
+    leaves[0] = 3;
+    table_with_cells(&leaves, indexes)
 }
 
 /// Indexes from 0 on, in ascending order.
@@ -32,6 +51,21 @@ pub fn shuffled(cells: u64) -> Vec<u64> {
     let mut indexes = ascending(cells);
     Random::new(1).shuffle(&mut indexes);
     indexes
+}
+
+/// Different indexes below `LARGE_PLACES`, in no order.
+pub fn large_unordered(cells: u64) -> Vec<u64> {
+    let mut random = Random::new(2);
+    let mut seen = HashSet::new();
+    iter::repeat_with(|| random.below(LARGE_PLACES))
+        .filter(|&index| seen.insert(index))
+        .take(cells as usize)
+        .collect()
+}
+
+/// Different indexes in no order whose 18 low bits are 0.
+pub fn alike_in_low_bits(cells: u64) -> Vec<u64> {
+    shuffled(cells).into_iter().map(|index| index << 18).collect()
 }
 
 /// A member with this many nodes, which is a multiple of 8: leaves that each stand in seven groups.
@@ -82,6 +116,13 @@ mod tests {
         let expected = "accepted 2 dims 128 nodes 256 cells";
         assert_eq!(read_line(&member_with_cells(&ascending(256))), expected);
         assert_eq!(read_line(&member_with_cells(&shuffled(256))), expected);
+    }
+
+    #[test]
+    fn large_indexes() {
+        let expected = "accepted 16 dims 63 nodes 256 cells";
+        assert_eq!(read_line(&member_with_large_indexes(&large_unordered(256))), expected);
+        assert_eq!(read_line(&member_with_large_indexes(&alike_in_low_bits(256))), expected);
     }
 
     #[test]

@@ -15,10 +15,6 @@ pub fresh-below : (n x : ℕ) (seen : List ℕ) {b : Bool} → ltb x n ≡ true 
 unfolding fresh
 fresh-below n x seen e f = rw (e, f)
 
-pub fresh-if : (n x : ℕ) (seen : List ℕ) {b : Bool} → ltb x n ≡ true → b ≡ not (among x seen) → b ≡ fresh n seen x
-unfolding fresh
-fresh-if n x seen e f = rw (e, f)
-
 pub fresh-above : (n x : ℕ) (seen : List ℕ) → ltb x n ≡ false → false ≡ fresh n seen x
 unfolding fresh
 fresh-above n x seen e = rw e

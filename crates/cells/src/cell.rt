@@ -1,24 +1,24 @@
-// Cells: an index inside the table, once, and a Value.
+// Cells: an index inside the table, once, and a Value. They are read first, and then looked through for the first index that stands
+// again: the first refusal in file order is given all the same.
 ghost use mathlib.Core.Path.{_≡_};
-ghost use mathlib.Core.List.{[]};
-ghost use lib.ListN.{length, set, drop};
-ghost use Prim.Native.Nat.{_<_, _≤_, _+_};
-ghost use Rattle.sizes.specs.Sizes.{member-bytes, most-cells, cell-words};
+ghost use lib.ListN.{length, drop};
+ghost use Prim.Native.Nat.{_<_, _≤_, _*_};
+ghost use Rattle.sizes.specs.Sizes.{member-bytes, most-cells};
 ghost use Rattle.layout.specs.Check.{check};
 ghost use Rattle.layout.specs.Keeps.{Keeps};
-ghost use Rattle.once.specs.Once.{fresh, firsts};
 ghost use Rattle.table.specs.Rules.{cellsRule};
+ghost use Rattle.table.specs.Laws.LeastBytes.{least-cell};
 ghost use Rattle.table.specs.Laws.Within.{Room, Scratch, needed, within};
-ghost use Rattle.cells.specs.Laws.Rows.{Row, rowOf};
-ghost use Rattle.cells.specs.Laws.Seen.{Seen};
+ghost use Rattle.cells.specs.Laws.Reading.{Placed, Tested};
 ghost use Rattle.cells.specs.Laws.Cells as spec;
+use crate::CellRead;
 use crate::LEAST_CELL;
 use layout::LITTLE;
 use layout::Step;
 use layout::number::any;
 use layout::number::count;
 use layout::number::peek;
-use once::seen_before;
+use once::first_repeat;
 use once::word;
 use sizes::CELL_AREA;
 use sizes::CELL_WORDS;
@@ -31,149 +31,84 @@ use value::value;
 
 const LIMIT: u64 = MOST_CELLS as u64;
 
-// So many cells or fewer are read with the short list of marks.
-const FEW_CELLS: usize = 512;
+// The bytes of an index, which stand before the Value.
+const INDEX_BYTES: usize = 8;
 
-const SHORT_MARKS: usize = 1024;
-
-const LONG_MARKS: usize = 16384;
-
-// x is an index below `places` that none of the first j cells has. A mark tells that of a small index; a larger one that is not below
-// `top`, which is above all of theirs, is none of them; others are compared with each.
-fn is_fresh(cells: &[u32], marks: &[u8], places: u32, j: usize, top: u64, x: u64) -> bool
-    requires { ⌜ (j ≤ most-cells) × Seen top (now marks) (firsts cell-words (now cells) j) ⌝ }
-    ensures { λ r. ⌜ r ≡ fresh places (firsts cell-words (now (cells .entry)) j) x ⌝ }
-{
-    let below = x < places as u64;
-    if below {
-        if x < marks.len() as u64 {
-            return marks[x as usize] == 0;
-        }
-        if top <= x {
-            return true;
-        }
-        let seen = seen_before(cells, j, CELL_WORDS, x);
-        !seen
-    } else {
-        false
-    }
-}
-
-// The mark of x, where there is one.
-fn set_mark(marks: &mut [u8], x: u32)
-    ensures { λ _. ⌜ now (marks .exit) ≡ set (now (marks .entry)) x 1 ⌝ }
-{
-    if (x as usize) < marks.len() {
-        marks[x as usize] = 1;
-    }
-}
-
-// `top`, or more where it is not above x.
-fn above(top: u64, x: u32) -> u64
-    ensures { λ r. ⌜ (top ≤ r) × (x < r) ⌝ }
-{
-    if top <= x as u64 { x as u64 + 1 } else { top }
-}
-
-// The Value of cell j, whose index is x, and its record.
-fn record(s: &[u8], at: usize, j: usize, x: u64, cells: &mut [u32]) -> Step
+// The Value of cell j, whose index is x, and its record. Where the Value is refused, the record has the index and the place.
+fn record(s: &[u8], at: usize, j: usize, x: u64, cells: &mut [u32]) -> CellRead
     requires { ⌜ j < most-cells ⌝ }
     ensures { λ r. ⌜ spec.Recorded (now (s .entry)) at j x (now (cells .entry)) r (now (cells .exit)) ⌝ }
 {
+    let index = (x % 4294967296) as u32;
+    let place = (at % 4294967296) as u32;
     match value(s, Step::Next(at)) {
-        Step::Refused(r, p) => Step::Refused(r, p),
+        Step::Refused(r, p) => {
+            put_three(cells, CELL_WORDS * j, index, place, 0);
+            CellRead::BadValue(r, p)
+        }
         Step::Next(q) => {
             let size = length(at, q);
-            put_three(
-                cells,
-                CELL_WORDS * j,
-                (x % 4294967296) as u32,
-                (at % 4294967296) as u32,
-                size,
-            );
-            Step::Next(q)
+            put_three(cells, CELL_WORDS * j, index, place, size);
+            CellRead::Whole(q)
         }
     }
 }
 
-// Cell j.
-fn cell(
-    s: &[u8],
-    at: usize,
-    places: u32,
-    j: usize,
-    top: u64,
-    marks: &[u8],
-    cells: &mut [u32],
-) -> Step
-    requires { ⌜ (j < most-cells) × (length (now s) ≤ member-bytes) × Seen top (now marks) (firsts cell-words (now cells) j) ⌝ }
-    ensures { λ r. ⌜ Keeps (now (s .entry)) (Row spec.cell-kind at (j, now (cells .entry))) (check (spec.cellOf places (firsts cell-words (now (cells .entry)) j)) (drop at (now (s .entry))) at) (rowOf (j + 1) r (now (cells .exit))) ⌝ }
+// Cell j, with no look at the indexes before it.
+fn cell(s: &[u8], at: usize, places: u32, j: usize, cells: &mut [u32]) -> CellRead
+    requires { ⌜ (j < most-cells) × (length (now s) ≤ member-bytes) × (least-cell * j < at) × Room spec.cell-records (length (now cells)) (now s) ⌝ }
+    ensures { λ r. ⌜ spec.CellDone (now (s .entry)) at places j (now (cells .entry)) r (now (cells .exit)) ⌝ }
 {
-    let x = peek(s, Step::Next(at), LITTLE, 8);
-    match any(s, Step::Next(at), 8) {
-        Step::Refused(r, p) => Step::Refused(r, p),
+    let x = peek(s, Step::Next(at), LITTLE, INDEX_BYTES);
+    match any(s, Step::Next(at), INDEX_BYTES) {
+        Step::Refused(r, p) => CellRead::BadIndex(r, p),
         Step::Next(p) => {
-            let good = is_fresh(cells, marks, places, j, top, x);
-            if good {
+            let below = x < places as u64;
+            if below {
                 record(s, p, j, x, cells)
             } else {
-                Step::Refused(10, at)
+                CellRead::BadIndex(10, at)
             }
         }
     }
 }
 
-// n cells, in a table of so many places.
-fn all(s: &[u8], at: usize, places: u32, n: usize, marks: &mut [u8], words: &mut [u32]) -> Step
-    requires { ⌜ (n ≤ most-cells) × (length (now s) ≤ member-bytes) × Room spec.cell-records (length (now words)) (now s) × Seen 0 (now marks) [] ⌝ }
+// `end`, where the indexes of the first m cells stand once each; else the refusal of the first that repeats an earlier one.
+fn once_each(cells: &[u32], m: usize, end: Step) -> Step
+    requires { ⌜ (m ≤ most-cells) × Placed (now cells) m ⌝ }
+    ensures { λ r. ⌜ Tested (now (cells .entry)) m end r ⌝ }
+{
+    let repeat = first_repeat(cells, CELL_WORDS, m);
+    if repeat.at < m {
+        let place = word(cells, CELL_WORDS * repeat.at + 1) as usize;
+        Step::Refused(10, place - INDEX_BYTES)
+    } else {
+        end
+    }
+}
+
+// n cells, in a table of so many places. Where reading stops, a repeat among the indexes read until then comes first.
+fn all(s: &[u8], at: usize, places: u32, n: usize, words: &mut [u32]) -> Step
+    requires { ⌜ (n ≤ most-cells) × (length (now s) ≤ member-bytes) × (0 < at) × Room spec.cell-records (length (now words)) (now s) ⌝ }
     ensures { λ r. ⌜ spec.AllRead (now (s .entry)) at places n (now (words .entry)) r (now (words .exit)) ⌝ }
 {
     let mut at = at;
     let mut j = 0;
-    let mut top: u64 = 0;
     while j < n {
-        match cell(s, at, places, j, top, marks, words) {
-            Step::Refused(r, p) => {
-                return Step::Refused(r, p);
+        match cell(s, at, places, j, words) {
+            CellRead::BadIndex(r, p) => {
+                return once_each(words, j, Step::Refused(r, p));
             }
-            Step::Next(q) => {
+            CellRead::BadValue(r, p) => {
+                return once_each(words, j + 1, Step::Refused(r, p));
+            }
+            CellRead::Whole(q) => {
                 at = q;
             }
         }
-        let x = word(words, CELL_WORDS * j);
-        top = above(top, x);
-        set_mark(marks, x);
         j += 1;
     }
-    Step::Next(at)
-}
-
-// Few cells have fewer marks, which are sooner cleared.
-fn with_short_marks(s: &[u8], at: usize, places: u32, n: usize, words: &mut [u32]) -> Step
-    requires { ⌜ (n ≤ most-cells) × (length (now s) ≤ member-bytes) × Room spec.cell-records (length (now words)) (now s) ⌝ }
-    ensures { λ r. ⌜ spec.AllRead (now (s .entry)) at places n (now (words .entry)) r (now (words .exit)) ⌝ }
-{
-    let mut marks = [0u8; SHORT_MARKS];
-    all(s, at, places, n, &mut marks, words)
-}
-
-fn with_long_marks(s: &[u8], at: usize, places: u32, n: usize, words: &mut [u32]) -> Step
-    requires { ⌜ (n ≤ most-cells) × (length (now s) ≤ member-bytes) × Room spec.cell-records (length (now words)) (now s) ⌝ }
-    ensures { λ r. ⌜ spec.AllRead (now (s .entry)) at places n (now (words .entry)) r (now (words .exit)) ⌝ }
-{
-    let mut marks = [0u8; LONG_MARKS];
-    all(s, at, places, n, &mut marks, words)
-}
-
-fn with_marks(s: &[u8], at: usize, places: u32, n: usize, words: &mut [u32]) -> Step
-    requires { ⌜ (n ≤ most-cells) × (length (now s) ≤ member-bytes) × Room spec.cell-records (length (now words)) (now s) ⌝ }
-    ensures { λ r. ⌜ spec.AllRead (now (s .entry)) at places n (now (words .entry)) r (now (words .exit)) ⌝ }
-{
-    if n <= FEW_CELLS {
-        with_short_marks(s, at, places, n, words)
-    } else {
-        with_long_marks(s, at, places, n, words)
-    }
+    once_each(words, n, Step::Next(at))
 }
 
 // The section, in a member that is no longer than members are, with room for its records.
@@ -184,7 +119,7 @@ fn section(s: &[u8], at: usize, places: u32, words: &mut [u32]) -> Walk
     let n = peek(s, Step::Next(at), LITTLE, 4);
     match count(s, Step::Next(at), LIMIT) {
         Step::Refused(r, p) => Walk::Refused(r, p),
-        Step::Next(p) => match with_marks(s, p, places, n as usize, words) {
+        Step::Next(p) => match all(s, p, places, n as usize, words) {
             Step::Refused(r, q) => Walk::Refused(r, q),
             Step::Next(q) => Walk::On(q, n as usize),
         },

@@ -28,3 +28,11 @@ struct Entries {
     pub end: Step,
     pub order: [u32; MOST_DIMENSIONS],
 }
+
+// A cell that was read: the next position, or the refusal of its index (which is not below the number of places, or is no field that
+// fits), or that of its Value.
+enum CellRead {
+    Whole(usize),
+    BadIndex(u32, usize),
+    BadValue(u32, usize),
+}

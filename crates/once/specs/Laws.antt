@@ -15,6 +15,8 @@ use Rattle.layout.specs.Laws.Tests.{or-is-false, and-is-true, eqb-turned}
 use Rattle.once.specs.Once.{fresh, Distinct, OnceEach, AllFresh, Leaf, indexes, firstBad}
 mod Room
 pub mod Marks
+pub mod Repeats
+pub mod Places
 
 -- ---- fresh
 

@@ -93,6 +93,12 @@ dimension-area = dimension-words * most-dimensions
 abbrev pub answer-words : ℕ
 answer-words = 8 + dimension-area + most-dimensions
 
+-- ---- document 02, T-04
+
+-- "for m cells at most 48 × m comparisons and stores of an index together"
+abbrev pub repeat-steps : ℕ
+repeat-steps = 48
+
 -- ---- the interface for C
 
 -- its version, which the header has too: 2 since a node record has seven words (our rule)

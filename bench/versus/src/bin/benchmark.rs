@@ -13,7 +13,8 @@ use digarumbi_bench::look::{read_look, write_look};
 use digarumbi_bench::member::read_member;
 use digarumbi_bench::random::Random;
 use digarumbi_versus::large::{
-    ascending, member_of_strings, member_with_cells, member_with_nested_categories, shuffled,
+    alike_in_low_bits, ascending, large_unordered, member_of_strings, member_with_cells,
+    member_with_large_indexes, member_with_nested_categories, shuffled,
 };
 use digarumbi_versus::stored;
 use digarumbi_versus::timing::{measure, Times};
@@ -137,6 +138,18 @@ fn growth_with_cells() {
     for cells in NUMBERS_OF_CELLS {
         member_row("ascending", &[&member_with_cells(&ascending(cells))]);
         member_row("shuffled", &[&member_with_cells(&shuffled(cells))]);
+    }
+    println!();
+    table_head("Growth with cells: large indexes", "order");
+    for cells in NUMBERS_OF_CELLS {
+        let mut sorted = large_unordered(cells);
+        sorted.sort_unstable();
+        member_row("large, ascending", &[&member_with_large_indexes(&sorted)]);
+        member_row("large, unordered", &[&member_with_large_indexes(&large_unordered(cells))]);
+        member_row(
+            "alike in 18 low bits",
+            &[&member_with_large_indexes(&alike_in_low_bits(cells))],
+        );
     }
     println!();
 }

@@ -17,6 +17,7 @@ use digarumbi_versus::large::{
 };
 use digarumbi_versus::look_check::LookCheck;
 use digarumbi_versus::member_check::MemberCheck;
+use digarumbi_versus::repeats::{members_with_repeats, CUT_BYTES};
 use digarumbi_versus::stored;
 use digarumbi_versus::unit_check;
 
@@ -60,6 +61,11 @@ fn members(seed: u64) -> Result<MemberCheck, Difference> {
     }
     for (name, bytes) in large_members() {
         inputs.whole(name, &bytes)?;
+    }
+    for (name, bytes) in members_with_repeats() {
+        for fewer in CUT_BYTES {
+            inputs.whole(&format!("{name}, {fewer} fewer"), &bytes[..bytes.len() - fewer])?;
+        }
     }
     inputs.stored(&stored::members())?;
     inputs.stored_cut(&stored::real_members())?;

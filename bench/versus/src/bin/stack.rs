@@ -10,7 +10,8 @@ use std::thread;
 use digarumbi::lent::{self, CELL_AREA, LONGEST_LOOK, LOOK_ANSWER, MEMBER_ANSWER, NODE_AREA};
 use digarumbi_bench::limits::MEMBER_BYTES;
 use digarumbi_versus::large::{
-    deepest_member, member_of_strings, member_with_cells, member_with_nested_categories, shuffled,
+    deepest_member, large_unordered, member_of_strings, member_with_cells,
+    member_with_large_indexes, member_with_nested_categories, shuffled,
 };
 use digarumbi_versus::stored;
 
@@ -69,6 +70,7 @@ fn members() -> Vec<Vec<u8>> {
         stored::members().into_iter().map(|member| member.bytes).collect();
     members.push(deepest_member());
     members.push(member_with_cells(&shuffled(4_096)));
+    members.push(member_with_large_indexes(&large_unordered(4_096)));
     members.push(member_with_nested_categories(4_096));
     members.push(member_of_strings(MEMBER_BYTES));
     members

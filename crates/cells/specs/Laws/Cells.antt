@@ -8,11 +8,13 @@ use native.Mathlib.Nat.{add-zero}
 use native.Mathlib.Numerals.{add-one}
 use native.Mathlib.Omega.{arith}
 use lib.ListN.{length, drop, length-append}
+use borrow.Author.Tests.{lt-ltb}
+use lib.Dec.{ltb}
 use lib.Seq.{sets, length-sets}
 use Rattle.sizes.specs.Sizes.{member-bytes, most-cells, cell-words}
 use Rattle.layout.specs.declared.Step.{Step}
 use Rattle.layout.specs.declared.Step.the-variants.{Next, Refused}
-use Rattle.layout.specs.Layout.{any-number, little, Tree, spell, Bytes, pick, size}
+use Rattle.layout.specs.Layout.{among, any-number, little, Tree, spell, Bytes, pick, size}
 use Rattle.layout.specs.Conventions.{int64}
 use Rattle.layout.specs.Rule.{Rule, plain, _▸▸_, items, tested}
 use Rattle.layout.specs.Read.{bind}
@@ -33,7 +35,9 @@ use Rattle.table.specs.Table.{Cell, Cells}
 use Rattle.table.specs.Records.{cellIndex, cellWords, rowsWords, cellValue, cellsOf, cellRecord}
 use Rattle.table.specs.Laws.LeastBytes.{cell-bytes, least-cell}
 use Rattle.table.specs.Laws.Within.{RecordSizes, needed, Room}
-use Rattle.cells.specs.Laws.Rows.{Kind, words, Row, Rows, all-rows, rowOf, after, firsts-before}
+use Rattle.cells.specs.declared.CellRead.{CellRead}
+use Rattle.cells.specs.declared.CellRead.the-variants.{Whole, BadIndex, BadValue}
+use Rattle.cells.specs.Laws.Rows.{Kind, Row, Rows, all-rows, rowOf, after, before, first-set, second-set}
 
 -- ---- a cell
 
@@ -52,10 +56,41 @@ cell-kind = record {
 abbrev pub cellOf : ℕ → List ℕ → Rule Cell
 cellOf places seen = tested (plain int64) 10 (λ t. pick (fresh places seen (t .0)) none (some 0)) ▸▸ (λ _. plain Value)
 
+-- the cell records
+abbrev pub cell-records : RecordSizes
+cell-records = record { width = cell-words; least = least-cell; most = most-cells; number = 13 }
+
+-- an answer of the code, once there are j, and the words with it
+abbrev pub cellOut : ℕ → CellRead → List ℕ → Out (ℕ × List ℕ)
+cellOut j (Whole p) ws = on p (j, ws)
+cellOut j (BadIndex r p) ws = off r p
+cellOut j (BadValue r p) ws = off r p
+
+-- what is kept of cell j, after those in ws
+abbrev pub OneCell : List ℕ → ℕ → ℕ → ℕ → List ℕ → Out (ℕ × List ℕ) → Type 0
+OneCell s at places j ws = Keeps s (Row cell-kind at (j, ws)) (check (cellOf places (firsts cell-words ws j)) (drop at s) at)
+
 -- the record of cell j, whose index is x and whose Value is read from p on
-pub data Recorded (s : List ℕ) (p j x : ℕ) (ws : List ℕ) : Step → List ℕ → Type 0 where
-  recorded : {q : ℕ} {vs : List ℕ} → Reads Value s (Next p) (Next q) → vs ≡ sets ws (cell-words * j) (cellRecord (word32 x) (word32 p) (word32 (q - p))) → Recorded s p j x ws (Next q) vs
-  not-recorded : {n q : ℕ} {vs : List ℕ} → Reads Value s (Next p) (Refused n q) → Recorded s p j x ws (Refused n q) vs
+pub data Recorded (s : List ℕ) (p j x : ℕ) (ws : List ℕ) : CellRead → List ℕ → Type 0 where
+  recorded : {q : ℕ} {vs : List ℕ} → Reads Value s (Next p) (Next q) → vs ≡ sets ws (cell-words * j) (cellRecord (word32 x) (word32 p) (word32 (q - p))) → Recorded s p j x ws (Whole q) vs
+  not-recorded : {n q : ℕ} {vs : List ℕ} → Reads Value s (Next p) (Refused n q) → vs ≡ sets ws (cell-words * j) (cellRecord (word32 x) (word32 p) 0) → Recorded s p j x ws (BadValue n q) vs
+
+-- Cell j has the index x, below the number of places, and its words are in vs. It is kept or refused as `o` says where none before it has
+-- that index, and refused for the index where one has.
+pub record Stored (s : List ℕ) (at places j : ℕ) (ws : List ℕ) (x : ℕ) (o : Out (ℕ × List ℕ)) (vs : List ℕ) : Type 0 where
+  pub index : word vs (cell-words * j) ≡ x
+  pub place : word vs (cell-words * j + 1) ≡ at + 8
+  pub same : (i : ℕ) → i < cell-words * j → word vs i ≡ word ws i
+  pub same-length : length vs ≡ length ws
+  pub room : cell-words * j + cell-words ≤ length ws
+  pub new : among x (firsts cell-words ws j) ≡ false → OneCell s at places j ws o
+  pub old : among x (firsts cell-words ws j) ≡ true → OneCell s at places j ws (off 10 at)
+
+-- what is known of cell j once it was read, with no look at the indexes before it
+pub data CellDone (s : List ℕ) (at places j : ℕ) (ws : List ℕ) : CellRead → List ℕ → Type 0 where
+  bad-index : {n p : ℕ} → OneCell s at places j ws (off n p) → CellDone s at places j ws (BadIndex n p) ws
+  bad-value : {n p x : ℕ} {vs : List ℕ} → Stored s at places j ws x (off n p) vs → CellDone s at places j ws (BadValue n p) vs
+  whole : {q x : ℕ} {vs : List ℕ} → Stored s at places j ws x (on q (j + 1, vs)) vs → at + least-cell ≤ q → CellDone s at places j ws (Whole q) vs
 
 size-cell : (t : Tree Cell) → size Cell t ≡ 8 + size Value (cellValue t)
 unfolding size spell
@@ -63,23 +98,23 @@ size-cell t = simp (length-append, digits-length) (omega arith)
 
 module _ (s : List ℕ) (b : Bytes s) (short : length s ≤ member-bytes) (at places j : ℕ) (small : places < 2 ^ 32) (ws : List ℕ) {st : Step} (r : Reads int64 s (Next at) st) where
   abbrev One : Out (ℕ × List ℕ) → Type 0
-  One = Keeps s (Row cell-kind at (j, ws)) (check (cellOf places (firsts cell-words ws j)) (drop at s) at)
+  One = OneCell s at places j ws
 
-  pub no-index : {n p : ℕ} → st ≡ Refused n p → One (off n p)
+  pub no-index : {n p : ℕ} → st ≡ Refused n p → CellDone s at places j ws (BadIndex n p) ws
   unfolding check bind
-  no-index e = rw (read-off r e) keeps-off
+  no-index {n} {p} e = bad-index {n = n} {p = p} (rw (read-off r e) keeps-off)
 
   module _ {p x : ℕ} (e : st ≡ Next p) (pk : x ≡ peek little 8 s (Next at)) where
     num : ReadNumber 8 any-number s at p x
     num = read-number b r e pk
 
-    pub stale-cell : fresh places (firsts cell-words ws j) x ≡ false → One (off 10 at)
+    stale-cell : fresh places (firsts cell-words ws j) x ≡ false → One (off 10 at)
     unfolding check bind judge pick
     stale-cell f =
         let f′ : fresh places (firsts cell-words ws j) (num .found .tree .0) ≡ false = rw (num .is) f in
         rw (num .found .is, f′, add-zero) keeps-off
 
-    pub fresh-cell : fresh places (firsts cell-words ws j) x ≡ true → {w : Step} {vs : List ℕ} → Recorded s p j x ws w vs → One (rowOf (j + 1) w vs)
+    fresh-cell : fresh places (firsts cell-words ws j) x ≡ true → {c : CellRead} {vs : List ℕ} → Recorded s p j x ws c vs → One (cellOut (j + 1) c vs)
     unfolding check bind judge pick
     fresh-cell f (recorded {q = q} {vs = vs} v h) =
         let f′ : fresh places (firsts cell-words ws j) (num .found .tree .0) ≡ true = rw (num .is) f in
@@ -101,44 +136,52 @@ module _ (s : List ℕ) (b : Bytes s) (short : length s ≤ member-bytes) (at pl
           stored = h ∙ ap (sets ws (cell-words * j)) same;
         } in
         rw (num .found .is, f′, val .is) (keeps-on {t = t} refl kept)
-    fresh-cell f (not-recorded v) =
+    fresh-cell f (not-recorded v h) =
         let f′ : fresh places (firsts cell-words ws j) (num .found .tree .0) ≡ true = rw (num .is) f in
         rw (num .found .is, f′, read-off v refl) keeps-off
 
--- ---- cells that follow each other
+    -- an index that is not below the number of places
+    pub not-below : ltb x places ≡ false → CellDone s at places j ws (BadIndex 10 at) ws
+    unfolding fresh
+    not-below h = bad-index (stale-cell (rw h))
 
--- the cell records
-abbrev pub cell-records : RecordSizes
-cell-records = record { width = cell-words; least = least-cell; most = most-cells; number = 13 }
+    module _ (below : x < places) (before-it : least-cell * j < at) (few : j < most-cells) (enough : Room cell-records (length ws) s) where
+      inside : p ≤ length s
+      inside = num .says .inside (omega arith)
+
+      there : cell-words * j + cell-words ≤ length ws
+      there = omega (arith, enough (j + 1) (omega arith) (omega (arith, inside, num .says .place)))
+
+      stored : (z : ℕ) {c : CellRead} {vs : List ℕ} → Recorded s p j x ws c vs → vs ≡ sets ws (cell-words * j) (cellRecord (word32 x) (word32 p) z)
+          → Stored s at places j ws x (cellOut (j + 1) c vs) vs
+      unfolding word fresh
+      stored z {c} {vs} d e =
+          let i = cell-words * j in
+          let w₁ = word32 x in
+          let w₂ = word32 p in
+          record {
+            index = rw e (first-set ws i w₁ (w₂ ∷ z ∷ []) (omega (arith, there)) ∙ word-same x (omega arith));
+            place = rw e (second-set ws i w₁ w₂ (z ∷ []) (omega (arith, there)) ∙ word-same p (omega (arith, inside)) ∙ num .says .place);
+            same = λ k h. rw e (before ws i (w₁ ∷ w₂ ∷ z ∷ []) k h);
+            same-length = ap length e ∙ length-sets ws i (w₁ ∷ w₂ ∷ z ∷ []);
+            room = there;
+            new = λ h. fresh-cell (is-fresh places (firsts cell-words ws j) x .1 (below, h)) d;
+            old = λ h. stale-cell (rw (lt-ltb x places below, h));
+          }
+
+      pub done : {c : CellRead} {vs : List ℕ} → Recorded s p j x ws c vs → CellDone s at places j ws c vs
+      done (recorded {q = q} v h) =
+          let val : Read Value s p q = read-on b v refl in
+          let t : Tree Cell = (num .found .tree, val .tree) in
+          let least = cell-bytes t (num .found .there .valid, val .there .valid) in
+          whole (stored _ (recorded v h) h) (omega (arith, val .there .place, num .says .place, size-cell t))
+      done (not-recorded v h) = bad-value (stored 0 (not-recorded v h) h)
+
+-- ---- cells that follow each other
 
 abbrev pub AllRead : List ℕ → ℕ → ℕ → ℕ → List ℕ → Step → List ℕ → Type 0
 AllRead s at places n ws r vs =
     Keeps s (Each (Row cell-kind) at (0, ws)) (check (items {n = n} (after cell-kind (cellOf places))) (drop at s) at) (rowOf n r vs)
-
--- what a cell that was read adds: its bytes, room for its words, and its index before the others
-pub record Added (s : List ℕ) (j q : ℕ) (ws vs : List ℕ) : Type 0 where
-  pub bytes : least-cell * (j + 1) ≤ q
-  pub room : cell-words * j + cell-words ≤ length ws
-  pub indexes : firsts cell-words vs (j + 1) ≡ word vs (cell-words * j) ∷ firsts cell-words ws j
-  pub same-length : length vs ≡ length ws
-
-pub added : (places : ℕ) {s : List ℕ} → Bytes s → {at j n : ℕ} {ws : List ℕ} → length ws ≡ n → Room cell-records n s → j < most-cells → least-cell * j ≤ at → {q : ℕ} {vs : List ℕ}
-    → Keeps s (Row cell-kind at (j, ws)) (check (cellOf places (firsts cell-words ws j)) (drop at s) at) (on q (j + 1, vs)) → Added s j q ws vs
-unfolding firsts
-added places {s} b {at} {j} {n} {ws} l room few before {q} {vs} k =
-    let r = kept-on k in
-    let t = r .tree in
-    let f = found-by (cellOf places (firsts cell-words ws j)) s b at t (drop q s) q (r .is) in
-    let least = cell-bytes t (f .valid) in
-    let inside = ends-inside f (omega arith) in
-    let many : least-cell * (j + 1) ≤ q = omega (arith, f .place) in
-    let same : firsts cell-words vs j ≡ firsts cell-words ws j = ap (λ (l : List ℕ). firsts cell-words l j) (r .keeps .stored) ∙ firsts-before cell-words (omega arith) ws (cell-words * j) (words cell-kind at t) j (omega arith) in
-    record {
-      bytes = many;
-      room = omega (arith, room (j + 1) (omega arith) (omega arith), l);
-      indexes = rw (add-one j, same);
-      same-length = ap length (r .keeps .stored) ∙ length-sets ws (cell-words * j) (words cell-kind at t);
-    }
 
 -- ---- the section
 

@@ -6,7 +6,7 @@ use Prim.Native.Nat.{ℕ, zero, suc, _+_, _*_, _≤_, _<_}
 use native.Mathlib.Nat.{mul-suc}
 use native.Mathlib.Numerals.{add-one}
 use native.Mathlib.Omega.{arith}
-use lib.ListN.{length, drop, set, getD}
+use lib.ListN.{length, drop, set, getD, length-set}
 use lib.Seq.{sets, getD-set-same, getD-set-other}
 use Rattle.layout.specs.declared.Step.{Step}
 use Rattle.layout.specs.declared.Step.the-variants.{Next, Refused}
@@ -27,13 +27,16 @@ rowOf j (Refused r p) ws = off r p
 -- ---- first words
 
 -- words set from a place on leave those before it
-before : (ws : List ℕ) (i : ℕ) (vs : List ℕ) (m : ℕ) → m < i → getD (sets ws i vs) m 0 ≡ getD ws m 0
+pub before : (ws : List ℕ) (i : ℕ) (vs : List ℕ) (m : ℕ) → m < i → getD (sets ws i vs) m 0 ≡ getD ws m 0
 before ws i [] m h = refl
 before ws i (v ∷ vs) m h = before (set ws i v) (suc i) vs m (omega arith) ∙ getD-set-other ws i m v 0 (λ e. omega arith)
 
 -- and the first of them stands at the place
-first-set : (ws : List ℕ) (i v : ℕ) (vs : List ℕ) → i < length ws → getD (sets ws i (v ∷ vs)) i 0 ≡ v
+pub first-set : (ws : List ℕ) (i v : ℕ) (vs : List ℕ) → i < length ws → getD (sets ws i (v ∷ vs)) i 0 ≡ v
 first-set ws i v vs h = before (set ws i v) (suc i) vs i (omega arith) ∙ getD-set-same ws i v 0 h
+
+pub second-set : (ws : List ℕ) (i u v : ℕ) (vs : List ℕ) → i + 1 < length ws → getD (sets ws i (u ∷ v ∷ vs)) (i + 1) 0 ≡ v
+second-set ws i u v vs h = rw (add-one i) (first-set (set ws i u) (suc i) v vs (omega (arith, length-set ws i u)))
 
 pub firsts-before : (step : ℕ) → 0 < step → (ws : List ℕ) (i : ℕ) (vs : List ℕ) (k : ℕ) → step * k ≤ i → firsts step (sets ws i vs) k ≡ firsts step ws k
 unfolding firsts word
@@ -104,7 +107,7 @@ module _ {a : Layout} (k : Kind a) (u : List ℕ → Rule a) where
     unfolding firsts
     storing = record { done = []; seen = refl; most = omega arith; going = going s after (Row k) n at (0, ws) }
 
-    abbrev All : Out (ℕ × List ℕ) → Type 0
+    abbrev pub All : Out (ℕ × List ℕ) → Type 0
     All = Keeps s (Each (Row k) at (0, ws)) (check (items {n = n} after) (drop at s) at)
 
     module _ {i at′ : ℕ} {ws′ : List ℕ} (w : Storing i at′ ws′) where

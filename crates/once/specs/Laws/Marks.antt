@@ -26,6 +26,13 @@ higher h (all-more {x = x} l r) = all-more {x = x} (omega arith) (higher h r)
 
 -- ---- marks
 
+-- how many there are where there are few numbers, and where there are more
+abbrev pub short-marks : ℕ
+short-marks = 1024
+
+abbrev pub long-marks : ℕ
+long-marks = 16384
+
 -- the mark at x is 0 exactly where x was not seen
 pub record Marks (m : ℕ) (marks seen : List ℕ) : Type 0 where
   pub long : length marks ≡ m
@@ -34,6 +41,9 @@ pub record Marks (m : ℕ) (marks seen : List ℕ) : Type 0 where
 pub no-marks : (m : ℕ) → Marks m (replicate m 0) []
 unfolding among
 no-marks m = record { long = length-replicate m 0; says = λ x h. eq-eqb _ 0 (getD-replicate m x 0 0 h) }
+
+pub all-clear : (m : ℕ) → Marks (length (replicate {A = ℕ} m 0)) (replicate m 0) []
+all-clear m = rw (length-replicate {A = ℕ} m 0) (no-marks m)
 
 one-more : (m : ℕ) (marks seen : List ℕ) (x : ℕ) → Marks m marks seen → x < m → (y : ℕ) → y < m → (b : Bool) → eqb y x ≡ b
     → eqb (getD (set marks x 1) y 0) 0 ≡ not (among y (x ∷ seen))
@@ -46,8 +56,3 @@ one-more m marks seen x r h y l false e = rw (e, getD-set-other marks x y 1 0 (e
 
 pub marked : (m : ℕ) (marks seen : List ℕ) (x : ℕ) → Marks m marks seen → x < m → Marks m (set marks x 1) (x ∷ seen)
 marked m marks seen x r h = record { long = length-set marks x 1 ∙ r .long; says = λ y l. one-more m marks seen x r h y l (eqb y x) refl }
-
--- a number for which there is no mark
-pub unmarked : (m : ℕ) (marks seen : List ℕ) (x : ℕ) → Marks m marks seen → m ≤ x → Marks m marks (x ∷ seen)
-unfolding among
-unmarked m marks seen x r h = record { long = r .long; says = λ y l. rw (ne-eqb y x (omega arith)) (r .says y l) }

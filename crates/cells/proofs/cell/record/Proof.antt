@@ -7,8 +7,13 @@ pub record-spec : {M : Type 1} → statement M
 record-spec =
     tie.close
     (tie.spec
-    (λ c κs. search needs) (λ c. search needs) (λ c. search needs) (λ c κs. search needs) (λ c. search needs)
-    (λ c. search needs) (λ c. search needs) (λ c κs. search needs)
-    (λ c. not-recorded (rw (c .before .r .given .1) at (c .before .before .before .value .ensures)))
+    (λ c. search needs) (λ c. search needs) (λ c κs. search needs) (λ c. search needs) (λ c. search needs)
+    (λ c κs. search needs) (λ c. search needs) (λ c κs. search needs) (λ c. search needs) (λ c κs. search needs)
     (λ c. search needs)
-    (λ c. recorded (rw (c .before .before .before .before .before .before .q .given .1) at (c .before .before .before .before .before .before .before .before .value .ensures)) (rw (c .before .before .before .before .length .ensures) at (c .before .before .put-three .ensures))))
+    (λ c.
+    let r = c .before .before .before .before .before in
+    not-recorded (rw (r .r .given .1) at (r .before .before .value .ensures)) (c .before .before .put-three .ensures))
+    (λ c. search needs)
+    (λ c.
+    let q = c .before .before .before .before .before .before in
+    recorded (rw (q .q .given .1) at (q .before .before .value .ensures)) (rw (c .before .before .before .before .length .ensures) at (c .before .before .put-three2 .ensures))))

@@ -1,0 +1,260 @@
+// The first repeat among the first words of records. Any words get an answer: a word past the last counts as 0. A number of records
+// above the most cells counts as that, a record longer than a node's as one of these.
+// A step is a comparison of an index, a look for its mark or for a next place, or a store of either: each stands next to its `+= 1`.
+ghost use mathlib.Core.Path.{_≡_};
+ghost use mathlib.Core.Bool.{true};
+ghost use mathlib.Core.List.{[]};
+ghost use Prim.Native.Nat.{_+_, _*_, _≤_, _<_, min};
+ghost use lib.ListN.{length};
+ghost use Rattle.sizes.specs.Sizes.{most-cells, node-words, repeat-steps};
+ghost use Rattle.once.specs.Repeat.{strided, Answered};
+ghost use Rattle.once.specs.Laws.Marks.{Marks};
+ghost use Rattle.once.specs.Laws.Repeats.{Compared, ByMarks};
+ghost use Rattle.once.specs.Laws.Places.{PlaceTree};
+ghost use Rattle.once.specs.Laws.Places as spec;
+use crate::Ascending;
+use crate::Looked;
+use crate::Marked;
+use crate::Repeat;
+use crate::word;
+use layout::number::at_most;
+use sizes::MOST_CELLS;
+use sizes::NODE_WORDS;
+
+// So many numbers or fewer are compared pair by pair, where neither their order nor their marks tell: that is sooner done than a tree
+// is cleared.
+const FEW: usize = 32;
+
+// So many numbers or fewer have the short list of marks, which is sooner cleared.
+const FEW_MARKED: usize = 512;
+
+const SHORT_MARKS: usize = 1024;
+
+const LONG_MARKS: usize = 16384;
+
+// Four next places for each place.
+const NEXTS: usize = 4 * MOST_CELLS;
+
+// The number at place j.
+fn nth(words: &[u32], step: usize, j: usize) -> u32
+    requires { ⌜ (step ≤ node-words) × (j ≤ most-cells) ⌝ }
+    ensures { λ r. ⌜ r ≡ strided step (now (words .entry)) j ⌝ }
+{
+    word(words, step * j)
+}
+
+// ---- in ascending order
+
+// Whether the m numbers are in strictly ascending order: then none repeats another.
+fn order(words: &[u32], step: usize, m: usize) -> Ascending
+    requires { ⌜ (step ≤ node-words) × (m ≤ most-cells) ⌝ }
+    ensures few { λ r. ⌜ r .steps ≤ m ⌝ }
+    ensures none { λ r. ⌜ (r .holds ≡ true → Answered (strided step (now (words .entry))) m 1 m (r .steps)) ⌝ }
+{
+    let mut last = nth(words, step, 0);
+    let mut j = 1;
+    let mut steps: u64 = 0;
+    while j < m {
+        let x = nth(words, step, j);
+        steps += 1; // the comparison with the number before
+        if x <= last {
+            return Ascending {
+                holds: false,
+                steps,
+            };
+        }
+        last = x;
+        j += 1;
+    }
+    Ascending { holds: true, steps }
+}
+
+// ---- small numbers
+
+// The first repeat among m numbers that have marks, none of which is set; or a number that has none comes first.
+fn by_marks(words: &[u32], step: usize, m: usize, marks: &mut [u8]) -> Marked
+    requires { ⌜ (step ≤ node-words) × (m ≤ most-cells) × Marks (length (now marks)) (now marks) [] ⌝ }
+    ensures { λ r. ⌜ ByMarks (strided step (now (words .entry))) m (r .small) (r .at) (r .steps) ⌝ }
+{
+    let mut k = 0;
+    let mut steps: u64 = 0;
+    while k < m {
+        let x = nth(words, step, k) as usize;
+        steps += 1; // the comparison with the number of marks
+        if marks.len() <= x {
+            return Marked {
+                small: false,
+                at: k,
+                steps,
+            };
+        }
+        steps += 1; // the look for its mark
+        if marks[x] != 0 {
+            return Marked {
+                small: true,
+                at: k,
+                steps,
+            };
+        }
+        steps += 1; // the store of its mark
+        marks[x] = 1;
+        k += 1;
+    }
+    Marked {
+        small: true,
+        at: m,
+        steps,
+    }
+}
+
+fn with_short_marks(words: &[u32], step: usize, m: usize) -> Marked
+    requires { ⌜ (step ≤ node-words) × (m ≤ most-cells) ⌝ }
+    ensures { λ r. ⌜ ByMarks (strided step (now (words .entry))) m (r .small) (r .at) (r .steps) ⌝ }
+{
+    let mut marks = [0u8; SHORT_MARKS];
+    by_marks(words, step, m, &mut marks)
+}
+
+fn with_long_marks(words: &[u32], step: usize, m: usize) -> Marked
+    requires { ⌜ (step ≤ node-words) × (m ≤ most-cells) ⌝ }
+    ensures { λ r. ⌜ ByMarks (strided step (now (words .entry))) m (r .small) (r .at) (r .steps) ⌝ }
+{
+    let mut marks = [0u8; LONG_MARKS];
+    by_marks(words, step, m, &mut marks)
+}
+
+fn with_marks(words: &[u32], step: usize, m: usize) -> Marked
+    requires { ⌜ (step ≤ node-words) × (m ≤ most-cells) ⌝ }
+    ensures { λ r. ⌜ ByMarks (strided step (now (words .entry))) m (r .small) (r .at) (r .steps) ⌝ }
+{
+    if m <= FEW_MARKED {
+        with_short_marks(words, step, m)
+    } else {
+        with_long_marks(words, step, m)
+    }
+}
+
+// ---- few numbers
+
+// Looks for the number x at the first k places, one after the other.
+fn compare(words: &[u32], step: usize, k: usize, x: u32) -> Looked
+    requires { ⌜ (step ≤ node-words) × (k ≤ most-cells) ⌝ }
+    ensures { λ r. ⌜ Compared (strided step (now (words .entry))) k x (r .old) (r .steps) ⌝ }
+{
+    let mut i = 0;
+    let mut steps: u64 = 0;
+    while i < k {
+        steps += 1; // the comparison with an earlier number
+        if nth(words, step, i) == x {
+            return Looked { old: true, steps };
+        }
+        i += 1;
+    }
+    Looked { old: false, steps }
+}
+
+// The first repeat among few numbers, where every pair is compared.
+fn by_pairs(words: &[u32], step: usize, m: usize) -> Repeat
+    requires { ⌜ (step ≤ node-words) × (m ≤ 33) ⌝ }
+    ensures { λ r. ⌜ Answered (strided step (now (words .entry))) m 33 (r .at) (r .steps) ⌝ }
+{
+    let mut k = 0;
+    let mut steps: u64 = 0;
+    while k < m {
+        let p = compare(words, step, k, nth(words, step, k));
+        steps += p.steps;
+        if p.old {
+            return Repeat { at: k, steps };
+        }
+        k += 1;
+    }
+    Repeat { at: m, steps }
+}
+
+// ---- many numbers
+
+// Looks for the number x in the tree of the first k places, and puts place k there if it is new.
+fn look(words: &[u32], step: usize, k: usize, x: u32, nexts: &mut [u16; NEXTS]) -> Looked
+    requires { ⌜ (step ≤ node-words) × (0 < k) × (k < most-cells) × PlaceTree (strided step (now words)) k (now nexts) ⌝ }
+    ensures { λ r. ⌜ spec.Looked (strided step (now (words .entry))) k x (now (nexts .exit)) (r .old) (r .steps) ⌝ }
+{
+    let mut at: usize = 0;
+    let mut rest = x;
+    let mut steps: u64 = 0;
+    loop {
+        steps += 1; // the comparison with a number of the tree
+        if nth(words, step, at) == x {
+            return Looked { old: true, steps };
+        }
+        let slot = 4 * at + (rest % 4) as usize;
+        let next = nexts[slot] as usize;
+        steps += 1; // the look for the next place
+        if next == 0 {
+            steps += 1; // the store of place k
+            nexts[slot] = k as u16;
+            return Looked { old: false, steps };
+        }
+        at = next;
+        rest = rest / 4;
+    }
+}
+
+// The first repeat among numbers, at least one, by a tree of the places before.
+fn by_tree(words: &[u32], step: usize, m: usize) -> Repeat
+    requires { ⌜ (step ≤ node-words) × (0 < m) × (m ≤ most-cells) ⌝ }
+    ensures { λ r. ⌜ Answered (strided step (now (words .entry))) m 33 (r .at) (r .steps) ⌝ }
+{
+    let mut nexts = [0u16; NEXTS];
+    let mut k = 1;
+    let mut steps: u64 = 0;
+    while k < m {
+        let p = look(words, step, k, nth(words, step, k), &mut nexts);
+        steps += p.steps;
+        if p.old {
+            return Repeat { at: k, steps };
+        }
+        k += 1;
+    }
+    Repeat { at: m, steps }
+}
+
+// ---- all numbers
+
+// The first repeat among numbers of any size and order.
+fn compared(words: &[u32], step: usize, m: usize) -> Repeat
+    requires { ⌜ (step ≤ node-words) × (m ≤ most-cells) ⌝ }
+    ensures { λ r. ⌜ Answered (strided step (now (words .entry))) m 33 (r .at) (r .steps) ⌝ }
+{
+    if m <= FEW {
+        by_pairs(words, step, m)
+    } else {
+        by_tree(words, step, m)
+    }
+}
+
+// The first repeat among the first words of the first m records of so many words: their order tells, or their marks, or they are compared.
+pub fn first_repeat(words: &[u32], step: usize, m: usize) -> Repeat
+    ensures { λ r. ⌜ Answered (strided (min step node-words) (now (words .entry))) (min m most-cells) repeat-steps (r .at) (r .steps) ⌝ }
+{
+    let step = at_most(step, NODE_WORDS);
+    let m = at_most(m, MOST_CELLS);
+    let o = order(words, step, m);
+    if o.holds {
+        return Repeat {
+            at: m,
+            steps: o.steps,
+        };
+    }
+    let b = with_marks(words, step, m);
+    if b.small {
+        return Repeat {
+            at: b.at,
+            steps: o.steps + b.steps,
+        };
+    }
+    let r = compared(words, step, m);
+    Repeat {
+        at: r.at,
+        steps: o.steps + b.steps + r.steps,
+    }
+}
