@@ -27,7 +27,7 @@ use sizes::MOST_CELLS;
 use table::Walk;
 use table::length;
 use table::put_three;
-use value::value;
+use value::cell_value;
 
 const LIMIT: u64 = MOST_CELLS as u64;
 
@@ -35,13 +35,13 @@ const LIMIT: u64 = MOST_CELLS as u64;
 const INDEX_BYTES: usize = 8;
 
 // The Value of cell j, whose index is x, and its record. Where the Value is refused, the record has the index and the place.
-fn record(s: &[u8], at: usize, j: usize, x: u64, cells: &mut [u32]) -> CellRead
+fn record(s: &[u8], at: usize, j: usize, x: u64, cells: &mut [u32], version: u64) -> CellRead
     requires { ⌜ j < most-cells ⌝ }
-    ensures { λ r. ⌜ spec.Recorded (now (s .entry)) at j x (now (cells .entry)) r (now (cells .exit)) ⌝ }
+    ensures { λ r. ⌜ spec.Recorded version (now (s .entry)) at j x (now (cells .entry)) r (now (cells .exit)) ⌝ }
 {
     let index = (x % 4294967296) as u32;
     let place = (at % 4294967296) as u32;
-    match value(s, Step::Next(at)) {
+    match cell_value(s, Step::Next(at), version) {
         Step::Refused(r, p) => {
             put_three(cells, CELL_WORDS * j, index, place, 0);
             CellRead::BadValue(r, p)
@@ -55,9 +55,9 @@ fn record(s: &[u8], at: usize, j: usize, x: u64, cells: &mut [u32]) -> CellRead
 }
 
 // Cell j, with no look at the indexes before it.
-fn cell(s: &[u8], at: usize, places: u32, j: usize, cells: &mut [u32]) -> CellRead
+fn cell(s: &[u8], at: usize, places: u32, j: usize, cells: &mut [u32], version: u64) -> CellRead
     requires { ⌜ (j < most-cells) × (length (now s) ≤ member-bytes) × (least-cell * j < at) × Room spec.cell-records (length (now cells)) (now s) ⌝ }
-    ensures { λ r. ⌜ spec.CellDone (now (s .entry)) at places j (now (cells .entry)) r (now (cells .exit)) ⌝ }
+    ensures { λ r. ⌜ spec.CellDone version (now (s .entry)) at places j (now (cells .entry)) r (now (cells .exit)) ⌝ }
 {
     let x = peek(s, Step::Next(at), LITTLE, INDEX_BYTES);
     match any(s, Step::Next(at), INDEX_BYTES) {
@@ -65,7 +65,7 @@ fn cell(s: &[u8], at: usize, places: u32, j: usize, cells: &mut [u32]) -> CellRe
         Step::Next(p) => {
             let below = x < places as u64;
             if below {
-                record(s, p, j, x, cells)
+                record(s, p, j, x, cells, version)
             } else {
                 CellRead::BadIndex(10, at)
             }
@@ -88,14 +88,14 @@ fn once_each(cells: &[u32], m: usize, end: Step) -> Step
 }
 
 // n cells, in a table of so many places. Where reading stops, a repeat among the indexes read until then comes first.
-fn all(s: &[u8], at: usize, places: u32, n: usize, words: &mut [u32]) -> Step
+fn all(s: &[u8], at: usize, places: u32, n: usize, words: &mut [u32], version: u64) -> Step
     requires { ⌜ (n ≤ most-cells) × (length (now s) ≤ member-bytes) × (0 < at) × Room spec.cell-records (length (now words)) (now s) ⌝ }
-    ensures { λ r. ⌜ spec.AllRead (now (s .entry)) at places n (now (words .entry)) r (now (words .exit)) ⌝ }
+    ensures { λ r. ⌜ spec.AllRead version (now (s .entry)) at places n (now (words .entry)) r (now (words .exit)) ⌝ }
 {
     let mut at = at;
     let mut j = 0;
     while j < n {
-        match cell(s, at, places, j, words) {
+        match cell(s, at, places, j, words, version) {
             CellRead::BadIndex(r, p) => {
                 return once_each(words, j, Step::Refused(r, p));
             }
@@ -112,14 +112,14 @@ fn all(s: &[u8], at: usize, places: u32, n: usize, words: &mut [u32]) -> Step
 }
 
 // The section, in a member that is no longer than members are, with room for its records.
-fn section(s: &[u8], at: usize, places: u32, words: &mut [u32]) -> Walk
+fn section(s: &[u8], at: usize, places: u32, words: &mut [u32], version: u64) -> Walk
     requires { ⌜ (length (now s) ≤ member-bytes) × Room spec.cell-records (length (now words)) (now s) ⌝ }
-    ensures { λ r. ⌜ Keeps (now (s .entry)) (spec.AllCells at (now (words .entry))) (check (cellsRule places) (drop at (now (s .entry))) at) (spec.cellsOut r (now (words .exit))) ⌝ }
+    ensures { λ r. ⌜ Keeps (now (s .entry)) (spec.AllCells version at (now (words .entry))) (check (cellsRule version places) (drop at (now (s .entry))) at) (spec.cellsOut r (now (words .exit))) ⌝ }
 {
     let n = peek(s, Step::Next(at), LITTLE, 4);
     match count(s, Step::Next(at), LIMIT) {
         Step::Refused(r, p) => Walk::Refused(r, p),
-        Step::Next(p) => match all(s, p, places, n as usize, words) {
+        Step::Next(p) => match all(s, p, places, n as usize, words, version) {
             Step::Refused(r, q) => Walk::Refused(r, q),
             Step::Next(q) => Walk::On(q, n as usize),
         },
@@ -141,8 +141,8 @@ fn most_words(n: usize) -> usize
 // The number of cells at a position, and the cells of a table of so many places: where they end, and how many they are. Refused besides:
 // more bytes than a member has, 1 at 0; a list that is too short for the cell records of so many bytes, 13 at 0. The words are
 // scratch: after a refusal they may hold anything.
-pub fn cells(s: &[u8], at: usize, places: u32, words: &mut [u32]) -> Walk
-    ensures cells { λ r. ⌜ Keeps (now (s .entry)) (spec.AllCells at (now (words .entry))) (within spec.cell-records (now (s .entry)) (length (now (words .entry))) (check (cellsRule places) (drop at (now (s .entry))) at)) (spec.cellsOut r (now (words .exit))) ⌝ }
+pub fn cells(s: &[u8], at: usize, places: u32, words: &mut [u32], version: u64) -> Walk
+    ensures cells { λ r. ⌜ Keeps (now (s .entry)) (spec.AllCells version at (now (words .entry))) (within spec.cell-records (now (s .entry)) (length (now (words .entry))) (check (cellsRule version places) (drop at (now (s .entry))) at)) (spec.cellsOut r (now (words .exit))) ⌝ }
     ensures scratch { λ _. ⌜ Scratch (now (words .entry)) (now (words .exit)) ⌝ }
 {
     if MEMBER_BYTES < s.len() {
@@ -152,5 +152,5 @@ pub fn cells(s: &[u8], at: usize, places: u32, words: &mut [u32]) -> Walk
     if words.len() < most {
         return Walk::Refused(13, 0);
     }
-    section(s, at, places, words)
+    section(s, at, places, words, version)
 }

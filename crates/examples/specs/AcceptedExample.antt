@@ -12,15 +12,15 @@ use Rattle.sizes.specs.Sizes.{no-parent}
 use Rattle.layout.specs.Layout.{le, digits, spellAll, spellFill, spell, Tree, passes, suits, among, pick, Bytes, no-bytes, byte, size}
 use Rattle.layout.specs.Read.{Got, got, no, lead, read, refusal}
 use Rattle.layout.specs.Check.{check}
-use Rattle.value.specs.Value.{FontStyle, CellStyle, StylePair, TemplatePrefix, TemplateString, Modifiers, ValueMod, ArgumentOf, TemplateOf, Form01, Form02, Form03, Form04, Form05, Form06, RawValueOf, ValueIn, Value}
-use Rattle.sections.specs.Sections.{HeaderFlags, HeaderNumbers, Header, Titles, Footnote, Footnotes, AreaFont, AreaColors, AreaMargins, Area, EightAreas, Areas, BordersContent, Borders, PrintSettingsContent, PrintSettings, BreaksContent, TableFlags, TableSettingsContent, TableSettings, Y0, CustomCurrency, X1Start, X1, X2, X1X2, X3, Formats, Front}
+use Rattle.value.specs.Value.{FontStyle, CellStyle, StylePair, TemplatePrefix, TemplateString, Modifiers, ValueMod, ArgumentOf, TemplateOf, Form01, Form02, Form03, Form04, Form05, Form06, RawValueOf, ValueIn, Value, CellValue}
+use Rattle.sections.specs.Sections.{HeaderFlags, HeaderNumbers, HeaderStart, HeaderRest, Titles, Footnote, Footnotes, AreaFont, AreaColors, AreaMargins, Area, EightAreas, Areas, BordersContent, Borders, PrintSettingsContent, PrintSettings, BreaksContent, TableFlags, TableSettingsContent, TableSettings, Y0, CustomCurrency, X1Start, X1, X2, X1X2, X3, Y1, Y2, X0, FormatsEnd, Formats, Front}
 use Rattle.once.specs.Once.{fresh, firstBad}
 use Rattle.index.specs.Index.{product}
 use Rattle.table.specs.Table.{DimProperties}
 use Rattle.table.specs.Records.{sum, nodes as categoryNodes, leafIndexes, dimNodes, dimLeaves, nodeRecord, wordsAll, treeWords, dimWords, dimsWords}
 use Rattle.table.specs.Rules.{categoryRule, leavesAll, treeLeaves, leavesOf, dimensionRule, dimensionsRule, entryRule, axesRule, cellRule, cellsRule}
 use Rattle.member.specs.Member.{Member, dimensions, nodes, cells, nodeRecords, MemberDerivation, AsDemanded}
-use Rattle.member.specs.Refused.{memberRule}
+use Rattle.member.specs.Refused.{bodyRule, memberRule}
 use Rattle.member.specs.Checked.{ended, checked}
 use Rattle.member.specs.Laws.Demanded.{accepted}
 
@@ -149,12 +149,12 @@ toLine (no n p) = refused-at n p
 -- with all that it takes to compute it
 unfoldable computed : List ℕ → Got (Tree Member)
 unfolding checked ended check read passes suits among refusal pick lead spell digits le spellAll spellFill
-    Front Header HeaderFlags HeaderNumbers Titles Footnote Footnotes AreaFont AreaColors AreaMargins Area EightAreas
+    HeaderStart HeaderRest Front HeaderFlags HeaderNumbers Titles Footnote Footnotes AreaFont AreaColors AreaMargins Area EightAreas
     Areas BordersContent Borders PrintSettingsContent PrintSettings BreaksContent TableFlags TableSettingsContent TableSettings
-    Y0 CustomCurrency X1Start X1 X2 X1X2 X3 Formats
+    Y0 CustomCurrency X1Start X1 X2 X1X2 X3 Y1 Y2 X0 FormatsEnd Formats
     FontStyle CellStyle StylePair TemplatePrefix TemplateString Modifiers ValueMod ArgumentOf TemplateOf
-    Form01 Form02 Form03 Form04 Form05 Form06 RawValueOf ValueIn Value
-    DimProperties memberRule dimensionsRule dimensionRule categoryRule leavesOf leavesAll treeLeaves entryRule axesRule cellRule cellsRule
+    Form01 Form02 Form03 Form04 Form05 Form06 RawValueOf ValueIn Value CellValue
+    DimProperties bodyRule memberRule dimensionsRule dimensionRule categoryRule leavesOf leavesAll treeLeaves entryRule axesRule cellRule cellsRule
     fresh firstBad product sum categoryNodes size leafIndexes dimNodes dimLeaves
 computed bs = checked bs
 

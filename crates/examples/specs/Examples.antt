@@ -9,10 +9,10 @@ use Rattle.layout.specs.Read.{Got, got, no, read, refusal}
 use Rattle.layout.specs.Check.{check}
 use Rattle.units.specs.Units.{in-pixels, in-points}
 use Rattle.value.specs.Value.{Value, ValueIn, RawValueOf, TemplateOf, ArgumentOf}
-use Rattle.sections.specs.Sections.{Front, Header, HeaderFlags, HeaderNumbers}
+use Rattle.sections.specs.Sections.{Front, HeaderStart, HeaderRest, HeaderFlags, HeaderNumbers}
 use Rattle.once.specs.Once.{fresh}
 use Rattle.index.specs.Index.{product, index}
-use Rattle.member.specs.Refused.{memberRule}
+use Rattle.member.specs.Refused.{bodyRule, memberRule}
 use Rattle.member.specs.Checked.{ended, checked}
 
 data Input : Type 0 where
@@ -49,7 +49,7 @@ all-fresh n seen (x ∷ xs) = fresh n seen x && all-fresh n (x ∷ seen) xs
 
 result : Input → Result
 result (member bs) = ofMember (checked bs)
-result (value bs) = ofValue (read Value bs 0)
+result (value bs) = ofValue (read (Value 3) bs 0)
 result (coordinates ds) = number (index ds)
 result (cells ns xs) = fits (all-fresh (product ns) [] xs)
 result (points n) = number (in-pixels record { 0 = n } .value .0)
@@ -64,7 +64,7 @@ examples : List Example
 examples =
     record { inputs = member (0x01 ∷ []) ∷ []; expected = refused-at 2 1 ∷ [] }
     ∷ record { inputs = member (0x00 ∷ []) ∷ []; expected = refused-at 3 0 ∷ [] }
-    ∷ record { inputs = member (0x01 ∷ 0x00 ∷ 0x01 ∷ 0x00 ∷ 0x00 ∷ 0x00 ∷ []) ∷ []; expected = refused-at 4 2 ∷ [] }
+    ∷ record { inputs = member (0x01 ∷ 0x00 ∷ 0x01 ∷ 0x00 ∷ 0x00 ∷ 0x00 ∷ []) ∷ []; expected = refused-at 2 6 ∷ [] }
     ∷ record { inputs = member (0x01 ∷ 0x00 ∷ 0x03 ∷ 0x00 ∷ 0x00 ∷ 0x00 ∷ 0x02 ∷ []) ∷ []; expected = refused-at 5 6 ∷ [] }
     ∷ record { inputs = value (0x58 ∷ replicate 8 0x00) ∷ []; expected = long 9 ∷ [] }
     ∷ record { inputs = value (0x00 ∷ 0x00 ∷ 0x00 ∷ 0x00 ∷ 0x58 ∷ replicate 8 0x00) ∷ []; expected = long 13 ∷ [] }
@@ -80,5 +80,5 @@ examples =
     ∷ []
 
 twelve : map (λ (e : Example). map result (e .inputs)) examples ≡ map (λ (e : Example). e .expected) examples
-unfolding examples result ofMember ofValue all-fresh checked ended memberRule check pick read passes among refusal fresh product Front Header HeaderFlags HeaderNumbers Value ValueIn RawValueOf TemplateOf ArgumentOf
+unfolding examples result ofMember ofValue all-fresh checked ended bodyRule memberRule check pick read passes among refusal fresh product HeaderStart HeaderRest Front HeaderFlags HeaderNumbers Value ValueIn RawValueOf TemplateOf ArgumentOf
 twelve = refl

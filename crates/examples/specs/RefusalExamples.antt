@@ -5,7 +5,7 @@ use mathlib.Core.Path.{_≡_, refl}
 use mathlib.Core.List.{List, [], _∷_, _++_, map}
 use Prim.Native.Nat.{ℕ, zero, suc}
 use lib.ListN.{length, take, drop, set}
-use Rattle.layout.specs.Layout.{big, digits}
+use Rattle.layout.specs.Layout.{little, big, digits}
 use Rattle.examples.specs.AcceptedExample.{member, Line, refused-at, accepted-with, line}
 
 -- ---- parts
@@ -37,10 +37,26 @@ continued : ℕ → List ℕ → List ℕ
 unfolding member
 continued n text = take 555 (set member 537 n) ++ digits big 4 (length text) ++ text ++ drop 559 member
 
+-- the same table in version 1: areas without margins, empty regions of TableSettings and Formats
+without-margins : ℕ → List ℕ → List ℕ
+without-margins zero bs = []
+without-margins (suc n) bs = take 40 bs ++ without-margins n (drop 56 bs)
+
+version-1 : List ℕ
+unfolding member without-margins
+version-1 =
+    set (take 73 member) 2 0x01 ++ without-margins 8 (take 448 (drop 73 member)) ++ take 38 (drop 521 member) ++ digits little 4 0 ++ take 25 (drop 616 member)
+    ++ digits little 4 0 ++ drop 706 member
+
+-- with so many bytes 00 before the Value of its last cell
+with-zeros : ℕ → List ℕ
+unfolding version-1 repeated
+with-zeros n = take 689 version-1 ++ repeated n (0x00 ∷ []) ++ drop 689 version-1
+
 -- ---- the table
 
 examples : List (List ℕ × Line)
-unfolding member repeated group holder four continued
+unfolding member repeated group holder four continued version-1 with-zeros
 examples =
     -- 2, a field that does not fit: the first; the version; the last; a region; a string, in a region that ends before it
     ([], refused-at 2 0)
@@ -53,8 +69,12 @@ examples =
     ∷ (set member 73 0x02, refused-at 3 73)
     ∷ (set member 747 0x02, refused-at 3 745)
     ∷ (set member 752 0x00, refused-at 3 752)
-    -- 4, the version
-    ∷ (set member 2 0x01, refused-at 4 2)
+    -- 4, the version; in version 1 a ValueMod that begins 31, here the title's
+    ∷ (set member 2 0x02, refused-at 4 2)
+    ∷ (set version-1 39 0x31, refused-at 4 39)
+    -- in version 1 an Area has no margins, and a cell a run of up to five bytes 00
+    ∷ (set member 2 0x01, refused-at 3 113)
+    ∷ (with-zeros 6, refused-at 3 694)
     -- 5, a bool of the header, and of a dimension
     ∷ (set member 6 0x02, refused-at 5 6)
     ∷ (set member 725 0x02, refused-at 5 725)
@@ -106,6 +126,9 @@ examples =
     ∷ (member, accepted-with 2 5 2)
     ∷ (member ++ (0x01 ∷ []), accepted-with 2 5 2)
     ∷ (continued 0x13 (0x41 ∷ []), accepted-with 2 5 2)
+    -- of version 1
+    ∷ (version-1, accepted-with 2 5 2)
+    ∷ (with-zeros 5, accepted-with 2 5 2)
     ∷ []
 
 refusals : map (λ (e : List ℕ × Line). line (e .0)) examples ≡ map (λ (e : List ℕ × Line). e .1) examples

@@ -2,7 +2,7 @@
 use mathlib.Core.List.{List, [], _∷_}
 use Prim.Native.Nat.{ℕ}
 use lib.Dec.{eqb}
-use Rattle.layout.specs.Layout.{Order, little, big, Test, any-number, the-number, a-bool, at-most, one-of, no-zero, exact, Layout, empty, number, string, times, leading, region, pick}
+use Rattle.layout.specs.Layout.{Order, little, big, Test, any-number, the-number, a-bool, at-most, one-of, one-of-but, no-zero, exact, Layout, empty, number, string, times, leading, region, pick}
 
 -- a number alone
 abbrev pub field : Order → ℕ → Test → Layout
@@ -51,6 +51,10 @@ double = int64
 abbrev pub float : Layout
 float = int32
 
+-- v3(X): "In a version 3 `.bin` member, X; in version 1, nothing"
+abbrev pub v3 : ℕ → Layout → Layout
+v3 version x = pick (eqb version 3) x empty
+
 -- `string` itself is a layout over the order and the width of its length. A member's strings hold no zero byte (document 02, T-06)
 abbrev pub lestring : Layout
 lestring = string little 4 no-zero
@@ -78,6 +82,10 @@ bemany x = number big 4 any-number (λ n. times n x)
 abbrev pub either : ℕ → Layout → ℕ → Layout → Layout
 either a x b y = number little 1 (one-of (a ∷ b ∷ [])) (λ n. pick (eqb n a) x y)
 
+-- the same without the bytes that only other versions have
+abbrev pub either-but : List ℕ → ℕ → Layout → ℕ → Layout → Layout
+either-but others a x b y = number little 1 (one-of-but (a ∷ b ∷ []) others) (λ n. pick (eqb n a) x y)
+
 -- 31 X | 58
 abbrev pub if31 : Layout → Layout
 if31 x = either 0x31 x 0x58 empty
@@ -91,8 +99,9 @@ abbrev pub keys : List (ℕ × Layout) → List ℕ
 keys [] = []
 keys (c ∷ cs) = c .0 ∷ keys cs
 
-abbrev pub alternatives : List (ℕ × Layout) → Layout
-alternatives cs = number little 1 (one-of (keys cs)) (choose cs)
+-- without those whose first byte only other versions have
+abbrev pub alternatives-but : List ℕ → List (ℕ × Layout) → Layout
+alternatives-but others cs = number little 1 (one-of-but (keys cs) others) (choose cs)
 
 -- count(X), becount(X)
 abbrev pub count : Layout → Layout

@@ -1,7 +1,7 @@
 -- The notation of source document 003, "Binary Format Conventions", as data: a grammar, its derivation trees, and the bytes that a
 -- tree spells. It says what is allowed, and nothing of how it is found out.
 use mathlib.Core.Path.{_≡_}
-use mathlib.Core.Bool.{Bool, true, false, not, _||_}
+use mathlib.Core.Bool.{Bool, true, false, not, _&&_, _||_}
 use mathlib.Core.Option.{Option, none, some}
 use mathlib.Core.List.{List, [], _∷_, _++_, reverse}
 use Prim.Native.Nat.{ℕ, zero, suc, _+_, _*_, _/_, _%_, _^_, _≤_, _<_}
@@ -28,6 +28,8 @@ pub data Test : Type 0 where
   at-most : ℕ → Test
   -- one of several values (A | B)
   one-of : List ℕ → Test
+  -- one of the first values, and none of the second, which only other versions have (v1(X), v3(X))
+  one-of-but : List ℕ → List ℕ → Test
   -- a color of a look, whose high byte is 0 (002: "the high bits are zeros")
   a-color : Test
 
@@ -148,6 +150,7 @@ passes (a-version ks) n = among n ks
 passes a-bool n = leb n 1
 passes (at-most k) n = leb n k
 passes (one-of ks) n = among n ks
+passes (one-of-but ks others) n = among n ks && not (among n others)
 passes a-color n = ltb n (256 ^ 3)
 
 unfoldable pub suits : Content → List ℕ → Bool

@@ -50,7 +50,7 @@ peek o w s (Refused r p) = 0
 
 -- the refusal that a number gets by a test; 0 for none
 unfoldable pub verdict : Test → ℕ → ℕ
-verdict test n = pick (passes test n) 0 (refusal test)
+verdict test n = pick (passes test n) 0 (refusal test n)
 
 -- past a field of w bytes, where c is its verdict
 abbrev pub judged : ℕ → ℕ → Got ℕ → Step

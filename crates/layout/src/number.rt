@@ -3,7 +3,7 @@ ghost use mathlib.Core.Path.{_≡_};
 ghost use mathlib.Core.List.{[], _∷_};
 ghost use Prim.Native.Nat.{_≤_, _-_, min};
 ghost use lib.ListN.{length, take, drop};
-ghost use Rattle.layout.specs.Layout.{little, big, any-number, the-number, a-version, a-bool, at-most, one-of, undigits, pick, among};
+ghost use Rattle.layout.specs.Layout.{little, big, any-number, the-number, a-version, a-bool, at-most, one-of, one-of-but, undigits, pick, among};
 ghost use Rattle.layout.specs.Conventions as grammar;
 ghost use Rattle.layout.specs.Reads as spec;
 ghost use Rattle.layout.specs.Reads.{Reads, order, verdict};
@@ -133,13 +133,6 @@ pub fn limit(v: u64, n: u64) -> u32
     if small { 0 } else { 7 }
 }
 
-fn known(v: u64, n: u64) -> u32
-    ensures { λ c. ⌜ c ≡ verdict (a-version (n ∷ [])) v ⌝ }
-{
-    let same = v == n;
-    if same { 0 } else { 4 }
-}
-
 // 0 for one of two numbers, and the refusal for any other.
 pub fn unless_either(v: u64, a: u64, b: u64, refusal: u32) -> u32
     ensures { λ c. ⌜ c ≡ pick (among v (a ∷ b ∷ [])) 0 refusal ⌝ }
@@ -155,10 +148,28 @@ pub fn unless_either(v: u64, a: u64, b: u64, refusal: u32) -> u32
     }
 }
 
+fn known(v: u64, a: u64, b: u64) -> u32
+    ensures { λ c. ⌜ c ≡ verdict (a-version (a ∷ b ∷ [])) v ⌝ }
+{
+    unless_either(v, a, b, 4)
+}
+
 fn either(v: u64, a: u64, b: u64) -> u32
     ensures { λ c. ⌜ c ≡ verdict (one-of (a ∷ b ∷ [])) v ⌝ }
 {
     unless_either(v, a, b, 3)
+}
+
+// The verdict on one of two numbers, of which the first is left out in other versions.
+fn either_but(v: u64, a: u64, b: u64, without: bool) -> u32
+    ensures { λ c. ⌜ c ≡ verdict (one-of-but (a ∷ b ∷ []) (pick without (a ∷ []) [])) v ⌝ }
+{
+    let first = v == a;
+    if first {
+        return if without { 4 } else { 0 };
+    }
+    let second = v == b;
+    if second { 0 } else { 3 }
 }
 
 // ---- fields
@@ -185,11 +196,11 @@ pub fn boolean(s: &[u8], st: Step) -> Step
     field(s, st, 1, flag(number(s, st, false, 1)))
 }
 
-// The version n, in four bytes.
-pub fn version(s: &[u8], st: Step, n: u64) -> Step
-    ensures { λ r. ⌜ Reads (grammar.field little 4 (a-version (n ∷ []))) (now (s .entry)) st r ⌝ }
+// One of two versions, in four bytes.
+pub fn version(s: &[u8], st: Step, a: u64, b: u64) -> Step
+    ensures { λ r. ⌜ Reads (grammar.field little 4 (a-version (a ∷ b ∷ []))) (now (s .entry)) st r ⌝ }
 {
-    field(s, st, 4, known(number(s, st, false, 4), n))
+    field(s, st, 4, known(number(s, st, false, 4), a, b))
 }
 
 // A count of four bytes, which is at most n.
@@ -197,6 +208,13 @@ pub fn count(s: &[u8], st: Step, n: u64) -> Step
     ensures { λ r. ⌜ Reads (grammar.field little 4 (at-most n)) (now (s .entry)) st r ⌝ }
 {
     field(s, st, 4, limit(number(s, st, false, 4), n))
+}
+
+// One of two bytes, of which the first may be left out in this version.
+pub fn one_of_two_but(s: &[u8], st: Step, a: u64, b: u64, without: bool) -> Step
+    ensures { λ r. ⌜ Reads (grammar.field little 1 (one-of-but (a ∷ b ∷ []) (pick without (a ∷ []) []))) (now (s .entry)) st r ⌝ }
+{
+    field(s, st, 1, either_but(number(s, st, false, 1), a, b, without))
 }
 
 // One of two bytes.

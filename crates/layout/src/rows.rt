@@ -37,7 +37,7 @@ pub fn rows(s: &[u8], st: Step, n: u64, size: usize) -> Step
 }
 
 // n fields of w bytes of any value.
-fn fields(s: &[u8], st: Step, high: bool, n: u64, w: usize) -> Step
+pub fn fields(s: &[u8], st: Step, high: bool, n: u64, w: usize) -> Step
     ensures { λ r. ⌜ Reads (times n (grammar.field (order high) w any-number)) (now (s .entry)) st r ⌝ }
 {
     let k = fitting(s, st, n, w);

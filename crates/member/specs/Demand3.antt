@@ -18,14 +18,15 @@ use lib.ListN.{length, drop}
 use Rattle.sizes.specs.Sizes.{member-bytes, most-dimensions, node-words, cell-words, dimension-area}
 use Rattle.layout.specs.Layout.{Tree, All}
 use Rattle.layout.specs.Strings.{strings, NoZero}
+use Rattle.value.specs.Value.{Value, CellValue}
 use Rattle.member.specs.declared.Answer.{Answer}
-use Rattle.member.specs.Member.{Member, dimensions, layers, rows, columns, order, cells, nodes, nodeRecords, dimensionEntries, cellRecords, MemberDerivation, AsDemanded, LargeEnough}
+use Rattle.member.specs.Member.{Member, version, dimensions, layers, rows, columns, order, cells, nodes, nodeRecords, dimensionEntries, cellRecords, MemberDerivation, AsDemanded, LargeEnough}
 use Rattle.member.specs.Refused.{RefusedWith}
 use Rattle.member.specs.Answer.{zeros}
 use Rattle.member.specs.Laws.Demanded as demanded
 use Rattle.member.specs.Laws.RecordsSpelt.{nodeNames, dimensionNames, cellValues}
 use Rattle.member.specs.Laws.ValidValues.{nodes-valid, dimensions-valid, cells-valid}
-use Rattle.member.specs.Laws.NoZeroInside.{Free, member-free, values-free}
+use Rattle.member.specs.Laws.NoZeroInside.{Free, member-free, values-free, cell-values-free}
 
 -- a derivation that is as demanded, for which areas of these lengths are large enough
 pub record Accepted (bs : List ℕ) (node-length cell-length : ℕ) : Type 0 where
@@ -80,6 +81,8 @@ no-zero-inside m = member-free (m .tree) (m .valid)
 
 -- .. and so none of the Values that the records of an accepted member point to (`Laws.RecordsSpelt`): names of nodes and dimensions, cells.
 pub values-no-zero-inside : {bs : List ℕ} (m : MemberDerivation bs)
-    → All Free (nodeNames (m .tree)) × All Free (dimensionNames (m .tree)) × All Free (cellValues (m .tree))
+    → let v = version (m .tree) in
+    All (Free (Value v)) (nodeNames (m .tree)) × All (Free (Value v)) (dimensionNames (m .tree)) × All (Free (CellValue v)) (cellValues (m .tree))
 values-no-zero-inside m =
-    (values-free (nodes-valid (m .tree) (m .valid)), values-free (dimensions-valid (m .tree) (m .valid)), values-free (cells-valid (m .tree) (m .valid)))
+    let v = version (m .tree) in
+    (values-free v (nodes-valid (m .tree) (m .valid)), values-free v (dimensions-valid (m .tree) (m .valid)), cell-values-free v (cells-valid (m .tree) (m .valid)))

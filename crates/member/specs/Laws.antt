@@ -10,5 +10,6 @@ pub mod RecordsSpelt
 pub mod NodesBelow
 pub mod NoCells
 -- the readers
+pub mod Header
 pub mod Whole
 pub mod Holds

@@ -6,10 +6,10 @@ use lib.ListN.{length}
 use Rattle.sizes.specs.Sizes.{member-bytes, node-words, cell-words}
 use Rattle.layout.specs.Layout.{Tree, spell}
 use Rattle.layout.specs.Fails.{Spells, Runs}
-use Rattle.layout.specs.Rule.{Rule, plain, _▸▸_, Kept, Breaks}
-use Rattle.sections.specs.Sections.{Front}
+use Rattle.layout.specs.Rule.{Rule, plain, _▸▸_, numbered, Kept, Breaks}
+use Rattle.sections.specs.Sections.{HeaderStart, Front}
 use Rattle.table.specs.Rules.{dimensionsRule, placesOf, axesRule, cellsRule}
-use Rattle.member.specs.Member.{Member, nodes, cells, MemberDerivation, AsDemanded}
+use Rattle.member.specs.Member.{Body, Member, nodes, cells, MemberDerivation, AsDemanded}
 use Rattle.table.specs.Records.{dimsOf}
 
 -- Where document 01's rows stand. `layout` is in layout/specs, `table` in table/specs:
@@ -18,7 +18,8 @@ use Rattle.table.specs.Records.{dimsOf}
 -- 1    member too long                                         0                               too-long, below
 -- 2    a field doesn't fit in the input or its region          first byte of the field         layout Fails: number-short, string-short, region-short
 -- 3    a fixed byte, fixed number, mark or area index differs  the field                       layout Fails: number-wrong, run-alone; Numbers: refusal
--- 4    version not 3                                           version                         layout Fails: number-wrong; Numbers: refusal
+-- 4    version neither 1 nor 3                                 version                         layout Fails: number-wrong; Numbers: refusal
+--      in version 1 a ValueMod that begins 31 (document 02)    that 31                         layout Fails: number-wrong; Numbers: refusal
 -- 5    a bool neither 0 nor 1                                  the byte                        layout Fails: number-wrong; Numbers: refusal
 -- 6    a region's content ends early                           first byte left in it           layout Fails: bytes-left
 -- 7    a limit passed: dimensions, footnotes, cells            the count                       layout Fails: number-wrong; Numbers: refusal
@@ -34,9 +35,14 @@ use Rattle.table.specs.Records.{dimsOf}
 -- 13   cell area shorter than 3 words a cell                   0                               few-cell-words, below
 -- 18   a zero byte inside a string (document 02, T-06)         its first length byte           layout Fails: string-wrong
 
--- the member's sections in their order, each with its tests: `Front` is Header to Formats, which the layout tests alone
+-- the member's sections in their order, each with its tests: `Front` is the Header from its version on, to Formats, which the layout tests alone
+unfoldable pub bodyRule : (version : ℕ) → Rule (Body version)
+bodyRule version =
+    plain (Front version) ▸▸ (λ _. dimensionsRule version) ▸▸ (λ t. axesRule version (dimsOf version (t .1)))
+    ▸▸ (λ t. cellsRule version (placesOf version (dimsOf version (t .0 .1))))
+
 unfoldable pub memberRule : Rule Member
-memberRule = plain Front ▸▸ (λ _. dimensionsRule) ▸▸ (λ t. axesRule (dimsOf (t .1))) ▸▸ (λ t. cellsRule (placesOf (dimsOf (t .0 .1))))
+memberRule = plain HeaderStart ▸▸ (λ _. numbered (λ version. bodyRule version))
 
 -- Refused bs n p: the bytes get refusal n, at the place p. "Order: 1, then the file from front to back, ... then 11"
 pub data Refused (bs : List ℕ) : ℕ → ℕ → Type 0 where

@@ -14,6 +14,7 @@ ghost use Rattle.member.specs.Answer as spec;
 ghost use Rattle.member.specs.Answer.{Delivered};
 ghost use Rattle.member.specs.Demand3.{Demand3};
 ghost use Rattle.member.specs.Checked.{ended, checked};
+ghost use Rattle.member.specs.Laws.Header.{Bound, HeaderRead};
 ghost use Rattle.member.specs.Laws.Whole as whole;
 ghost use Rattle.member.specs.Laws.Whole.{short-member};
 use cells::AxisCounts;
@@ -21,10 +22,14 @@ use cells::LEAST_CELL;
 use cells::axes;
 use cells::cells as cells_section;
 use index::product_of;
+use layout::LITTLE;
 use layout::Step;
+use layout::number::peek;
 use layout::run::skip;
 use layout::slice::part as part_of;
 use sections::front;
+use sections::header::start;
+use sections::header::version as known_version;
 use sizes::CELL_AREA;
 use sizes::CELL_WORDS;
 use sizes::DIMENSION_AREA;
@@ -44,6 +49,12 @@ const SHORT_MEMBER: usize = 4608;
 const SHORT_NODE_LIST: usize = SHORT_MEMBER / LEAST_CATEGORY * NODE_WORDS;
 
 const SHORT_CELL_LIST: usize = SHORT_MEMBER / LEAST_CELL * CELL_WORDS;
+
+// The version of a member and where what follows it starts; or the refusal.
+enum Head {
+    Of(u64, usize),
+    Refused(u32, usize),
+}
 
 // What comes after the dimensions: the axes, or the refusal; how many cells there are; and the dimension numbers on the axes.
 struct Tail {
@@ -70,6 +81,18 @@ pub struct Answer {
     pub order: [u32; MOST_DIMENSIONS],
 }
 
+// The Header as far as its version.
+fn header(s: &[u8]) -> Head
+    ensures { λ r. ⌜ HeaderRead (now (s .entry)) r ⌝ }
+{
+    let st = start(s, Step::Next(0));
+    let version = peek(s, st, LITTLE, 4);
+    match known_version(s, st) {
+        Step::Next(at) => Head::Of(version, at),
+        Step::Refused(r, p) => Head::Refused(r, p),
+    }
+}
+
 // The end of a member: an optional 01, and nothing after it.
 fn ending(s: &[u8], at: usize) -> Step
     ensures { λ r. ⌜ r ≡ whole.endAt (now (s .entry)) at ⌝ }
@@ -88,11 +111,11 @@ fn ending(s: &[u8], at: usize) -> Step
 }
 
 // The cells of a table of so many places, and the end.
-fn cells_and_end(s: &[u8], at: usize, places: u32, words: &mut [u32]) -> Walk
+fn cells_and_end(s: &[u8], at: usize, places: u32, words: &mut [u32], version: u64) -> Walk
     requires { ⌜ (length (now s) ≤ member-bytes) × (needed cell-records (length (now s)) ≤ length (now words)) ⌝ }
-    ensures { λ r. ⌜ Keeps (now (s .entry)) (AllCells at (now (words .entry))) (ended (check (cellsRule places) (drop at (now (s .entry))) at)) (cellsOut r (now (words .exit))) ⌝ }
+    ensures { λ r. ⌜ Keeps (now (s .entry)) (AllCells version at (now (words .entry))) (ended (check (cellsRule version places) (drop at (now (s .entry))) at)) (cellsOut r (now (words .exit))) ⌝ }
 {
-    match cells_section(s, at, places, words) {
+    match cells_section(s, at, places, words, version) {
         Walk::Refused(r, p) => Walk::Refused(r, p),
         Walk::On(q, m) => match ending(s, q) {
             Step::Refused(r, p) => Walk::Refused(r, p),
@@ -108,9 +131,10 @@ fn after_dims(
     d: usize,
     dims: &[u32; DIMENSION_AREA],
     words: &mut [u32],
+    version: u64,
 ) -> Tail
     requires { ⌜ (length (now s) ≤ member-bytes) × (needed cell-records (length (now s)) ≤ length (now words)) ⌝ }
-    ensures { λ r. ⌜ whole.TailRead (now (s .entry)) at d (now (dims .entry)) (now (words .entry)) r (now (words .exit)) ⌝ }
+    ensures { λ r. ⌜ whole.TailRead version (now (s .entry)) at d (now (dims .entry)) (now (words .entry)) r (now (words .exit)) ⌝ }
 {
     let places = product_of(dims, d);
     let small = places <= MOST_PLACES;
@@ -129,6 +153,7 @@ fn after_dims(
                 next,
                 places as u32,
                 words,
+                version,
             ) {
                 Walk::Refused(r, p) => Tail {
                     axes: AxisCounts::Refused(r, p),
@@ -216,24 +241,26 @@ fn deliver(
     }
 }
 
-// Reads a member, with two lists for the words of its records: zeros, and long enough.
-fn read_with_lists(
+// Reads a member of that version, from the place after it on, with two lists for the words of its records: zeros, and long enough.
+fn read_body(
     member: &[u8],
+    version: u64,
+    start: usize,
     node_list: &mut [u32],
     cell_list: &mut [u32],
     nodes: &mut [u32],
     cells: &mut [u32],
 ) -> Answer
-    requires { ⌜ whole.ReadyLists (now member) (now «node_list») (now «cell_list») ⌝ }
+    requires { ⌜ whole.ReadyLists (now member) (now «node_list») (now «cell_list») × Bound (now member) version start ⌝ }
     ensures { λ r. ⌜ Delivered (checked (now (member .entry))) (now (nodes .entry)) (now (cells .entry)) r (now (nodes .exit)) (now (cells .exit)) ⌝ }
 {
     let mut dims = [0u32; DIMENSION_AREA];
-    match front(member, Step::Next(0)) {
+    match front(member, Step::Next(start), version) {
         Step::Refused(r, p) => refused(r, p, 0, 0),
-        Step::Next(at) => match dimensions(member, at, node_list, &mut dims) {
+        Step::Next(at) => match dimensions(member, at, node_list, &mut dims, version) {
             Section::Refused(r, p) => refused(r, p, 0, 0),
             Section::Of(next, d, used) => {
-                let tail = after_dims(member, next, d, &dims, cell_list);
+                let tail = after_dims(member, next, d, &dims, cell_list, version);
                 let order = tail.order;
                 let axes = tail.axes;
                 match axes {
@@ -259,6 +286,23 @@ fn read_with_lists(
                 }
             }
         },
+    }
+}
+
+// Reads a member, with two lists for the words of its records: zeros, and long enough.
+fn read_with_lists(
+    member: &[u8],
+    node_list: &mut [u32],
+    cell_list: &mut [u32],
+    nodes: &mut [u32],
+    cells: &mut [u32],
+) -> Answer
+    requires { ⌜ whole.ReadyLists (now member) (now «node_list») (now «cell_list») ⌝ }
+    ensures { λ r. ⌜ Delivered (checked (now (member .entry))) (now (nodes .entry)) (now (cells .entry)) r (now (nodes .exit)) (now (cells .exit)) ⌝ }
+{
+    match header(member) {
+        Head::Refused(r, p) => refused(r, p, 0, 0),
+        Head::Of(version, at) => read_body(member, version, at, node_list, cell_list, nodes, cells),
     }
 }
 

@@ -1,9 +1,10 @@
--- Source document 003, the sections from "Header" to "Formats", for version 3, with document 01's choices.
-use mathlib.Core.List.{[], _∷_}
+-- Source document 003, the sections from "Header" to "Formats", with document 01's choices. The version, 1 or 3, is that of the Header.
+use mathlib.Core.List.{List, [], _∷_}
 use Prim.Native.Nat.{ℕ}
+use lib.Dec.{eqb}
 use Rattle.sizes.specs.Sizes.{most-footnotes}
-use Rattle.layout.specs.Layout.{little, a-version, optional, open-ended, Layout, empty, _▸_, times, region}
-use Rattle.layout.specs.Conventions.{field, fixed, i, ib, byte, bool, int16, int32, be32, int64, float, lestring, bestring, mark, at-most-many, many, bemany, if31, count, becount}
+use Rattle.layout.specs.Layout.{little, optional, open-ended, Layout, empty, _▸_, times, region, pick}
+use Rattle.layout.specs.Conventions.{fixed, i, ib, byte, bool, int16, int32, be32, int64, float, lestring, bestring, v3, mark, at-most-many, many, bemany, if31, count, becount}
 use Rattle.value.specs.Value.{Value, StylePair}
 
 -- ---- 003, Header
@@ -17,26 +18,34 @@ HeaderFlags = bool ▸ bool ▸ bool ▸ bool ▸ bool
 unfoldable pub HeaderNumbers : Layout
 HeaderNumbers = int32 ▸ int32 ▸ int32 ▸ int32 ▸ int32 ▸ int64
 
--- Header => 01 00 (i1 | i3)[version] ...; document 01: the version must be 3
-unfoldable pub Header : Layout
-Header = fixed 0x01 ▸ fixed 0x00 ▸ field little 4 (a-version (3 ∷ [])) ▸ HeaderFlags ▸ HeaderNumbers
+-- Header => 01 00 (i1 | i3)[version] ...: what stands before the version, the versions, and what follows it. The version decides what the
+-- rest of the member is (Member)
+unfoldable pub HeaderStart : Layout
+HeaderStart = fixed 0x01 ▸ fixed 0x00
+
+abbrev pub versions : List ℕ
+versions = 1 ∷ 3 ∷ []
+
+unfoldable pub HeaderRest : Layout
+HeaderRest = HeaderFlags ▸ HeaderNumbers
 
 -- ---- 003, Titles
 
 -- Titles => Value[title] 01? Value[subtype] 01? 31 Value[user-title] 01? (31 Value[corner-text] | 58) (31 Value[caption] | 58)
 -- document 01, our rule: after the title a byte 01 is always the mark
-unfoldable pub Titles : Layout
-Titles = Value ▸ mark 0x01 Value ▸ mark 0x01 (fixed 0x31) ▸ Value ▸ mark 0x01 (if31 Value) ▸ if31 Value
+unfoldable pub Titles : ℕ → Layout
+Titles version =
+    Value version ▸ mark 0x01 (Value version) ▸ mark 0x01 (fixed 0x31) ▸ Value version ▸ mark 0x01 (if31 (Value version)) ▸ if31 (Value version)
 
 -- ---- 003, Footnotes
 
 -- Footnote => Value[text] (58 | 31 Value[marker]) int32[show]
-unfoldable pub Footnote : Layout
-Footnote = Value ▸ if31 Value ▸ int32
+unfoldable pub Footnote : ℕ → Layout
+Footnote version = Value version ▸ if31 (Value version) ▸ int32
 
 -- Footnotes => int32[n-footnotes] Footnote*[n-footnotes], within document 01's limit
-unfoldable pub Footnotes : Layout
-Footnotes = at-most-many most-footnotes Footnote
+unfoldable pub Footnotes : ℕ → Layout
+Footnotes version = at-most-many most-footnotes (Footnote version)
 
 -- ---- 003, Areas
 
@@ -52,15 +61,16 @@ AreaColors = lestring ▸ lestring ▸ bool ▸ lestring ▸ lestring
 unfoldable pub AreaMargins : Layout
 AreaMargins = int32 ▸ int32 ▸ int32 ▸ int32
 
-unfoldable pub Area : ℕ → Layout
-Area index = AreaFont index ▸ AreaColors ▸ AreaMargins
+unfoldable pub Area : ℕ → ℕ → Layout
+Area version index = AreaFont index ▸ AreaColors ▸ v3 version AreaMargins
 
 -- Areas => 00? Area*8; document 01, our rule: they carry index 1 to 8 in order
-unfoldable pub EightAreas : Layout
-EightAreas = Area 1 ▸ Area 2 ▸ Area 3 ▸ Area 4 ▸ Area 5 ▸ Area 6 ▸ Area 7 ▸ Area 8
+unfoldable pub EightAreas : ℕ → Layout
+EightAreas version =
+    Area version 1 ▸ Area version 2 ▸ Area version 3 ▸ Area version 4 ▸ Area version 5 ▸ Area version 6 ▸ Area version 7 ▸ Area version 8
 
-unfoldable pub Areas : Layout
-Areas = mark 0x00 EightAreas
+unfoldable pub Areas : ℕ → Layout
+Areas version = mark 0x00 (EightAreas version)
 
 -- ---- 003, Borders
 
@@ -119,9 +129,9 @@ TableFlags = ib 1 ▸ be32 ▸ be32 ▸ bool ▸ bool ▸ bool ▸ bool ▸ byte
 unfoldable pub TableSettingsContent : Layout
 TableSettingsContent = TableFlags ▸ becount BreaksContent ▸ bestring ▸ bestring
 
--- document 01: free content after the look's name
-unfoldable pub TableSettings : Layout
-TableSettings = region little open-ended TableSettingsContent
+-- document 01: free content after the look's name; document 02, T-03: in version 1 from the first byte on
+unfoldable pub TableSettings : ℕ → Layout
+TableSettings version = region little open-ended (v3 version TableSettingsContent)
 
 -- ---- 003, Formats
 
@@ -132,6 +142,19 @@ Y0 = int32 ▸ byte ▸ byte
 -- CustomCurrency => int32[n-ccs] string*[n-ccs]
 unfoldable pub CustomCurrency : Layout
 CustomCurrency = many lestring
+
+-- 003, X0: Y1 => string[command] string[command-local] string[language] string[charset] string[locale]
+--     bool[x10] bool[include-leading-zero] bool[x12] bool[x13] Y0
+unfoldable pub Y1 : Layout
+Y1 = lestring ▸ lestring ▸ lestring ▸ lestring ▸ lestring ▸ bool ▸ bool ▸ bool ▸ bool ▸ Y0
+
+-- Y2 => CustomCurrency byte[missing] bool[x17]
+unfoldable pub Y2 : Layout
+Y2 = CustomCurrency ▸ byte ▸ bool
+
+-- X0 => byte*14 Y1 Y2
+unfoldable pub X0 : Layout
+X0 = times 14 byte ▸ Y1 ▸ Y2
 
 -- 003, X1: bool[x14] byte[show-title] bool[x16] byte[lang] byte[show-variables] byte[show-values] int32[x18] int32[x19]
 unfoldable pub X1Start : Layout
@@ -157,12 +180,17 @@ X1X2 = count (X1 ▸ count X2)
 unfoldable pub X3 : Layout
 X3 = region little open-ended empty
 
+-- count(v1(X0?) v3(count(X1 count(X2)) count(X3))); document 01: where all of a region's content is optional, it is there if the region has a byte
+unfoldable pub FormatsEnd : ℕ → Layout
+FormatsEnd version = pick (eqb version 1) (region little optional X0) (count (X1X2 ▸ X3))
+
 -- Formats => int32[n-widths] int32*[n-widths] string[locale] int32[current-layer] bool[x7] bool[x8] bool[x9]
 --     Y0 CustomCurrency count(...)
-unfoldable pub Formats : Layout
-Formats = many int32 ▸ lestring ▸ int32 ▸ bool ▸ bool ▸ bool ▸ Y0 ▸ CustomCurrency ▸ count (X1X2 ▸ X3)
+unfoldable pub Formats : ℕ → Layout
+Formats version = many int32 ▸ lestring ▸ int32 ▸ bool ▸ bool ▸ bool ▸ Y0 ▸ CustomCurrency ▸ FormatsEnd version
 
 -- ---- what stands before the dimensions
 
-unfoldable pub Front : Layout
-Front = Header ▸ Titles ▸ Footnotes ▸ Areas ▸ Borders ▸ PrintSettings ▸ TableSettings ▸ Formats
+-- from the version on
+unfoldable pub Front : ℕ → Layout
+Front version = HeaderRest ▸ Titles version ▸ Footnotes version ▸ Areas version ▸ Borders ▸ PrintSettings ▸ TableSettings version ▸ Formats version

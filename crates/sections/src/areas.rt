@@ -1,4 +1,5 @@
 // Areas.
+ghost use Rattle.layout.specs.Conventions as notation;
 ghost use Rattle.layout.specs.Reads.{Reads};
 ghost use Rattle.sections.specs.Sections as grammar;
 use layout::LITTLE;
@@ -32,7 +33,7 @@ fn colors(s: &[u8], st: Step) -> Step
     string(s, st, LITTLE, 4)
 }
 
-fn margins(s: &[u8], st: Step) -> Step
+fn four_margins(s: &[u8], st: Step) -> Step
     ensures { λ r. ⌜ Reads grammar.AreaMargins (now (s .entry)) st r ⌝ }
 {
     let st = any(s, st, 4);
@@ -41,27 +42,34 @@ fn margins(s: &[u8], st: Step) -> Step
     any(s, st, 4)
 }
 
-fn area(s: &[u8], st: Step, index: u64) -> Step
-    ensures { λ r. ⌜ Reads (grammar.Area index) (now (s .entry)) st r ⌝ }
+fn margins(s: &[u8], st: Step, version: u64) -> Step
+    ensures { λ r. ⌜ Reads (notation.v3 version grammar.AreaMargins) (now (s .entry)) st r ⌝ }
 {
-    margins(s, colors(s, font(s, st, index)))
+    let there = version == 3;
+    if there { four_margins(s, st) } else { st }
 }
 
-fn eight(s: &[u8], st: Step) -> Step
-    ensures { λ r. ⌜ Reads grammar.EightAreas (now (s .entry)) st r ⌝ }
+fn area(s: &[u8], st: Step, index: u64, version: u64) -> Step
+    ensures { λ r. ⌜ Reads (grammar.Area version index) (now (s .entry)) st r ⌝ }
 {
-    let st = area(s, st, 1);
-    let st = area(s, st, 2);
-    let st = area(s, st, 3);
-    let st = area(s, st, 4);
-    let st = area(s, st, 5);
-    let st = area(s, st, 6);
-    let st = area(s, st, 7);
-    area(s, st, 8)
+    margins(s, colors(s, font(s, st, index)), version)
 }
 
-pub fn areas(s: &[u8], st: Step) -> Step
-    ensures { λ r. ⌜ Reads grammar.Areas (now (s .entry)) st r ⌝ }
+fn eight(s: &[u8], st: Step, version: u64) -> Step
+    ensures { λ r. ⌜ Reads (grammar.EightAreas version) (now (s .entry)) st r ⌝ }
 {
-    eight(s, skip(s, st, 0x00, 1))
+    let st = area(s, st, 1, version);
+    let st = area(s, st, 2, version);
+    let st = area(s, st, 3, version);
+    let st = area(s, st, 4, version);
+    let st = area(s, st, 5, version);
+    let st = area(s, st, 6, version);
+    let st = area(s, st, 7, version);
+    area(s, st, 8, version)
+}
+
+pub fn areas(s: &[u8], st: Step, version: u64) -> Step
+    ensures { λ r. ⌜ Reads (grammar.Areas version) (now (s .entry)) st r ⌝ }
+{
+    eight(s, skip(s, st, 0x00, 1), version)
 }

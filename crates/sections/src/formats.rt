@@ -18,6 +18,7 @@ use layout::region::close_optional;
 use layout::region::many_strings;
 use layout::region::part;
 use layout::region::string;
+use layout::rows::fields;
 use layout::rows::many;
 use value::style_pair;
 
@@ -156,8 +157,55 @@ fn outer(s: &[u8], st: Step) -> Step
     close(p, outer_content(bytes(s, p), Step::Next(0)))
 }
 
-pub fn formats(s: &[u8], st: Step) -> Step
-    ensures { λ r. ⌜ Reads grammar.Formats (now (s .entry)) st r ⌝ }
+fn y1(s: &[u8], st: Step) -> Step
+    ensures { λ r. ⌜ Reads grammar.Y1 (now (s .entry)) st r ⌝ }
+{
+    let st = string(s, st, LITTLE, 4);
+    let st = string(s, st, LITTLE, 4);
+    let st = string(s, st, LITTLE, 4);
+    let st = string(s, st, LITTLE, 4);
+    let st = string(s, st, LITTLE, 4);
+    let st = boolean(s, st);
+    let st = boolean(s, st);
+    let st = boolean(s, st);
+    let st = boolean(s, st);
+    y0(s, st)
+}
+
+fn y2(s: &[u8], st: Step) -> Step
+    ensures { λ r. ⌜ Reads grammar.Y2 (now (s .entry)) st r ⌝ }
+{
+    let st = custom_currency(s, st);
+    let st = any(s, st, 1);
+    boolean(s, st)
+}
+
+fn x0(s: &[u8], st: Step) -> Step
+    ensures { λ r. ⌜ Reads grammar.X0 (now (s .entry)) st r ⌝ }
+{
+    let st = fields(s, st, LITTLE, 14, 1);
+    y2(s, y1(s, st))
+}
+
+fn x0_region(s: &[u8], st: Step) -> Step
+    ensures { λ r. ⌜ Reads (region little optional grammar.X0) (now (s .entry)) st r ⌝ }
+{
+    let p = part(s, st, LITTLE, 4);
+    close_optional(p, x0(bytes(s, p), Step::Next(0)))
+}
+
+fn end(s: &[u8], st: Step, version: u64) -> Step
+    ensures { λ r. ⌜ Reads (grammar.FormatsEnd version) (now (s .entry)) st r ⌝ }
+{
+    let old = version == 1;
+    if old {
+        return x0_region(s, st);
+    }
+    outer(s, st)
+}
+
+pub fn formats(s: &[u8], st: Step, version: u64) -> Step
+    ensures { λ r. ⌜ Reads (grammar.Formats version) (now (s .entry)) st r ⌝ }
 {
     let st = many(s, st, LITTLE, 4);
     let st = string(s, st, LITTLE, 4);
@@ -167,5 +215,5 @@ pub fn formats(s: &[u8], st: Step) -> Step
     let st = boolean(s, st);
     let st = y0(s, st);
     let st = custom_currency(s, st);
-    outer(s, st)
+    end(s, st, version)
 }

@@ -1,4 +1,6 @@
 // Header.
+ghost use Rattle.layout.specs.Layout.{little, a-version};
+ghost use Rattle.layout.specs.Conventions as notation;
 ghost use Rattle.layout.specs.Reads.{Reads};
 ghost use Rattle.sections.specs.Sections as grammar;
 use layout::LITTLE;
@@ -6,7 +8,7 @@ use layout::Step;
 use layout::number::any;
 use layout::number::boolean;
 use layout::number::fixed;
-use layout::number::version;
+use layout::number::version as one_of_versions;
 
 fn flags(s: &[u8], st: Step) -> Step
     ensures { λ r. ⌜ Reads grammar.HeaderFlags (now (s .entry)) st r ⌝ }
@@ -29,12 +31,25 @@ fn numbers(s: &[u8], st: Step) -> Step
     any(s, st, 8)
 }
 
-pub fn header(s: &[u8], st: Step) -> Step
-    ensures { λ r. ⌜ Reads grammar.Header (now (s .entry)) st r ⌝ }
+// What stands before the version.
+pub fn start(s: &[u8], st: Step) -> Step
+    ensures { λ r. ⌜ Reads grammar.HeaderStart (now (s .entry)) st r ⌝ }
 {
     let st = fixed(s, st, LITTLE, 1, 0x01);
-    let st = fixed(s, st, LITTLE, 1, 0x00);
-    let st = version(s, st, 3);
+    fixed(s, st, LITTLE, 1, 0x00)
+}
+
+// The version.
+pub fn version(s: &[u8], st: Step) -> Step
+    ensures { λ r. ⌜ Reads (notation.field little 4 (a-version grammar.versions)) (now (s .entry)) st r ⌝ }
+{
+    one_of_versions(s, st, 1, 3)
+}
+
+// What follows the version.
+pub fn rest(s: &[u8], st: Step) -> Step
+    ensures { λ r. ⌜ Reads grammar.HeaderRest (now (s .entry)) st r ⌝ }
+{
     let st = flags(s, st);
     numbers(s, st)
 }

@@ -5,7 +5,7 @@ use crate::areas::areas;
 use crate::borders::borders;
 use crate::footnotes::footnotes;
 use crate::formats::formats;
-use crate::header::header;
+use crate::header::rest;
 use crate::print_settings::print_settings;
 use crate::table_settings::table_settings;
 use crate::titles::titles;
@@ -22,16 +22,16 @@ pub mod print_settings;
 pub mod table_settings;
 pub mod titles;
 
-// From Header to Formats.
-pub fn front(s: &[u8], st: Step) -> Step
-    ensures { λ r. ⌜ Reads grammar.Front (now (s .entry)) st r ⌝ }
+// From the version of the Header to Formats.
+pub fn front(s: &[u8], st: Step, version: u64) -> Step
+    ensures { λ r. ⌜ Reads (grammar.Front version) (now (s .entry)) st r ⌝ }
 {
-    let st = header(s, st);
-    let st = titles(s, st);
-    let st = footnotes(s, st);
-    let st = areas(s, st);
+    let st = rest(s, st);
+    let st = titles(s, st, version);
+    let st = footnotes(s, st, version);
+    let st = areas(s, st, version);
     let st = borders(s, st);
     let st = print_settings(s, st);
-    let st = table_settings(s, st);
-    formats(s, st)
+    let st = table_settings(s, st, version);
+    formats(s, st, version)
 }

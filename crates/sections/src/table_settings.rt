@@ -57,9 +57,16 @@ fn content(s: &[u8], st: Step) -> Step
     string(s, st, BIG, 4)
 }
 
-pub fn table_settings(s: &[u8], st: Step) -> Step
-    ensures { λ r. ⌜ Reads grammar.TableSettings (now (s .entry)) st r ⌝ }
+fn content_of(s: &[u8], st: Step, version: u64) -> Step
+    ensures { λ r. ⌜ Reads (notation.v3 version grammar.TableSettingsContent) (now (s .entry)) st r ⌝ }
+{
+    let there = version == 3;
+    if there { content(s, st) } else { st }
+}
+
+pub fn table_settings(s: &[u8], st: Step, version: u64) -> Step
+    ensures { λ r. ⌜ Reads (grammar.TableSettings version) (now (s .entry)) st r ⌝ }
 {
     let p = part(s, st, LITTLE, 4);
-    close_open(p, content(bytes(s, p), Step::Next(0)))
+    close_open(p, content_of(bytes(s, p), Step::Next(0), version))
 }

@@ -10,10 +10,10 @@ use layout::number::fixed;
 use layout::run::skip;
 use value::value;
 
-fn marked_value(s: &[u8], st: Step) -> Step
-    ensures { λ r. ⌜ Reads (notation.mark 0x01 values.Value) (now (s .entry)) st r ⌝ }
+fn marked_value(s: &[u8], st: Step, version: u64) -> Step
+    ensures { λ r. ⌜ Reads (notation.mark 0x01 (values.Value version)) (now (s .entry)) st r ⌝ }
 {
-    value(s, skip(s, st, 0x01, 1))
+    value(s, skip(s, st, 0x01, 1), version)
 }
 
 fn marked_31(s: &[u8], st: Step) -> Step
@@ -22,19 +22,19 @@ fn marked_31(s: &[u8], st: Step) -> Step
     fixed(s, skip(s, st, 0x01, 1), LITTLE, 1, 0x31)
 }
 
-fn marked_optional(s: &[u8], st: Step) -> Step
-    ensures { λ r. ⌜ Reads (notation.mark 0x01 (notation.if31 values.Value)) (now (s .entry)) st r ⌝ }
+fn marked_optional(s: &[u8], st: Step, version: u64) -> Step
+    ensures { λ r. ⌜ Reads (notation.mark 0x01 (notation.if31 (values.Value version))) (now (s .entry)) st r ⌝ }
 {
-    optional_value(s, skip(s, st, 0x01, 1))
+    optional_value(s, skip(s, st, 0x01, 1), version)
 }
 
-pub fn titles(s: &[u8], st: Step) -> Step
-    ensures { λ r. ⌜ Reads grammar.Titles (now (s .entry)) st r ⌝ }
+pub fn titles(s: &[u8], st: Step, version: u64) -> Step
+    ensures { λ r. ⌜ Reads (grammar.Titles version) (now (s .entry)) st r ⌝ }
 {
-    let st = value(s, st);
-    let st = marked_value(s, st);
+    let st = value(s, st, version);
+    let st = marked_value(s, st, version);
     let st = marked_31(s, st);
-    let st = value(s, st);
-    let st = marked_optional(s, st);
-    optional_value(s, st)
+    let st = value(s, st, version);
+    let st = marked_optional(s, st, version);
+    optional_value(s, st, version)
 }

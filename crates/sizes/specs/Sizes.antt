@@ -27,6 +27,10 @@ most-cells = 4096
 abbrev pub value-depth : ℕ
 value-depth = 8
 
+-- so many are left inside the outermost
+abbrev pub below-value : ℕ
+below-value = 7
+
 -- "Categories nested 8 deep likewise."
 abbrev pub category-depth : ℕ
 category-depth = 8

@@ -15,6 +15,9 @@ pub const MOST_CELLS: usize = 4096;
 
 pub const VALUE_DEPTH: usize = 8;
 
+// Inside the outermost.
+pub const BELOW_VALUE: usize = 7;
+
 pub const CATEGORY_DEPTH: usize = 8;
 // the largest product of all n
 pub const MOST_PLACES: u64 = 4294967295;

@@ -47,7 +47,7 @@ pub data Unwritable (s : List ℕ) : (g : Layout) → Fields g → ℕ → ℕ �
   -- a number that does not pass its test ("a wrong version is 4, a wrong color 14", "shading above 10 is number 7 at the shading byte");
   -- or what it asks for
   number-wrong : {o : Order} {w : ℕ} {test : Test} {k : ℕ → Layout} {f : Fields (number o w test k)} {at : ℕ}
-      → passes test (f .0) ≡ false → Unwritable s (number o w test k) f at (refusal test) at
+      → passes test (f .0) ≡ false → Unwritable s (number o w test k) f at (refusal test (f .0)) at
   number-then : {o : Order} {w : ℕ} {test : Test} {k : ℕ → Layout} {f : Fields (number o w test k)} {at n p : ℕ}
       → passes test (f .0) ≡ true → Unwritable s (k (f .0)) (f .1) (at + w) n p → Unwritable s (number o w test k) f at n p
   -- "a name over 255 bytes is 7, then a name not inside the lent bytes is 2, both at its length byte" (for a length of one byte)

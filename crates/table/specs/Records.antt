@@ -6,12 +6,8 @@ use Rattle.sizes.specs.Sizes.{category-depth, no-parent}
 use Rattle.layout.specs.Layout.{Layout, empty, _▸_, Tree, spellAll, size}
 use Rattle.layout.specs.Conventions.{int32}
 use Rattle.once.specs.Once.{OnceEach}
-use Rattle.value.specs.Value.{Value}
+use Rattle.value.specs.Value.{Value, CellValue}
 use Rattle.table.specs.Table.{Leaf, GroupOf, CategoryOf, CategoryIn, DimProperties, Dimension, Dimensions, Axes, Cells, Cell, Category}
-
--- a category without what is below it
-abbrev pub Head : Layout
-Head = CategoryOf (λ _. empty)
 
 -- ---- the parts of a tree, by name
 
@@ -20,22 +16,6 @@ leafIndex t = t .0 .1 .0
 
 abbrev pub childCount : Tree (GroupOf (λ _. empty)) → ℕ
 childCount t = t .1 .0
-
-abbrev pub headName : Tree Head → Tree Value
-headName t = t .0
-
--- a dimension's name and properties, its name, and its categories
-abbrev pub dimOwn : Tree Dimension → Tree (Value ▸ DimProperties)
-dimOwn t = t .0
-
-abbrev pub dimName : Tree Dimension → Tree Value
-dimName t = t .0 .0
-
-abbrev pub dimCategories : Tree Dimension → List (Tree Category)
-dimCategories t = t .1 .1
-
-abbrev pub dimsOf : Tree Dimensions → List (Tree Dimension)
-dimsOf t = t .1
 
 -- the axis counts, and the entries: layers, then rows, then columns
 abbrev pub axisLayers : Tree Axes → ℕ
@@ -53,50 +33,11 @@ axisEntries t = let e = t .1 .1 .1 in e .0 .0 ++ e .0 .1 ++ e .1
 abbrev pub entryIndex : Tree int32 → ℕ
 entryIndex t = t .0
 
-abbrev pub cellIndex : Tree Cell → ℕ
-cellIndex t = t .0 .0
-
-abbrev pub cellValue : Tree Cell → Tree Value
-cellValue t = t .1
-
-abbrev pub cellsOf : Tree Cells → List (Tree Cell)
-cellsOf t = t .1
-
--- ---- a category's own part, and what is below it
-
-abbrev pub front : (d : ℕ) → Tree (CategoryIn (suc d)) → Tree Head
-front d (m, (zero, t)) = (m, (zero, t))
-front d (m, (suc k, (t, (n, ts)))) = (m, (suc k, (t, (n, tt))))
-
-abbrev pub children : (d : ℕ) → Tree (CategoryIn (suc d)) → List (Tree (CategoryIn d))
-children d (m, (zero, t)) = []
-children d (m, (suc k, (t, (n, ts)))) = ts
-
--- 0 leaf or 1 group
-abbrev pub kindOf : Tree Head → ℕ
-kindOf (m, (zero, t)) = 0
-kindOf (m, (suc k, t)) = 1
-
--- the leaf's index, or the number of direct children
-abbrev pub wordOf : Tree Head → ℕ
-wordOf (m, (zero, t)) = leafIndex t
-wordOf (m, (suc k, t)) = childCount t
-
--- how many categories are directly below
-abbrev pub belowOf : Tree Head → ℕ
-belowOf (m, (zero, t)) = 0
-belowOf (m, (suc k, t)) = childCount t
-
 -- ---- nodes
 
 unfoldable pub sum : {A : Type 0} → (A → ℕ) → List A → ℕ
 sum f [] = 0
 sum f (t ∷ ts) = f t + sum f ts
-
--- the number of nodes, at any depth
-unfoldable pub nodes : (d : ℕ) → Tree (CategoryIn d) → ℕ
-nodes zero t = 0
-nodes (suc d) t = 1 + sum (nodes d) (children d t)
 
 -- the words of trees that follow each other, from the node number `used` and the place `at` on
 unfoldable pub wordsAll : {A : Type 0} → (A → ℕ) → (A → ℕ) → (ℕ → ℕ → A → List ℕ) → ℕ → ℕ → List A → List ℕ
@@ -108,62 +49,9 @@ wordsAll count size f used at (t ∷ ts) = f used at t ++ wordsAll count size f 
 abbrev pub nodeRecord : ℕ → ℕ → ℕ → ℕ → ℕ → ℕ → ℕ → List ℕ
 nodeRecord kind dim par place long word many = kind ∷ dim ∷ par ∷ place ∷ long ∷ word ∷ many ∷ []
 
--- those of a category at the place `at` that contains so many nodes
-abbrev pub nodeWords : ℕ → ℕ → ℕ → ℕ → Tree Head → List ℕ
-nodeWords dim par at many h = nodeRecord (kindOf h) dim par at (size Value (headName h)) (wordOf h) many
-
--- the records of a category at the place `at` whose node has the number `used`, in file order
-unfoldable pub treeWords : (d dim par used at : ℕ) → Tree (CategoryIn d) → List ℕ
-treeWords zero dim par used at t = []
-treeWords (suc d) dim par used at t =
-    nodeWords dim par at (nodes (suc d) t) (front d t)
-    ++ wordsAll (nodes d) (size (CategoryIn d)) (treeWords d dim used) (used + 1) (at + size Head (front d t)) (children d t)
-
--- ---- leaves
-
-abbrev pub ownIndex : Tree Head → List ℕ
-ownIndex (m, (zero, t)) = leafIndex t ∷ []
-ownIndex (m, (suc k, t)) = []
-
--- the leaf indexes of a category, in file order
-unfoldable pub leafIndexes : (d : ℕ) → Tree (CategoryIn d) → List ℕ
-leafIndexes zero t = []
-leafIndexes (suc d) t = ownIndex (front d t) ++ spellAll (leafIndexes d) (children d t)
-
--- ---- dimensions
-
--- the number of nodes of a dimension
-unfoldable pub dimNodes : Tree Dimension → ℕ
-dimNodes t = sum (nodes category-depth) (dimCategories t)
-
--- its leaf indexes, in file order. n of a dimension is their number (document 01: its number of leaves at any depth)
-unfoldable pub dimLeaves : Tree Dimension → List ℕ
-dimLeaves t = spellAll (leafIndexes category-depth) (dimCategories t)
-
--- the n leaves of a dimension have the indexes 0 to n-1, once each (document 01, our rule)
-abbrev pub LeavesOnce : Tree Dimension → Type 0
-LeavesOnce t = OnceEach (length (dimLeaves t)) (dimLeaves t)
-
--- the node records of dimension i at the place `at`, whose first node has the number `used`. A category of the dimension itself has no parent
-unfoldable pub dimWords : ℕ → ℕ → ℕ → Tree Dimension → List ℕ
-dimWords i used at t =
-    wordsAll (nodes category-depth) (size Category) (treeWords category-depth i no-parent) used (at + size (Value ▸ DimProperties) (dimOwn t) + 4) (dimCategories t)
-
 -- the words of a dimension's entry: place and length of its name, n, first node
 abbrev pub dimRecord : ℕ → ℕ → ℕ → ℕ → List ℕ
 dimRecord place long n first = place ∷ long ∷ n ∷ first ∷ []
-
-unfoldable pub dimEntry : ℕ → ℕ → Tree Dimension → List ℕ
-dimEntry used at t = dimRecord at (size Value (dimName t)) (length (dimLeaves t)) used
-
--- the same of dimensions that follow each other, from number i on
-unfoldable pub dimsWords : ℕ → ℕ → ℕ → List (Tree Dimension) → List ℕ
-dimsWords i used at [] = []
-dimsWords i used at (t ∷ ts) = dimWords i used at t ++ dimsWords (i + 1) (used + dimNodes t) (at + size Dimension t) ts
-
-unfoldable pub dimsEntries : ℕ → ℕ → List (Tree Dimension) → List ℕ
-dimsEntries used at [] = []
-dimsEntries used at (t ∷ ts) = dimEntry used at t ++ dimsEntries (used + dimNodes t) (at + size Dimension t) ts
 
 -- ---- axes and cells
 
@@ -171,11 +59,124 @@ dimsEntries used at (t ∷ ts) = dimEntry used at t ++ dimsEntries (used + dimNo
 abbrev pub cellRecord : ℕ → ℕ → ℕ → List ℕ
 cellRecord index place long = index ∷ place ∷ long ∷ []
 
--- those of a cell at the place `at`: its index takes 8 bytes
-abbrev pub cellWords : ℕ → Tree Cell → List ℕ
-cellWords at t = cellRecord (cellIndex t) (at + 8) (size Value (cellValue t))
-
 -- the words of records that follow each other, from the place `at` on
 unfoldable pub rowsWords : {A : Type 0} → (A → ℕ) → (ℕ → A → List ℕ) → ℕ → List A → List ℕ
 rowsWords size words at [] = []
 rowsWords size words at (t ∷ ts) = words at t ++ rowsWords size words (at + size t) ts
+
+module _ (version : ℕ) where
+  -- a category without what is below it
+  abbrev pub Head : Layout
+  Head = CategoryOf version (λ _. empty)
+
+  abbrev pub headName : Tree Head → Tree (Value version)
+  headName t = t .0
+
+  -- a dimension's name and properties, its name, and its categories
+  abbrev pub dimOwn : Tree (Dimension version) → Tree ((Value version) ▸ DimProperties)
+  dimOwn t = t .0
+
+  abbrev pub dimName : Tree (Dimension version) → Tree (Value version)
+  dimName t = t .0 .0
+
+  abbrev pub dimCategories : Tree (Dimension version) → List (Tree (Category version))
+  dimCategories t = t .1 .1
+
+  abbrev pub dimsOf : Tree (Dimensions version) → List (Tree (Dimension version))
+  dimsOf t = t .1
+
+  abbrev pub cellIndex : Tree (Cell version) → ℕ
+  cellIndex t = t .0 .0
+
+  abbrev pub cellValue : Tree (Cell version) → Tree (CellValue version)
+  cellValue t = t .1
+
+  abbrev pub cellsOf : Tree (Cells version) → List (Tree (Cell version))
+  cellsOf t = t .1
+
+  -- ---- a category's own part, and what is below it
+
+  abbrev pub front : (d : ℕ) → Tree (CategoryIn version (suc d)) → Tree Head
+  front d (m, (zero, t)) = (m, (zero, t))
+  front d (m, (suc k, (t, (n, ts)))) = (m, (suc k, (t, (n, tt))))
+
+  abbrev pub children : (d : ℕ) → Tree (CategoryIn version (suc d)) → List (Tree (CategoryIn version d))
+  children d (m, (zero, t)) = []
+  children d (m, (suc k, (t, (n, ts)))) = ts
+
+  -- 0 leaf or 1 group
+  abbrev pub kindOf : Tree Head → ℕ
+  kindOf (m, (zero, t)) = 0
+  kindOf (m, (suc k, t)) = 1
+
+  -- the leaf's index, or the number of direct children
+  abbrev pub wordOf : Tree Head → ℕ
+  wordOf (m, (zero, t)) = leafIndex t
+  wordOf (m, (suc k, t)) = childCount t
+
+  -- how many categories are directly below
+  abbrev pub belowOf : Tree Head → ℕ
+  belowOf (m, (zero, t)) = 0
+  belowOf (m, (suc k, t)) = childCount t
+
+  -- the number of nodes, at any depth
+  unfoldable pub nodes : (d : ℕ) → Tree (CategoryIn version d) → ℕ
+  nodes zero t = 0
+  nodes (suc d) t = 1 + sum (nodes d) (children d t)
+
+  -- those of a category at the place `at` that contains so many nodes
+  abbrev pub nodeWords : ℕ → ℕ → ℕ → ℕ → Tree Head → List ℕ
+  nodeWords dim par at many h = nodeRecord (kindOf h) dim par at (size (Value version) (headName h)) (wordOf h) many
+
+  -- the records of a category at the place `at` whose node has the number `used`, in file order
+  unfoldable pub treeWords : (d dim par used at : ℕ) → Tree (CategoryIn version d) → List ℕ
+  treeWords zero dim par used at t = []
+  treeWords (suc d) dim par used at t =
+      nodeWords dim par at (nodes (suc d) t) (front d t)
+      ++ wordsAll (nodes d) (size (CategoryIn version d)) (treeWords d dim used) (used + 1) (at + size Head (front d t)) (children d t)
+
+  -- ---- leaves
+
+  abbrev pub ownIndex : Tree Head → List ℕ
+  ownIndex (m, (zero, t)) = leafIndex t ∷ []
+  ownIndex (m, (suc k, t)) = []
+
+  -- the leaf indexes of a category, in file order
+  unfoldable pub leafIndexes : (d : ℕ) → Tree (CategoryIn version d) → List ℕ
+  leafIndexes zero t = []
+  leafIndexes (suc d) t = ownIndex (front d t) ++ spellAll (leafIndexes d) (children d t)
+
+  -- ---- dimensions
+
+  -- the number of nodes of a dimension
+  unfoldable pub dimNodes : Tree (Dimension version) → ℕ
+  dimNodes t = sum (nodes category-depth) (dimCategories t)
+
+  -- its leaf indexes, in file order. n of a dimension is their number (document 01: its number of leaves at any depth)
+  unfoldable pub dimLeaves : Tree (Dimension version) → List ℕ
+  dimLeaves t = spellAll (leafIndexes category-depth) (dimCategories t)
+
+  -- the n leaves of a dimension have the indexes 0 to n-1, once each (document 01, our rule)
+  abbrev pub LeavesOnce : Tree (Dimension version) → Type 0
+  LeavesOnce t = OnceEach (length (dimLeaves t)) (dimLeaves t)
+
+  -- the node records of dimension i at the place `at`, whose first node has the number `used`. A category of the dimension itself has no parent
+  unfoldable pub dimWords : ℕ → ℕ → ℕ → Tree (Dimension version) → List ℕ
+  dimWords i used at t =
+      wordsAll (nodes category-depth) (size (Category version)) (treeWords category-depth i no-parent) used (at + size ((Value version) ▸ DimProperties) (dimOwn t) + 4) (dimCategories t)
+
+  unfoldable pub dimEntry : ℕ → ℕ → Tree (Dimension version) → List ℕ
+  dimEntry used at t = dimRecord at (size (Value version) (dimName t)) (length (dimLeaves t)) used
+
+  -- the same of dimensions that follow each other, from number i on
+  unfoldable pub dimsWords : ℕ → ℕ → ℕ → List (Tree (Dimension version)) → List ℕ
+  dimsWords i used at [] = []
+  dimsWords i used at (t ∷ ts) = dimWords i used at t ++ dimsWords (i + 1) (used + dimNodes t) (at + size (Dimension version) t) ts
+
+  unfoldable pub dimsEntries : ℕ → ℕ → List (Tree (Dimension version)) → List ℕ
+  dimsEntries used at [] = []
+  dimsEntries used at (t ∷ ts) = dimEntry used at t ++ dimsEntries (used + dimNodes t) (at + size (Dimension version) t) ts
+
+  -- those of a cell at the place `at`: its index takes 8 bytes
+  abbrev pub cellWords : ℕ → Tree (Cell version) → List ℕ
+  cellWords at t = cellRecord (cellIndex t) (at + 8) (size (CellValue version) (cellValue t))

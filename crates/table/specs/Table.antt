@@ -1,10 +1,10 @@
--- Source document 003, "Dimensions", "Categories", "Axes" and "Cells", for version 3, with document 01's choices.
+-- Source document 003, "Dimensions", "Categories", "Axes" and "Cells", with document 01's choices. The version, 1 or 3, is that of the Header.
 use mathlib.Core.List.{List, [], _∷_}
 use Prim.Native.Nat.{ℕ, zero, suc, _^_, _-_}
 use Rattle.sizes.specs.Sizes.{most-dimensions, most-cells, category-depth}
 use Rattle.layout.specs.Layout.{little, any-number, one-of, Layout, number, _▸_, times, nothing}
 use Rattle.layout.specs.Conventions.{fixed, i, byte, bool, int32, int64, at-most-many, many}
-use Rattle.value.specs.Value.{Value}
+use Rattle.value.specs.Value.{Value, CellValue}
 
 -- ---- 003, Categories
 
@@ -30,17 +30,17 @@ KindOf below zero = Leaf
 KindOf below (suc k) = GroupOf below
 
 -- Category => Value[name] (Leaf | Group)
-abbrev pub CategoryOf : (ℕ → Layout) → Layout
-CategoryOf below = Value ▸ number little 3 (one-of kinds) (KindOf below)
+abbrev pub CategoryOf : ℕ → (ℕ → Layout) → Layout
+CategoryOf version below = Value version ▸ number little 3 (one-of kinds) (KindOf below)
 
 -- a category, of which d levels may be nested
-abbrev pub CategoryIn : ℕ → Layout
-CategoryIn zero = nothing
-CategoryIn (suc d) = CategoryOf (λ n. times n (CategoryIn d))
+abbrev pub CategoryIn : ℕ → ℕ → Layout
+CategoryIn version zero = nothing
+CategoryIn version (suc d) = CategoryOf version (λ n. times n (CategoryIn version d))
 
 -- document 01: categories nested 8 deep
-abbrev pub Category : Layout
-Category = CategoryIn category-depth
+abbrev pub Category : ℕ → Layout
+Category version = CategoryIn version category-depth
 
 -- ---- 003, Dimensions
 
@@ -49,12 +49,12 @@ unfoldable pub DimProperties : Layout
 DimProperties = byte ▸ byte ▸ int32 ▸ bool ▸ bool ▸ fixed 0x01 ▸ int32
 
 -- Dimension => Value[name] DimProperties int32[n-categories] Category*[n-categories]
-abbrev pub Dimension : Layout
-Dimension = Value ▸ DimProperties ▸ many Category
+abbrev pub Dimension : ℕ → Layout
+Dimension version = Value version ▸ DimProperties ▸ many (Category version)
 
 -- Dimensions => int32[n-dims] Dimension*[n-dims]; document 01: at most 16
-abbrev pub Dimensions : Layout
-Dimensions = at-most-many most-dimensions Dimension
+abbrev pub Dimensions : ℕ → Layout
+Dimensions version = at-most-many most-dimensions (Dimension version)
 
 -- ---- 003, Axes
 
@@ -68,10 +68,10 @@ Axes =
 
 -- ---- 003, Cells
 
--- Cell => int64[index] Value
-abbrev pub Cell : Layout
-Cell = int64 ▸ Value
+-- Cell => int64[index] v1(00?) Value
+abbrev pub Cell : ℕ → Layout
+Cell version = int64 ▸ CellValue version
 
 -- Cells => int32[n-cells] Cell*[n-cells]; document 01: at most 4,096
-abbrev pub Cells : Layout
-Cells = at-most-many most-cells Cell
+abbrev pub Cells : ℕ → Layout
+Cells version = at-most-many most-cells (Cell version)

@@ -117,11 +117,12 @@ fn dimension(
     used: usize,
     nodes: &mut [u32],
     dims: &mut [u32; DIMENSION_AREA],
+    version: u64,
 ) -> Walk
     requires { ⌜ (i < most-dimensions) × (length (now s) ≤ member-bytes) × (used ≤ most-nodes) × (least-category * used ≤ at) × Room spec.node-records (length (now nodes)) (now s) ⌝ }
-    ensures { λ r. ⌜ Keeps (now (s .entry)) (spec.Dim at (spec.kept i used (now (nodes .entry)) (now (dims .entry)))) (check (dimensionRule used) (drop at (now (s .entry))) at) (spec.dimsOut (i + 1) r (now (nodes .exit)) (now (dims .exit))) ⌝ }
+    ensures { λ r. ⌜ Keeps (now (s .entry)) (spec.Dim version at (spec.kept i used (now (nodes .entry)) (now (dims .entry)))) (check (dimensionRule version used) (drop at (now (s .entry))) at) (spec.dimsOut (i + 1) r (now (nodes .exit)) (now (dims .exit))) ⌝ }
 {
-    let name = value(s, Step::Next(at));
+    let name = value(s, Step::Next(at), version);
     let before = properties(s, name);
     let n = peek(s, before, LITTLE, 4);
     match any(s, before, 4) {
@@ -135,6 +136,7 @@ fn dimension(
             n,
             used,
             nodes,
+            version,
         ) {
             Walk::Refused(r, p) => Walk::Refused(r, p),
             Walk::On(p, u) => close(i, at, name_length(at, name), used, p, u, nodes, dims),
@@ -143,15 +145,22 @@ fn dimension(
 }
 
 // n dimensions.
-fn all(s: &[u8], at: usize, n: usize, nodes: &mut [u32], dims: &mut [u32; DIMENSION_AREA]) -> Walk
+fn all(
+    s: &[u8],
+    at: usize,
+    n: usize,
+    nodes: &mut [u32],
+    dims: &mut [u32; DIMENSION_AREA],
+    version: u64,
+) -> Walk
     requires { ⌜ (n ≤ most-dimensions) × (length (now s) ≤ member-bytes) × Room spec.node-records (length (now nodes)) (now s) ⌝ }
-    ensures { λ r. ⌜ Keeps (now (s .entry)) (Each spec.Dim at (spec.kept 0 0 (now (nodes .entry)) (now (dims .entry)))) (check (items {n = n} spec.nextDim) (drop at (now (s .entry))) at) (spec.dimsOut n r (now (nodes .exit)) (now (dims .exit))) ⌝ }
+    ensures { λ r. ⌜ Keeps (now (s .entry)) (Each (spec.Dim version) at (spec.kept 0 0 (now (nodes .entry)) (now (dims .entry)))) (check (items {n = n} (spec.nextDim version)) (drop at (now (s .entry))) at) (spec.dimsOut n r (now (nodes .exit)) (now (dims .exit))) ⌝ }
 {
     let mut at = at;
     let mut used = 0;
     let mut i = 0;
     while i < n {
-        match dimension(s, i, at, used, nodes, dims) {
+        match dimension(s, i, at, used, nodes, dims, version) {
             Walk::Refused(r, p) => {
                 return Walk::Refused(r, p);
             }
@@ -166,14 +175,20 @@ fn all(s: &[u8], at: usize, n: usize, nodes: &mut [u32], dims: &mut [u32; DIMENS
 }
 
 // The section, in a member that is no longer than members are, with room for its records.
-fn section(s: &[u8], at: usize, nodes: &mut [u32], dims: &mut [u32; DIMENSION_AREA]) -> Section
+fn section(
+    s: &[u8],
+    at: usize,
+    nodes: &mut [u32],
+    dims: &mut [u32; DIMENSION_AREA],
+    version: u64,
+) -> Section
     requires { ⌜ (length (now s) ≤ member-bytes) × Room spec.node-records (length (now nodes)) (now s) ⌝ }
-    ensures { λ r. ⌜ Keeps (now (s .entry)) (spec.AllDims at (now (nodes .entry)) (now (dims .entry))) (check dimensionsRule (drop at (now (s .entry))) at) (spec.sectionOut r (now (nodes .exit)) (now (dims .exit))) ⌝ }
+    ensures { λ r. ⌜ Keeps (now (s .entry)) (spec.AllDims version at (now (nodes .entry)) (now (dims .entry))) (check (dimensionsRule version) (drop at (now (s .entry))) at) (spec.sectionOut r (now (nodes .exit)) (now (dims .exit))) ⌝ }
 {
     let n = peek(s, Step::Next(at), LITTLE, 4);
     match count(s, Step::Next(at), LIMIT) {
         Step::Refused(r, p) => Section::Refused(r, p),
-        Step::Next(p) => match all(s, p, n as usize, nodes, dims) {
+        Step::Next(p) => match all(s, p, n as usize, nodes, dims, version) {
             Walk::Refused(r, q) => Section::Refused(r, q),
             Walk::On(q, used) => Section::Of(q, n as usize, used),
         },
@@ -199,8 +214,9 @@ pub fn dimensions(
     at: usize,
     nodes: &mut [u32],
     dims: &mut [u32; DIMENSION_AREA],
+    version: u64,
 ) -> Section
-    ensures dimensions { λ r. ⌜ Keeps (now (s .entry)) (spec.AllDims at (now (nodes .entry)) (now (dims .entry))) (within spec.node-records (now (s .entry)) (length (now (nodes .entry))) (check dimensionsRule (drop at (now (s .entry))) at)) (spec.sectionOut r (now (nodes .exit)) (now (dims .exit))) ⌝ }
+    ensures dimensions { λ r. ⌜ Keeps (now (s .entry)) (spec.AllDims version at (now (nodes .entry)) (now (dims .entry))) (within spec.node-records (now (s .entry)) (length (now (nodes .entry))) (check (dimensionsRule version) (drop at (now (s .entry))) at)) (spec.sectionOut r (now (nodes .exit)) (now (dims .exit))) ⌝ }
     ensures scratch { λ _. ⌜ Scratch (now (nodes .entry)) (now (nodes .exit)) ⌝ }
 {
     if MEMBER_BYTES < s.len() {
@@ -210,5 +226,5 @@ pub fn dimensions(
     if nodes.len() < most {
         return Section::Refused(12, 0);
     }
-    section(s, at, nodes, dims)
+    section(s, at, nodes, dims, version)
 }

@@ -152,11 +152,11 @@ fn node(kind: u32, at: usize, name: Step, word: u64, children: u64, end: Step) -
 }
 
 // A category without what is below it.
-fn head(s: &[u8], at: usize) -> NodeStart
+fn head(s: &[u8], at: usize, version: u64) -> NodeStart
     requires { ⌜ length (now s) ≤ member-bytes ⌝ }
-    ensures { λ r. ⌜ HeadRead (now (s .entry)) at (read Head (drop at (now (s .entry))) at) r ⌝ }
+    ensures { λ r. ⌜ HeadRead version (now (s .entry)) at (read (Head version) (drop at (now (s .entry))) at) r ⌝ }
 {
-    let name = value(s, Step::Next(at));
+    let name = value(s, Step::Next(at), version);
     let kind = peek(s, name, LITTLE, 3);
     let st = kind_field(s, name);
     let is_leaf = kind == 0;
@@ -186,9 +186,10 @@ fn category(
     parent: u32,
     used: usize,
     nodes: &mut [u32],
+    version: u64,
 ) -> Walk
     requires { ⌜ (length (now s) ≤ member-bytes) × (used ≤ most-nodes) ⌝ }
-    ensures { λ r. ⌜ Keeps (now (s .entry)) (spec.Node depth dimension parent at (used, now (nodes .entry))) (check (categoryRule depth used) (drop at (now (s .entry))) at) (spec.walked r (now (nodes .exit))) ⌝ }
+    ensures { λ r. ⌜ Keeps (now (s .entry)) (spec.Node version depth dimension parent at (used, now (nodes .entry))) (check (categoryRule version depth used) (drop at (now (s .entry))) at) (spec.walked r (now (nodes .exit))) ⌝ }
 {
     if depth == 0 {
         return Walk::Refused(7, at);
@@ -196,7 +197,7 @@ fn category(
     if MOST_NODES <= used {
         return Walk::Refused(7, at);
     }
-    match head(s, at) {
+    match head(s, at, version) {
         NodeStart::Refused(r, p) => Walk::Refused(r, p),
         NodeStart::Node(kind, size, word, children, next) => match categories(
             s,
@@ -207,6 +208,7 @@ fn category(
             children,
             used + 1,
             nodes,
+            version,
         ) {
             Walk::Refused(r, p) => Walk::Refused(r, p),
             Walk::On(p, u) => {
@@ -239,15 +241,16 @@ fn categories(
     count: u64,
     used: usize,
     nodes: &mut [u32],
+    version: u64,
 ) -> Walk
     requires { ⌜ (length (now s) ≤ member-bytes) × (used ≤ most-nodes) ⌝ }
-    ensures { λ r. ⌜ Keeps (now (s .entry)) (Each (spec.Node depth dimension parent) at (used, now (nodes .entry))) (check (categoriesRule depth used count) (drop at (now (s .entry))) at) (spec.walked r (now (nodes .exit))) ⌝ }
+    ensures { λ r. ⌜ Keeps (now (s .entry)) (Each (spec.Node version depth dimension parent) at (used, now (nodes .entry))) (check (categoriesRule version depth used count) (drop at (now (s .entry))) at) (spec.walked r (now (nodes .exit))) ⌝ }
 {
     let mut at = at;
     let mut used = used;
     let mut i = 0;
     while i < count {
-        match category(s, at, depth, dimension, parent, used, nodes) {
+        match category(s, at, depth, dimension, parent, used, nodes, version) {
             Walk::Refused(r, p) => {
                 return Walk::Refused(r, p);
             }

@@ -1,10 +1,11 @@
--- Source document 003, "Value" and "ValueMod", for version 3, with document 01's choices.
+-- Source document 003, "Value" and "ValueMod", with document 01's choices. The version, 1 or 3, is that of the Header.
+use mathlib.Core.Bool.{Bool}
 use mathlib.Core.List.{List, [], _∷_}
 use Prim.Native.Nat.{ℕ, zero, suc}
 use lib.Dec.{eqb}
-use Rattle.sizes.specs.Sizes.{value-depth}
+use Rattle.sizes.specs.Sizes.{value-depth, below-value}
 use Rattle.layout.specs.Layout.{little, any-number, optional, Layout, empty, number, _▸_, times, leading, region, nothing, pick}
-use Rattle.layout.specs.Conventions.{fixed, i, byte, bool, int16, int32, double, lestring, many, either, if31, alternatives, count}
+use Rattle.layout.specs.Conventions.{fixed, i, byte, bool, int16, int32, double, lestring, many, either, either-but, if31, alternatives-but, count}
 
 -- ---- 003, ValueMod
 
@@ -33,9 +34,16 @@ TemplateString = region little optional (TemplatePrefix ▸ if31 lestring)
 unfoldable pub Modifiers : Layout
 Modifiers = many int16 ▸ many lestring ▸ count (TemplateString ▸ StylePair)
 
+-- the long form of a ValueMod, beginning 31, is left out in version 1: it can't be read one way only (document 02, T-03)
+abbrev pub without-long-form : ℕ → Bool
+without-long-form version = eqb version 1
+
+abbrev pub left-out : ℕ → List ℕ
+left-out version = pick (without-long-form version) (0x31 ∷ []) []
+
 -- ValueMod => 58 | 31 ...
-unfoldable pub ValueMod : Layout
-ValueMod = if31 Modifiers
+unfoldable pub ValueMod : ℕ → Layout
+ValueMod version = either-but (left-out version) 0x31 Modifiers 0x58 empty
 
 -- ---- 003, Value
 
@@ -50,45 +58,52 @@ TemplateOf v = lestring ▸ many (ArgumentOf v)
 -- RawValue, what follows the first byte of each form:
 
 -- 01 ValueMod int32[format] double[x]
-unfoldable pub Form01 : Layout
-Form01 = ValueMod ▸ int32 ▸ double
+unfoldable pub Form01 : ℕ → Layout
+Form01 version = ValueMod version ▸ int32 ▸ double
 
 -- 02 ValueMod int32[format] double[x] string[var-name] string[value-label] byte[show]
-unfoldable pub Form02 : Layout
-Form02 = ValueMod ▸ int32 ▸ double ▸ lestring ▸ lestring ▸ byte
+unfoldable pub Form02 : ℕ → Layout
+Form02 version = ValueMod version ▸ int32 ▸ double ▸ lestring ▸ lestring ▸ byte
 
 -- 03 string[local] ValueMod string[id] string[c] bool[fixed]
-unfoldable pub Form03 : Layout
-Form03 = lestring ▸ ValueMod ▸ lestring ▸ lestring ▸ bool
+unfoldable pub Form03 : ℕ → Layout
+Form03 version = lestring ▸ ValueMod version ▸ lestring ▸ lestring ▸ bool
 
 -- 04 ValueMod int32[format] string[value-label] string[var-name] byte[show] string[s]
-unfoldable pub Form04 : Layout
-Form04 = ValueMod ▸ int32 ▸ lestring ▸ lestring ▸ byte ▸ lestring
+unfoldable pub Form04 : ℕ → Layout
+Form04 version = ValueMod version ▸ int32 ▸ lestring ▸ lestring ▸ byte ▸ lestring
 
 -- 05 ValueMod string[var-name] string[var-label] byte[show]
-unfoldable pub Form05 : Layout
-Form05 = ValueMod ▸ lestring ▸ lestring ▸ byte
+unfoldable pub Form05 : ℕ → Layout
+Form05 version = ValueMod version ▸ lestring ▸ lestring ▸ byte
 
 -- 06 string[local] ValueMod string[id] string[c]
-unfoldable pub Form06 : Layout
-Form06 = lestring ▸ ValueMod ▸ lestring ▸ lestring
+unfoldable pub Form06 : ℕ → Layout
+Form06 version = lestring ▸ ValueMod version ▸ lestring ▸ lestring
 
 -- each form by its first byte; the last, ValueMod string[template] ..., begins with the 31 or the 58 of its ValueMod
-abbrev pub forms : Layout → List (ℕ × Layout)
-forms v =
-    (1, Form01) ∷ (2, Form02) ∷ (3, Form03) ∷ (4, Form04) ∷ (5, Form05) ∷ (6, Form06)
+abbrev pub forms : ℕ → Layout → List (ℕ × Layout)
+forms version v =
+    (1, Form01 version) ∷ (2, Form02 version) ∷ (3, Form03 version) ∷ (4, Form04 version) ∷ (5, Form05 version) ∷ (6, Form06 version)
     ∷ (0x31, Modifiers ▸ TemplateOf v) ∷ (0x58, TemplateOf v) ∷ []
 
-unfoldable pub RawValueOf : Layout → Layout
-RawValueOf v = alternatives (forms v)
+unfoldable pub RawValueOf : ℕ → Layout → Layout
+RawValueOf version v = alternatives-but (left-out version) (forms version v)
 
 -- Value => 00? 00? 00? 00? RawValue, of which d levels may be nested (document 01: one run of 0 to 4 bytes of 00)
-unfoldable pub ValueIn : ℕ → Layout
-ValueIn zero = nothing
-ValueIn (suc d) = leading 0 4 (RawValueOf (ValueIn d))
+unfoldable pub ValueIn : ℕ → ℕ → Layout
+ValueIn version zero = nothing
+ValueIn version (suc d) = leading 0 4 (RawValueOf version (ValueIn version d))
 
-unfoldable pub Value : Layout
-Value = ValueIn value-depth
+unfoldable pub Value : ℕ → Layout
+Value version = ValueIn version value-depth
 
-abbrev pub Argument : ℕ → Layout
-Argument d = ArgumentOf (ValueIn d)
+-- Cell => int64[index] v1(00?) Value: the Value of a cell, with all the bytes 00 before it (document 02, T-03: one run of 0 to 5 in version 1)
+abbrev pub cell-zeros : ℕ → ℕ
+cell-zeros version = pick (eqb version 1) 5 4
+
+unfoldable pub CellValue : ℕ → Layout
+CellValue version = leading 0 (cell-zeros version) (RawValueOf version (ValueIn version below-value))
+
+abbrev pub Argument : ℕ → ℕ → Layout
+Argument version d = ArgumentOf (ValueIn version d)

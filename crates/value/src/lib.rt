@@ -1,5 +1,6 @@
 // The readers of a Value. Those of a value, of a template and of its arguments call each other: the depth that is left falls, and each
 // loop stops at the first refusal, so a count costs no more than the bytes that are there.
+ghost use mathlib.Core.Path.{_≡_};
 ghost use Rattle.layout.specs.Layout.{times};
 ghost use Rattle.layout.specs.Reads.{Reads};
 ghost use Rattle.value.specs.Value as grammar;
@@ -15,6 +16,7 @@ use layout::number::peek;
 use layout::region::nothing;
 use layout::region::string;
 use layout::run::skip;
+use sizes::BELOW_VALUE;
 use sizes::VALUE_DEPTH;
 
 mod modifier; // ValueMod
@@ -23,18 +25,18 @@ pub use modifier::style_pair;
 
 // ---- what follows the first byte of each form
 
-fn form_01(s: &[u8], st: Step) -> Step
-    ensures { λ r. ⌜ Reads grammar.Form01 (now (s .entry)) st r ⌝ }
+fn form_01(s: &[u8], st: Step, version: u64) -> Step
+    ensures { λ r. ⌜ Reads (grammar.Form01 version) (now (s .entry)) st r ⌝ }
 {
-    let st = value_mod(s, st);
+    let st = value_mod(s, st, version);
     let st = any(s, st, 4);
     any(s, st, 8)
 }
 
-fn form_02(s: &[u8], st: Step) -> Step
-    ensures { λ r. ⌜ Reads grammar.Form02 (now (s .entry)) st r ⌝ }
+fn form_02(s: &[u8], st: Step, version: u64) -> Step
+    ensures { λ r. ⌜ Reads (grammar.Form02 version) (now (s .entry)) st r ⌝ }
 {
-    let st = value_mod(s, st);
+    let st = value_mod(s, st, version);
     let st = any(s, st, 4);
     let st = any(s, st, 8);
     let st = string(s, st, LITTLE, 4);
@@ -42,20 +44,20 @@ fn form_02(s: &[u8], st: Step) -> Step
     any(s, st, 1)
 }
 
-fn form_03(s: &[u8], st: Step) -> Step
-    ensures { λ r. ⌜ Reads grammar.Form03 (now (s .entry)) st r ⌝ }
+fn form_03(s: &[u8], st: Step, version: u64) -> Step
+    ensures { λ r. ⌜ Reads (grammar.Form03 version) (now (s .entry)) st r ⌝ }
 {
     let st = string(s, st, LITTLE, 4);
-    let st = value_mod(s, st);
+    let st = value_mod(s, st, version);
     let st = string(s, st, LITTLE, 4);
     let st = string(s, st, LITTLE, 4);
     boolean(s, st)
 }
 
-fn form_04(s: &[u8], st: Step) -> Step
-    ensures { λ r. ⌜ Reads grammar.Form04 (now (s .entry)) st r ⌝ }
+fn form_04(s: &[u8], st: Step, version: u64) -> Step
+    ensures { λ r. ⌜ Reads (grammar.Form04 version) (now (s .entry)) st r ⌝ }
 {
-    let st = value_mod(s, st);
+    let st = value_mod(s, st, version);
     let st = any(s, st, 4);
     let st = string(s, st, LITTLE, 4);
     let st = string(s, st, LITTLE, 4);
@@ -63,59 +65,71 @@ fn form_04(s: &[u8], st: Step) -> Step
     string(s, st, LITTLE, 4)
 }
 
-fn form_05(s: &[u8], st: Step) -> Step
-    ensures { λ r. ⌜ Reads grammar.Form05 (now (s .entry)) st r ⌝ }
+fn form_05(s: &[u8], st: Step, version: u64) -> Step
+    ensures { λ r. ⌜ Reads (grammar.Form05 version) (now (s .entry)) st r ⌝ }
 {
-    let st = value_mod(s, st);
+    let st = value_mod(s, st, version);
     let st = string(s, st, LITTLE, 4);
     let st = string(s, st, LITTLE, 4);
     any(s, st, 1)
 }
 
-fn form_06(s: &[u8], st: Step) -> Step
-    ensures { λ r. ⌜ Reads grammar.Form06 (now (s .entry)) st r ⌝ }
+fn form_06(s: &[u8], st: Step, version: u64) -> Step
+    ensures { λ r. ⌜ Reads (grammar.Form06 version) (now (s .entry)) st r ⌝ }
 {
     let st = string(s, st, LITTLE, 4);
-    let st = value_mod(s, st);
+    let st = value_mod(s, st, version);
     let st = string(s, st, LITTLE, 4);
     string(s, st, LITTLE, 4)
 }
 
 // ---- a cycle
 
-// A Value, of which `depth` levels may be nested.
-fn value_in(s: &[u8], st: Step, depth: usize) -> Step
-    ensures { λ r. ⌜ Reads (grammar.ValueIn depth) (now (s .entry)) st r ⌝ }
+// A Value without the bytes 00 before it, in which `depth` levels may be nested.
+fn raw_value(s: &[u8], st: Step, depth: usize, version: u64) -> Step
+    ensures { λ r. ⌜ Reads (grammar.RawValueOf version (grammar.ValueIn version depth)) (now (s .entry)) st r ⌝ }
 {
-    if depth == 0 {
-        return nothing(st);
-    }
-    let st = skip(s, st, 0, 4);
     let x = peek(s, st, LITTLE, 1);
     let at = any(s, st, 1);
     match x {
-        1 => form_01(s, at),
-        2 => form_02(s, at),
-        3 => form_03(s, at),
-        4 => form_04(s, at),
-        5 => form_05(s, at),
-        6 => form_06(s, at),
-        0x31 => template(s, modifiers(s, at), depth - 1),
-        0x58 => template(s, at, depth - 1),
+        1 => form_01(s, at, version),
+        2 => form_02(s, at, version),
+        3 => form_03(s, at, version),
+        4 => form_04(s, at, version),
+        5 => form_05(s, at, version),
+        6 => form_06(s, at, version),
+        0x31 => {
+            let without = version == 1;
+            if without {
+                return field(s, st, 1, 4);
+            }
+            template(s, modifiers(s, at), depth, version)
+        }
+        0x58 => template(s, at, depth, version),
         _ => field(s, st, 1, 3),
     }
 }
 
-fn template(s: &[u8], st: Step, depth: usize) -> Step
-    ensures { λ r. ⌜ Reads (grammar.TemplateOf (grammar.ValueIn depth)) (now (s .entry)) st r ⌝ }
+// A Value, of which `depth` levels may be nested.
+fn value_in(s: &[u8], st: Step, depth: usize, version: u64) -> Step
+    ensures { λ r. ⌜ Reads (grammar.ValueIn version depth) (now (s .entry)) st r ⌝ }
+{
+    if depth == 0 {
+        return nothing(st);
+    }
+    raw_value(s, skip(s, st, 0, 4), depth - 1, version)
+}
+
+fn template(s: &[u8], st: Step, depth: usize, version: u64) -> Step
+    ensures { λ r. ⌜ Reads (grammar.TemplateOf (grammar.ValueIn version depth)) (now (s .entry)) st r ⌝ }
 {
     let st = string(s, st, LITTLE, 4);
     let n = peek(s, st, LITTLE, 4);
-    arguments(s, any(s, st, 4), n, depth)
+    arguments(s, any(s, st, 4), n, depth, version)
 }
 
-fn arguments(s: &[u8], st: Step, n: u64, depth: usize) -> Step
-    ensures { λ r. ⌜ Reads (times n (grammar.Argument depth)) (now (s .entry)) st r ⌝ }
+fn arguments(s: &[u8], st: Step, n: u64, depth: usize, version: u64) -> Step
+    ensures { λ r. ⌜ Reads (times n (grammar.Argument version depth)) (now (s .entry)) st r ⌝ }
 {
     let mut at = st;
     let mut k = n;
@@ -123,26 +137,26 @@ fn arguments(s: &[u8], st: Step, n: u64, depth: usize) -> Step
         if let Step::Refused(_, _) = at {
             return at;
         }
-        at = argument(s, at, depth);
+        at = argument(s, at, depth, version);
         k -= 1;
     }
     at
 }
 
-fn argument(s: &[u8], st: Step, depth: usize) -> Step
-    ensures { λ r. ⌜ Reads (grammar.Argument depth) (now (s .entry)) st r ⌝ }
+fn argument(s: &[u8], st: Step, depth: usize, version: u64) -> Step
+    ensures { λ r. ⌜ Reads (grammar.Argument version depth) (now (s .entry)) st r ⌝ }
 {
     let x = peek(s, st, LITTLE, 4);
     let at = any(s, st, 4);
     let one = x == 0;
     if one {
-        return value_in(s, at, depth);
+        return value_in(s, at, depth, version);
     }
-    values(s, fixed(s, at, LITTLE, 4, 0), x, depth)
+    values(s, fixed(s, at, LITTLE, 4, 0), x, depth, version)
 }
 
-fn values(s: &[u8], st: Step, n: u64, depth: usize) -> Step
-    ensures { λ r. ⌜ Reads (times n (grammar.ValueIn depth)) (now (s .entry)) st r ⌝ }
+fn values(s: &[u8], st: Step, n: u64, depth: usize, version: u64) -> Step
+    ensures { λ r. ⌜ Reads (times n (grammar.ValueIn version depth)) (now (s .entry)) st r ⌝ }
 {
     let mut at = st;
     let mut k = n;
@@ -150,15 +164,30 @@ fn values(s: &[u8], st: Step, n: u64, depth: usize) -> Step
         if let Step::Refused(_, _) = at {
             return at;
         }
-        at = value_in(s, at, depth);
+        at = value_in(s, at, depth, version);
         k -= 1;
     }
     at
 }
 
-// A Value.
-pub fn value(s: &[u8], st: Step) -> Step
-    ensures { λ r. ⌜ Reads grammar.Value (now (s .entry)) st r ⌝ }
+// A Value, in a member of that version.
+pub fn value(s: &[u8], st: Step, version: u64) -> Step
+    ensures { λ r. ⌜ Reads (grammar.Value version) (now (s .entry)) st r ⌝ }
 {
-    value_in(s, st, VALUE_DEPTH)
+    value_in(s, st, VALUE_DEPTH, version)
+}
+
+fn cell_zeros(version: u64) -> usize
+    ensures { λ r. ⌜ r ≡ grammar.cell-zeros version ⌝ }
+{
+    let one_more = version == 1;
+    if one_more { 5 } else { 4 }
+}
+
+// The Value of a cell, with all the bytes 00 before it.
+pub fn cell_value(s: &[u8], st: Step, version: u64) -> Step
+    ensures { λ r. ⌜ Reads (grammar.CellValue version) (now (s .entry)) st r ⌝ }
+{
+    let zeros = cell_zeros(version);
+    raw_value(s, skip(s, st, 0, zeros), BELOW_VALUE, version)
 }

@@ -9,6 +9,7 @@ use layout::number::any;
 use layout::number::boolean;
 use layout::number::fixed;
 use layout::number::one_of_two;
+use layout::number::one_of_two_but;
 use layout::number::peek;
 use layout::region::bytes;
 use layout::region::close;
@@ -136,11 +137,12 @@ pub fn modifiers(s: &[u8], st: Step) -> Step
     mod_region(s, st)
 }
 
-pub fn value_mod(s: &[u8], st: Step) -> Step
-    ensures { λ r. ⌜ Reads value.ValueMod (now (s .entry)) st r ⌝ }
+pub fn value_mod(s: &[u8], st: Step, version: u64) -> Step
+    ensures { λ r. ⌜ Reads (value.ValueMod version) (now (s .entry)) st r ⌝ }
 {
     let x = peek(s, st, LITTLE, 1);
-    let at = one_of_two(s, st, 0x31, 0x58);
+    let without = version == 1;
+    let at = one_of_two_but(s, st, 0x31, 0x58, without);
     let present = x == 0x31;
     if present { modifiers(s, at) } else { at }
 }

@@ -1,12 +1,12 @@
 -- Bytes that fail by a layout without runs and regions, whose strings may hold any bytes: no farther than its longest fields reach, and by which numbers.
 use mathlib.Core.Path.{_≡_, refl, sym}
-use mathlib.Core.Bool.{true, false, false≢true}
+use mathlib.Core.Bool.{Bool, true, false, false≢true}
 use mathlib.Core.List.{List, [], _∷_}
 use Prim.Native.Nat.{ℕ, _+_, _*_, _≤_}
 use native.Mathlib.Nat.{suc-mul, mul-le-mul-right}
 use native.Mathlib.Omega.{arith}
 use lib.ListN.{length, length-append}
-use Rattle.layout.specs.Layout.{Test, any-number, the-number, a-version, a-bool, at-most, one-of, a-color, among, passes, suits, Layout, empty, number, string, _▸_, times, Tree, spellAll, spell, All, all-none, all-more, Valid}
+use Rattle.layout.specs.Layout.{Test, any-number, the-number, a-version, a-bool, at-most, one-of, one-of-but, a-color, among, passes, suits, pick, Layout, empty, number, string, _▸_, times, Tree, spellAll, spell, All, all-none, all-more, Valid}
 use Rattle.layout.specs.Numbers.{refusal}
 use Rattle.layout.specs.Fails.{Fails, number-short, number-wrong, number-then, string-short, string-wrong, first, second, item, after-run, run-alone, region-short, content, bytes-left, too-deep}
 use Rattle.layout.specs.Laws as laws
@@ -53,14 +53,19 @@ fails-within too-deep h = absurd h
 abbrev pub field-numbers : List ℕ
 field-numbers = 2 ∷ 3 ∷ 4 ∷ 5 ∷ 7 ∷ 14 ∷ []
 
-pub test-number : (test : Test) (v : ℕ) → passes test v ≡ false → among (refusal test) field-numbers ≡ true
-unfolding passes refusal among
+pub test-number : (test : Test) (v : ℕ) → passes test v ≡ false → among (refusal test v) field-numbers ≡ true
+unfolding passes refusal among pick
 test-number any-number v e = absurd (false≢true (sym e))
 test-number (the-number k) v e = refl
 test-number (a-version ks) v e = refl
 test-number a-bool v e = refl
 test-number (at-most k) v e = refl
 test-number (one-of ks) v e = refl
+test-number (one-of-but ks others) v e = go (among v others)
+  where
+    go : (b : Bool) → among (pick b 4 3) field-numbers ≡ true
+    go true = refl
+    go false = refl
 test-number a-color v e = refl
 
 pub fails-numbers : {g : Layout} {s : List ℕ} {at n p : ℕ} → Fails g s at n p → Bounded g → among n field-numbers ≡ true

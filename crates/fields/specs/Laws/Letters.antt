@@ -47,7 +47,7 @@ module _ (o : Order) (w : ℕ) (test : Test) (s : List ℕ) (at : ℕ) where
   number-short h = record { is = rw (length-drop, lt-leb w (length s - at) h) }
 
   pub number-here : w ≤ length s - at → (b : Bool) → b ≡ passes test (undigits o (take w (drop at s)))
-      → Reads (number o w test (λ _. empty)) s (Next at) (pick b (Next (at + w)) (Refused (refusal test) at))
+      → Reads (number o w test (λ _. empty)) s (Next at) (pick b (Next (at + w)) (Refused (refusal test (undigits o (take w (drop at s)))) at))
   unfolding step chain read readNumber bind pick
   number-here h true e = record { is = rw (length-drop, le-leb w (length s - at) h, ← e) }
   number-here h false e = record { is = rw (length-drop, le-leb w (length s - at) h, ← e) }

@@ -8,7 +8,7 @@ use native.Mathlib.Omega.{arith}
 use lib.ListN.{length, length-append}
 use lib.Dec.{eqb}
 use borrow.Author.Tests.{eqb-true}
-use Rattle.layout.specs.Layout.{Test, any-number, the-number, a-version, a-bool, at-most, one-of, a-color, Content, any-bytes, no-zero, Layout, empty, number, string, _▸_, times, leading, region, nothing, Tree, spell, among, passes, suits, Valid}
+use Rattle.layout.specs.Layout.{Test, any-number, the-number, a-version, a-bool, at-most, one-of, one-of-but, a-color, Content, any-bytes, no-zero, Layout, empty, number, string, _▸_, times, leading, region, nothing, Tree, spell, among, passes, suits, Valid, pick}
 use Rattle.layout.specs.Numbers.{refusal, too-short, zero-byte, differs, ends-early, limit-passed}
 use Rattle.layout.specs.Fails.{Fails, number-short, number-wrong, number-then, string-short, string-wrong, first, second, item, after-run, run-alone, region-short, content, bytes-left, too-deep}
 use Rattle.layout.specs.Rule.{Rule, plain, _▸▸_, numbered, items, asked, tested, onto, Breaks}
@@ -32,15 +32,21 @@ layoutNumbers = 2 ∷ 3 ∷ 4 ∷ 5 ∷ 6 ∷ 7 ∷ 14 ∷ 18 ∷ []
 abbrev pub untested : List ℕ
 untested = too-short ∷ differs ∷ ends-early ∷ limit-passed ∷ []
 
--- a broken test gives one of the ks (nothing breaks the first)
+-- the numbers that a broken test may give
+unfoldable pub given : Test → List ℕ
+given any-number = []
+given (the-number k) = 3 ∷ []
+given (a-version vs) = 4 ∷ []
+given a-bool = 5 ∷ []
+given (at-most k) = 7 ∷ []
+given (one-of vs) = 3 ∷ []
+given (one-of-but vs others) = 3 ∷ 4 ∷ []
+given a-color = 14 ∷ []
+
+-- they are among the ks
 unfoldable pub testGives : List ℕ → Test → Bool
-testGives ks any-number = true
-testGives ks (the-number k) = among (refusal (the-number k)) ks
-testGives ks (a-version vs) = among (refusal (a-version vs)) ks
-testGives ks a-bool = among (refusal a-bool) ks
-testGives ks (at-most k) = among (refusal (at-most k)) ks
-testGives ks (one-of vs) = among (refusal (one-of vs)) ks
-testGives ks a-color = among (refusal a-color) ks
+unfolding allAmong given
+testGives ks test = allAmong (given test) ks
 
 -- a string of forbidden content likewise
 unfoldable pub contentGives : List ℕ → Content → Bool
@@ -71,15 +77,24 @@ is-among n (m ∷ ns) ks e h = go (eqb n m) refl (among m ks) refl e h (is-among
     go true q true r e′ h′ rest = rw (eqb-true n m q) r
     go false q true r e′ h′ rest = rest e′ h′
 
-broken-gives : (ks : List ℕ) (test : Test) (n : ℕ) → testGives ks test ≡ true → passes test n ≡ false → among (refusal test) ks ≡ true
-unfolding testGives passes
-broken-gives ks any-number n h e = cc
-broken-gives ks (the-number k) n h e = h
-broken-gives ks (a-version vs) n h e = h
-broken-gives ks a-bool n h e = h
-broken-gives ks (at-most k) n h e = h
-broken-gives ks (one-of vs) n h e = h
-broken-gives ks a-color n h e = h
+broken-given : (test : Test) (n : ℕ) → passes test n ≡ false → among (refusal test n) (given test) ≡ true
+unfolding passes refusal given among pick
+broken-given any-number n e = cc
+broken-given (the-number k) n e = refl
+broken-given (a-version vs) n e = refl
+broken-given a-bool n e = refl
+broken-given (at-most k) n e = refl
+broken-given (one-of vs) n e = refl
+broken-given (one-of-but vs others) n e = go (among n others)
+  where
+    go : (b : Bool) → among (pick b 4 3) (3 ∷ 4 ∷ []) ≡ true
+    go true = refl
+    go false = refl
+broken-given a-color n e = refl
+
+broken-gives : (ks : List ℕ) (test : Test) (n : ℕ) → testGives ks test ≡ true → passes test n ≡ false → among (refusal test n) ks ≡ true
+unfolding testGives
+broken-gives ks test n h e = is-among (refusal test n) (given test) ks (broken-given test n e) h
 
 wrong-gives : (ks : List ℕ) (c : Content) (xs : List ℕ) → contentGives ks c ≡ true → suits c xs ≡ false → among zero-byte ks ≡ true
 unfolding contentGives suits
@@ -119,14 +134,15 @@ module _ (ks : List ℕ) (h : allAmong untested ks ≡ true) where
 -- every layout gives only these
 module _ (ks : List ℕ) (h : allAmong layoutNumbers ks ≡ true) where
   test-gives : (test : Test) → testGives ks test ≡ true
-  unfolding testGives among refusal
+  unfolding testGives allAmong given among
   test-gives any-number = refl
-  test-gives (the-number k) = is-among 3 layoutNumbers ks refl h
-  test-gives (a-version vs) = is-among 4 layoutNumbers ks refl h
-  test-gives a-bool = is-among 5 layoutNumbers ks refl h
-  test-gives (at-most k) = is-among 7 layoutNumbers ks refl h
-  test-gives (one-of vs) = is-among 3 layoutNumbers ks refl h
-  test-gives a-color = is-among 14 layoutNumbers ks refl h
+  test-gives (the-number k) = rw (is-among 3 layoutNumbers ks refl h)
+  test-gives (a-version vs) = rw (is-among 4 layoutNumbers ks refl h)
+  test-gives a-bool = rw (is-among 5 layoutNumbers ks refl h)
+  test-gives (at-most k) = rw (is-among 7 layoutNumbers ks refl h)
+  test-gives (one-of vs) = rw (is-among 3 layoutNumbers ks refl h)
+  test-gives (one-of-but vs others) = rw (is-among 3 layoutNumbers ks refl h, is-among 4 layoutNumbers ks refl h)
+  test-gives a-color = rw (is-among 14 layoutNumbers ks refl h)
 
   content-gives : (c : Content) → contentGives ks c ≡ true
   unfolding contentGives among

@@ -171,7 +171,7 @@ within (number o w test k) s at =
     bind-within (number-stays o w s at) (λ n r p q.
     pick-within (passes test n)
     (λ e. within-more q (bind-within (within (k n) r p) (λ t r₂ p₂ q₂. w-got q₂)))
-    (λ e. no-start s at (refusal test)))
+    (λ e. no-start s at (refusal test n)))
 within (string o w c) s at = counted-within (counted-view o w s at) (λ xs r p q.
     pick-within (suits c xs) (λ e. w-got (q .after)) (λ e. no-start s at zero-byte))
 within (a ▸ b) s at = bind-within (within a s at) (λ t r p q. within-more q (bind-within (within b r p) (λ u r₂ p₂ q₂. w-got q₂)))

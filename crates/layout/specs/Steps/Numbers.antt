@@ -8,21 +8,26 @@ use lib.Seq.{drop-drop}
 use lib.Dec.{eqb, leb}
 use Rattle.layout.specs.declared.Step.{Step}
 use Rattle.layout.specs.declared.Step.the-variants.{Next, Refused}
-use Rattle.layout.specs.Layout.{Order, little, Test, any-number, the-number, a-version, a-bool, at-most, one-of, a-color, among, passes, Layout, empty, number, Tree, pick, undigits}
+use Rattle.layout.specs.Layout.{Order, little, Test, any-number, the-number, a-version, a-bool, at-most, one-of, one-of-but, a-color, among, passes, Layout, empty, number, Tree, pick, undigits}
 use borrow.Author.Tests.{ne-eqb}
 use Rattle.layout.specs.Read.{Got, got, no, refusal, too-short, bind, readNumber, read}
 use Rattle.layout.specs.Reads.{forget, step, chain, Reads, numberOf, peek, verdict, judged, field}
 use Rattle.layout.specs.Steps.Chain.{forget-map, Refuses, refuses, kept}
 
 -- a test that is broken gives a refusal
-pub broken : (test : Test) (v : ℕ) → passes test v ≡ false → eqb (refusal test) 0 ≡ false
-unfolding passes refusal
+pub broken : (test : Test) (v : ℕ) → passes test v ≡ false → eqb (refusal test v) 0 ≡ false
+unfolding passes refusal pick
 broken any-number v e = cc
 broken (the-number k) v e = refl
 broken (a-version ks) v e = refl
 broken a-bool v e = refl
 broken (at-most k) v e = refl
 broken (one-of ks) v e = refl
+broken (one-of-but ks others) v e = go (among v others)
+  where
+    go : (b : Bool) → eqb (pick b 4 3) 0 ≡ false
+    go true = refl
+    go false = refl
 broken a-color v e = refl
 
 pub step-tested : (o : Order) (w : ℕ) (test : Test) (s : List ℕ) (at : ℕ)
@@ -34,15 +39,15 @@ step-tested o w test s at = go (leb w (length (drop at s)))
     v = undigits o (take w (drop at s))
 
     judge : (c : Bool) → passes test v ≡ c
-        → forget {A = Tree (number o w test (λ _. empty))} (pick c (got (v, tt) (drop w (drop at s)) (at + w)) (no (refusal test) at))
-        ≡ pick (eqb (pick c 0 (refusal test)) 0) (Next (at + w)) (Refused (pick c 0 (refusal test)) at)
+        → forget {A = Tree (number o w test (λ _. empty))} (pick c (got (v, tt) (drop w (drop at s)) (at + w)) (no (refusal test v) at))
+        ≡ pick (eqb (pick c 0 (refusal test v)) 0) (Next (at + w)) (Refused (pick c 0 (refusal test v)) at)
     judge true e = refl
     judge false e = rw (broken test v e)
 
     go : (b : Bool)
         → forget {A = Tree (number o w test (λ _. empty))} (bind (pick b (got v (drop w (drop at s)) (at + w)) (no too-short at))
-        (λ n s₁ at₁. pick (passes test n) (got (n, tt) s₁ at₁) (no (refusal test) at)))
-        ≡ judged (pick (passes test (numberOf (pick b (got v (drop w (drop at s)) (at + w)) (no too-short at)))) 0 (refusal test)) at
+        (λ n s₁ at₁. pick (passes test n) (got (n, tt) s₁ at₁) (no (refusal test n) at)))
+        ≡ judged (verdict test (numberOf (pick b (got v (drop w (drop at s)) (at + w)) (no too-short at)))) at
         (pick b (got (undigits little (take w (drop at s))) (drop w (drop at s)) (at + w)) (no too-short at))
     go true = judge (passes test v) refl
     go false = refl
@@ -73,17 +78,17 @@ step-switch o w test k s at = go (leb w (length (drop at s)))
 
     judge : (c : Bool)
         → forget {A = Tree (number o w test k)}
-        (pick c (bind (read (k v) (drop w (drop at s)) (at + w)) (λ t s₂ at₂. got (v, t) s₂ at₂)) (no (refusal test) at))
-        ≡ chain (forget {A = Tree (number o w test (λ _. empty))} (pick c (got (v, tt) (drop w (drop at s)) (at + w)) (no (refusal test) at)))
+        (pick c (bind (read (k v) (drop w (drop at s)) (at + w)) (λ t s₂ at₂. got (v, t) s₂ at₂)) (no (refusal test v) at))
+        ≡ chain (forget {A = Tree (number o w test (λ _. empty))} (pick c (got (v, tt) (drop w (drop at s)) (at + w)) (no (refusal test v) at)))
         (λ p. forget (read (k v) (drop p s) p))
     judge true = forget-map _ (read (k v) (drop w (drop at s)) (at + w)) ∙ rw drop-drop
     judge false = refl
 
     go : (b : Bool)
         → forget {A = Tree (number o w test k)} (bind (pick b (got v (drop w (drop at s)) (at + w)) (no too-short at))
-        (λ n s₁ at₁. pick (passes test n) (bind (read (k n) s₁ at₁) (λ t s₂ at₂. got (n, t) s₂ at₂)) (no (refusal test) at)))
+        (λ n s₁ at₁. pick (passes test n) (bind (read (k n) s₁ at₁) (λ t s₂ at₂. got (n, t) s₂ at₂)) (no (refusal test n) at)))
         ≡ chain (forget {A = Tree (number o w test (λ _. empty))} (bind (pick b (got v (drop w (drop at s)) (at + w)) (no too-short at))
-        (λ n s₁ at₁. pick (passes test n) (got (n, tt) s₁ at₁) (no (refusal test) at))))
+        (λ n s₁ at₁. pick (passes test n) (got (n, tt) s₁ at₁) (no (refusal test n) at))))
         (λ p. forget (read (k (numberOf (pick b (got v (drop w (drop at s)) (at + w)) (no too-short at)))) (drop p s) p))
     go true = judge (passes test v)
     go false = refl
@@ -119,7 +124,7 @@ verdict-passed : (test : Test) (v : ℕ) → passes test v ≡ true → 0 ≡ ve
 unfolding verdict pick
 verdict-passed test v e = rw e
 
-verdict-broken : (test : Test) (v : ℕ) → passes test v ≡ false → refusal test ≡ verdict test v
+verdict-broken : (test : Test) (v : ℕ) → passes test v ≡ false → refusal test v ≡ verdict test v
 unfolding verdict pick
 verdict-broken test v e = rw e
 
@@ -149,9 +154,9 @@ refused-keeps refuses = kept refl
 
 -- the number is none that passes
 pub other-of : {o : Order} {w : ℕ} {test : Test} {k : ℕ → Layout} {s : List ℕ} {st r : Step} {v : ℕ}
-    → passes test v ≡ false → v ≡ peek o w s st → r ≡ field w (refusal test) s st → Reads (number o w test k) s st r
+    → passes test v ≡ false → v ≡ peek o w s st → r ≡ field w (refusal test v) s st → Reads (number o w test k) s st r
 other-of {o} {w} {test} {k} {s} {st} {r} {v} t f g =
-    let n : Refuses r = rw g (broken-refuses w (refusal test) s st (broken test v t)) in
+    let n : Refuses r = rw g (broken-refuses w (refusal test v) s st (broken test v t)) in
     switch-of {k = k} {v = v} (refused-keeps n) f (tested-of g (verdict-broken test v t) f)
 
 -- the last arm of a `match`: x is none of the numbers. `None` is the type of the arm's `.rest`

@@ -21,7 +21,7 @@ after-dims-spec =
     let a = st .before .args in
     let b = bytes-of _ (st .shared-slice-known .given) in
     λ ts few d-is ns inside.
-    no-axes (a .s .now) b (a .at) (a .d) (a .dims .now) (p .product-of .ensures) ts few d-is ns inside (c .before .before .before .before .before .if1 .taken) (rw (c .before .counts .given .1) at (c .before .before .before .before .axes .ensures .0)) refl)
+    no-axes _ (a .s .now) b (a .at) (a .d) (a .dims .now) (p .product-of .ensures) ts few d-is ns inside (c .before .before .before .before .before .if1 .taken) (rw (c .before .counts .given .1) at (c .before .before .before .before .axes .ensures .0)) refl)
     (λ c. search needs)
     (λ c.
     let p = c .before .before .before .before .before .before .before .before .before .before .before .before .before in
@@ -29,7 +29,7 @@ after-dims-spec =
     let a = st .before .args in
     let b = bytes-of _ (st .shared-slice-known .given) in
     λ ts few d-is ns inside.
-    no-cells (a .s .now) b (a .at) (a .d) (a .dims .now) (p .product-of .ensures) ts few d-is ns inside (c .before .before .before .before .before .before .before .before .before .before .before .before .if1 .taken) (rw (c .before .before .before .before .before .before .before .before .counts2 .given .1) at (c .before .before .before .before .before .before .before .before .before .before .before .axes .ensures .0)) (rw (c .before .r .given .1) at (c .before .before .before .before .before .cells-and-end .ensures)) refl)
+    no-cells _ (a .s .now) b (a .at) (a .d) (a .dims .now) (p .product-of .ensures) ts few d-is ns inside (c .before .before .before .before .before .before .before .before .before .before .before .before .if1 .taken) (rw (c .before .before .before .before .before .before .before .before .counts2 .given .1) at (c .before .before .before .before .before .before .before .before .before .before .before .axes .ensures .0)) (rw (c .before .r .given .1) at (c .before .before .before .before .before .cells-and-end .ensures)) refl)
     (λ c. search needs)
     (λ c.
     let p = c .before .before .before .before .before .before .before .before .before .before .before .before .before in
@@ -37,11 +37,11 @@ after-dims-spec =
     let a = st .before .args in
     let b = bytes-of _ (st .shared-slice-known .given) in
     λ ts few d-is ns inside.
-    with-cells (a .s .now) b (a .at) (a .d) (a .dims .now) (p .product-of .ensures) ts few d-is ns inside (c .before .before .before .before .before .before .before .before .before .before .before .before .if1 .taken) (rw (c .before .before .before .before .before .before .before .before .counts2 .given .1) at (c .before .before .before .before .before .before .before .before .before .before .before .axes .ensures .0)) (rw (c .before .q .given .1) at (c .before .before .before .before .before .cells-and-end .ensures)) refl refl refl)
+    with-cells _ (a .s .now) b (a .at) (a .d) (a .dims .now) (p .product-of .ensures) ts few d-is ns inside (c .before .before .before .before .before .before .before .before .before .before .before .before .if1 .taken) (rw (c .before .before .before .before .before .before .before .before .counts2 .given .1) at (c .before .before .before .before .before .before .before .before .before .before .before .axes .ensures .0)) (rw (c .before .q .given .1) at (c .before .before .before .before .before .cells-and-end .ensures)) refl refl refl)
     (λ c.
     let p = c .before in
     let st = p .before .before .before in
     let a = st .before .args in
     let b = bytes-of _ (st .shared-slice-known .given) in
     λ ts few d-is ns inside.
-    too-many-places (a .s .now) b (a .at) (a .d) (a .dims .now) (p .product-of .ensures) ts few d-is ns inside (c .if1 .left) refl))
+    too-many-places _ (a .s .now) b (a .at) (a .d) (a .dims .now) (p .product-of .ensures) ts few d-is ns inside (c .if1 .left) refl))

@@ -1,6 +1,6 @@
 use borrow.Author.Needs.{needs}
-use Rattle.layout.specs.Steps.Slices.{bytes-of}
-use Rattle.member.specs.Laws.Whole.{no-front, no-dims, no-tail, same-length, with-tail, told-room, delivered, not-delivered}
+use native.Mathlib.Omega.{arith}
+use Rattle.member.specs.Laws.Whole.{no-header, not-delivered}
 use Rattle.member.proofs.read_with_lists.Statement.{statement}
 use Rattle.member.proofs.read_with_lists.Tie as tie
 
@@ -8,47 +8,14 @@ pub read-with-lists-spec : {M : Type 1} → statement M
 read-with-lists-spec =
     tie.close
     (tie.spec
-    (λ c κs. search needs) (λ c. search needs) (λ c κs. search needs) (λ c. search needs) (λ c κs. search needs)
-    (λ c. search needs) (λ c κs. search needs) (λ c. search needs)
-    (λ c κs. let p = c .before .before .before .before .before .before .before .before .before .before .before .before .before .before .before .before .before .before .before .pre in (p .short, p .for-cells))
-    (λ c. search needs) (λ c κs. search needs) (λ c. search needs) (λ c. search needs) (λ c. search needs)
-    (λ c. search needs)
+    (λ _ _. tt) (λ c. search needs) (λ _ _. tt) (λ c. search needs)
     (λ c κs.
-    let z = c .before .before .before .before .before .before .before .before .before .before .before .before .before .before .before .before .before .before .before .before .before .before .before .before .before .before .before .before .before .before in
-    let a = z .before .args in
-    let b = bytes-of _ (z .shared-slice-known .given) in
-    let f = c .before .before .before .before .before .before .before .before .before .before .before .before .before .before .before .before .before .before .before .before .before .before .before .before .before .front .ensures in
-    told-room (with-tail (a .member .now) b (a .node-list .now) (a .cell-list .now) (z .before .pre) f (c .before .before .before .before .before .before .before .before .before .before .before .before .before .before .before .before .before .before .before .before .before .before .before .at .given .1) (rw (c .before .before .before .before .before .before .before .before .before .before .before .before .before .before .before .next .given .1) at (c .before .before .before .before .before .before .before .before .before .before .before .before .before .before .before .before .before .before .before .dimensions .ensures .0)) (c .before .before .before .before .before .before .before .before .before .before .before .after-dims .ensures) (c .before .before .before .before .before .before .axes2 .given .1)))
+    let h = c .before .before .before .before .before in
+    let z = h .before .before .before .before .before .before .before .before in
+    (z .pre, rw (h .version .given .1) at (h .before .before .header .ensures)))
     (λ c.
-    let z = c .before .before .before .before .before .before .before .before .before in
-    let a = z .before .args in
-    let b = bytes-of _ (z .shared-slice-known .given) in
-    let f = c .before .before .before .before .front .ensures in
-    rw (c .refused .ensures) (not-delivered (a .member .now) (no-front (a .member .now) b (a .node-list .now) (a .cell-list .now) (z .before .pre) f (c .before .before .r .given .1))))
-    (λ c. search needs)
-    (λ c.
-    let z = c .before .before .before .before .before .before .before .before .before .before .before .before .before .before .before .before .before in
-    let a = z .before .args in
-    let b = bytes-of _ (z .shared-slice-known .given) in
-    let f = c .before .before .before .before .before .before .before .before .before .before .before .before .front .ensures in
-    rw (c .refused2 .ensures) (not-delivered (a .member .now) (no-dims (a .member .now) b (a .node-list .now) (a .cell-list .now) (z .before .pre) f (c .before .before .before .before .before .before .before .before .before .before .at .given .1) (rw (c .before .before .r2 .given .1) at (c .before .before .before .before .before .before .dimensions .ensures .0)))))
-    (λ c. search needs) (λ c. search needs)
-    (λ c.
-    let z = c .before .before .before .before .before .before .before .before .before .before .before .before .before .before .before .before .before .before .before .before .before .before .before .before .before .before in
-    let a = z .before .args in
-    let b = bytes-of _ (z .shared-slice-known .given) in
-    let f = c .before .before .before .before .before .before .before .before .before .before .before .before .before .before .before .before .before .before .before .before .before .front .ensures in
-    rw (c .refused3 .ensures) (not-delivered (a .member .now) (no-tail (a .member .now) b (a .node-list .now) (a .cell-list .now) (z .before .pre) f (c .before .before .before .before .before .before .before .before .before .before .before .before .before .before .before .before .before .before .before .at .given .1) (rw (c .before .before .before .before .before .before .before .before .before .before .before .next .given .1) at (c .before .before .before .before .before .before .before .before .before .before .before .before .before .before .before .dimensions .ensures .0)) (c .before .before .before .before .before .before .before .after-dims .ensures) (c .before .before .axes .given .1))))
-    (λ c.
-    let z = c .before .before .before .before .before .before .before .before .before .before .before .before .before .before .before .before .before .before .before .before .before .before .before .before .before .before .before .before .before .before .before .before .before .before .before in
-    let a = z .before .args in
-    let b = bytes-of _ (z .shared-slice-known .given) in
-    let f = c .before .before .before .before .before .before .before .before .before .before .before .before .before .before .before .before .before .before .before .before .before .before .before .before .before .before .before .before .before .before .front .ensures in
-    same-length (a .member .now) b (a .node-list .now) (a .cell-list .now) (z .before .pre) f (c .before .before .before .before .before .before .before .before .before .before .before .before .before .before .before .before .before .before .before .before .before .before .before .before .before .before .before .before .at .given .1) (rw (c .before .before .before .before .before .before .before .before .before .before .before .before .before .before .before .before .before .before .before .before .next .given .1) at (c .before .before .before .before .before .before .before .before .before .before .before .before .before .before .before .before .before .before .before .before .before .before .before .before .dimensions .ensures .0)))
-    (λ c. search needs) (λ c. search needs) (λ c. search needs)
-    (λ c.
-    let z = c .before .before .before .before .before .before .before .before .before .before .before .before .before .before .before .before .before .before .before .before .before .before .before .before .before .before .before .before .before .before .before .before .before .before .before in
-    let a = z .before .args in
-    let b = bytes-of _ (z .shared-slice-known .given) in
-    let f = c .before .before .before .before .before .before .before .before .before .before .before .before .before .before .before .before .before .before .before .before .before .before .before .before .before .before .before .before .before .before .front .ensures in
-    delivered (with-tail (a .member .now) b (a .node-list .now) (a .cell-list .now) (z .before .pre) f (c .before .before .before .before .before .before .before .before .before .before .before .before .before .before .before .before .before .before .before .before .before .before .before .before .before .before .before .before .at .given .1) (rw (c .before .before .before .before .before .before .before .before .before .before .before .before .before .before .before .before .before .before .before .before .next .given .1) at (c .before .before .before .before .before .before .before .before .before .before .before .before .before .before .before .before .before .before .before .before .before .before .before .before .dimensions .ensures .0)) (c .before .before .before .before .before .before .before .before .before .before .before .before .before .before .before .before .after-dims .ensures) (c .before .before .before .before .before .before .before .before .before .before .before .axes2 .given .1)) (c .before .before .before .before .deliver .ensures)))
+    let h = c .before .before in
+    let z = c .before .before .before .before .before .before .before .before .before .before in
+    rw (c .refused .ensures) (not-delivered (z .args .member .now) (no-header (z .args .member .now) (z .pre .short) (rw (h .r .given .1) at (h .before .before .header .ensures)))))
+    (λ c. search needs) (λ c. search needs) (λ c. search needs) (λ c. search needs)
+    (λ c. c .before .before .before .before .before .before .before .before .read-body .ensures))

@@ -18,26 +18,26 @@ use Rattle.layout.specs.Read.{Got, got, no, lead, read}
 use Rattle.layout.specs.Check.{check}
 use Rattle.layout.specs.Laws.{complete, passes-exactly}
 use Rattle.table.specs.Laws.KeptTable.{dimensions-kept, axes-kept, cells-kept}
-use Rattle.member.specs.Member.{Member, final, dimensions, nodes, places, MemberDerivation, AsDemanded, dimensionsSection, axesSection, cellsSection}
-use Rattle.member.specs.Refused.{memberRule}
+use Rattle.member.specs.Member.{Member, final, version, dimensions, nodes, places, MemberDerivation, AsDemanded, dimensionsSection, axesSection, cellsSection}
+use Rattle.member.specs.Refused.{bodyRule, memberRule}
 use Rattle.member.specs.Checked.{ended, checked}
 
 -- ---- the rule, in the words of demand 3
 
 -- Demanded: a tree passes the tests of the rule exactly when it is as demanded and keeps the sizes
 pub kept-demanded : (t : Tree Member) → Kept memberRule t ↔ (AsDemanded t × (nodes t ≤ most-nodes) × (places t ≤ most-places))
-unfolding memberRule
+unfolding memberRule bodyRule
 kept-demanded t =
-    let d = dimensions-kept (dimensionsSection t) in
-    let a = axes-kept (dimensions t) (axesSection t) in
-    let c = cells-kept (places t) (cellsSection t) in (
+    let d = dimensions-kept (version t) (dimensionsSection t) in
+    let a = axes-kept (version t) (dimensions t) (axesSection t) in
+    let c = cells-kept (version t) (places t) (cellsSection t) in (
       λ k.
-          let x = d .0 (k .0 .0 .1) in
-          let y = a .0 (k .0 .1) in
-          (record { leaves = x .1; counts = y .1; entries = y .2; inside = c .0 (k .1) }, x .0, y .0),
+          let x = d .0 (k .1 .0 .0 .1) in
+          let y = a .0 (k .1 .0 .1) in
+          (record { leaves = x .1; counts = y .1; entries = y .2; inside = c .0 (k .1 .1) }, x .0, y .0),
       λ m.
           let o = m .0 in
-          (((tt, d .1 (m .1, o .leaves)), a .1 (m .2, o .counts, o .entries)), c .1 (o .inside)),
+          (tt, (((tt, d .1 (m .1, o .leaves)), a .1 (m .2, o .counts, o .entries)), c .1 (o .inside))),
     )
 
 -- ---- the optional 01, and then the end

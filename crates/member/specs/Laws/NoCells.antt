@@ -9,12 +9,12 @@ use Rattle.once.specs.Laws.{none-below}
 use Rattle.index.specs.Laws.Product.{product-zero}
 use Rattle.table.specs.Table.{Cell}
 use Rattle.table.specs.Records.{cellIndex}
-use Rattle.member.specs.Member.{Member, cells, ns, AsDemanded}
+use Rattle.member.specs.Member.{Member, version, cells, ns, AsDemanded}
 
-no-more : (ts : List (Tree Cell)) → map cellIndex ts ≡ [] → ts ≡ []
-no-more [] e = refl
-no-more (t ∷ ts) e = absurd (let z : _≡_ {A = ℕ} 0 1 = cc in omega arith)
+no-more : (v : ℕ) (ts : List (Tree (Cell v))) → map (cellIndex v) ts ≡ [] → ts ≡ []
+no-more v [] e = refl
+no-more v (t ∷ ts) e = absurd (let z : _≡_ {A = ℕ} 0 1 = cc in omega arith)
 
 -- No cells: where an n is 0 a demanded derivation has no cell
 pub only-empty : (t : Tree Member) → AsDemanded t → among 0 (ns t) ≡ true → cells t ≡ []
-only-empty t a z = no-more (cells t) (none-below (rw (product-zero (ns t) z) at (a .inside)))
+only-empty t a z = no-more (version t) (cells t) (none-below (rw (product-zero (ns t) z) at (a .inside)))

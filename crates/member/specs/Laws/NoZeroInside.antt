@@ -1,19 +1,26 @@
 -- No string of a member holds a zero byte (document 02, T-06): of the whole derivation, and of each Value that is handed out.
 use mathlib.Core.List.{List}
 use Prim.Native.Nat.{ℕ}
-use Rattle.layout.specs.Layout.{Tree, All, all-none, all-more, Valid}
+use Rattle.layout.specs.Layout.{Layout, Tree, All, all-none, all-more, Valid}
 use Rattle.layout.specs.Strings.{strings, NoZero}
 use Rattle.layout.specs.Laws.{strings-free}
-use Rattle.value.specs.Value.{Value}
+use Rattle.value.specs.Value.{Value, CellValue}
 use Rattle.member.specs.Member.{Member}
 use Rattle.member.specs.Laws.MemberUses as member-uses
 
 pub member-free : (t : Tree Member) → Valid Member t → All NoZero (strings Member t)
 member-free = strings-free member-uses.member
 
-abbrev pub Free : Tree Value → Type 0
-Free v = All NoZero (strings Value v)
+-- of a tree of g
+abbrev pub Free : (g : Layout) → Tree g → Type 0
+Free g v = All NoZero (strings g v)
 
-pub values-free : {vs : List (Tree Value)} → All (Valid Value) vs → All Free vs
-values-free all-none = all-none
-values-free (all-more {x} h hs) = all-more (strings-free member-uses.value x h) (values-free hs)
+all-free : {g : Layout} → member-uses.Fine g → {vs : List (Tree g)} → All (Valid g) vs → All (Free g) vs
+all-free u all-none = all-none
+all-free u (all-more {x} h hs) = all-more (strings-free u x h) (all-free u hs)
+
+pub values-free : (version : ℕ) {vs : List (Tree (Value version))} → All (Valid (Value version)) vs → All (Free (Value version)) vs
+values-free version = all-free (member-uses.value version)
+
+pub cell-values-free : (version : ℕ) {vs : List (Tree (CellValue version))} → All (Valid (CellValue version)) vs → All (Free (CellValue version)) vs
+cell-values-free version = all-free (member-uses.cell-value version)

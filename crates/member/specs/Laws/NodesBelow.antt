@@ -9,13 +9,13 @@ use native.Mathlib.Omega.{arith}
 use Rattle.sizes.specs.Sizes.{no-parent}
 use Rattle.table.specs.Below.{parentOf, sizeOf, Below}
 use Rattle.table.specs.Laws.Groups.{Groups, group-of, dims-groups, below-exactly, next-child, next-top}
-use Rattle.member.specs.Member.{dimensions, nodes, dimensionsAt, nodeRecords, MemberDerivation}
+use Rattle.member.specs.Member.{version, dimensions, nodes, dimensionsAt, nodeRecords, MemberDerivation}
 
 module _ {bs : List ℕ} (d : MemberDerivation bs) where
   all-groups : Groups (nodeRecords (d .tree)) no-parent 0 (nodes (d .tree))
   all-groups =
       let ws = nodeRecords (d .tree) in
-      rw (← zero-add (nodes (d .tree))) (dims-groups ws 0 0 (dimensionsAt (d .tree)) (dimensions (d .tree)) [] (sym (append-nil ws)))
+      rw (← zero-add (nodes (d .tree))) (dims-groups (version (d .tree)) ws 0 0 (dimensionsAt (d .tree)) (dimensions (d .tree)) [] (sym (append-nil ws)))
 
   -- node j is below node i, by the parent words, exactly when it is one of the records directly after it, as many as its size less one
   pub nodes-below : (i j : ℕ) → i < nodes (d .tree) → let ws = nodeRecords (d .tree) in Below ws (nodes (d .tree)) i j ↔ ((i < j) × (j < i + sizeOf ws i))

@@ -12,17 +12,17 @@ use Rattle.layout.specs.Laws.Bounds.{allAmong, is-among, contentGives, TestsGiv
 use Rattle.layout.specs.Laws.Strings.{strict}
 use Rattle.table.specs.Laws.RuleBounds.{numbers, dimensions-numbered, axes-numbered, cells-numbered, dimensions-inside, axes-inside, cells-inside}
 use Rattle.member.specs.Member.{Member}
-use Rattle.member.specs.Refused.{memberRule, Refused, too-long, inside, left}
+use Rattle.member.specs.Refused.{bodyRule, memberRule, Refused, too-long, inside, left}
 use Rattle.member.specs.Laws.MemberUses as member-uses
 use Rattle.table.specs.Records.{dimsOf}
 
 member-numbered : Numbered numbers memberRule
-unfolding memberRule
-member-numbered = (((tt, λ _. dimensions-numbered), λ t. axes-numbered (dimsOf (t .1))), λ t. cells-numbered _)
+unfolding memberRule bodyRule
+member-numbered = (tt, λ _ v. (((tt, λ _. dimensions-numbered v), λ t. axes-numbered v (dimsOf v (t .1))), λ t. cells-numbered v _))
 
 member-inside : PlacesInside memberRule
-unfolding memberRule
-member-inside = (((tt, λ _. dimensions-inside), λ t. axes-inside (dimsOf (t .1))), λ t. cells-inside _)
+unfolding memberRule bodyRule
+member-inside = (tt, λ _ v. (((tt, λ _. dimensions-inside v), λ t. axes-inside v (dimsOf v (t .1))), λ t. cells-inside v _))
 
 -- 1 for the length, 11 for bytes left; 18 for a zero byte; 12 and 13 tell of the lent areas, 14 to 16 of looks
 abbrev pub memberNumbers : List ℕ

@@ -4,11 +4,11 @@ use mathlib.Core.List.{List, map}
 use Rattle.sizes.specs.Sizes.{category-depth}
 use Rattle.layout.specs.Layout.{Tree, All, all-none, all-more, Valid}
 use Rattle.layout.specs.Laws.Strings.{all-flat}
-use Rattle.value.specs.Value.{Value}
+use Rattle.value.specs.Value.{Value, CellValue}
 use Rattle.table.specs.Table.{CategoryIn, Dimension}
 use Rattle.table.specs.Records.{dimName, cellValue}
 use Rattle.table.specs.Laws.RecordsPoint.{treeNames, categoryNames}
-use Rattle.member.specs.Member.{Member}
+use Rattle.member.specs.Member.{Member, version}
 use Rattle.member.specs.Laws.RecordsSpelt.{nodeNames, dimensionNames, cellValues}
 
 all-map : {A B : Type 0} {P : A → Type 0} {Q : B → Type 0} (f : A → B) → ((x : A) → P x → Q (f x)) → {xs : List A} → All P xs → All Q (map f xs)
@@ -16,22 +16,23 @@ unfolding map
 all-map f one all-none = all-none
 all-map f one (all-more {x} h hs) = all-more (one x h) (all-map f one hs)
 
-tree-valid : (d : ℕ) (t : Tree (CategoryIn d)) → Valid (CategoryIn d) t → All (Valid Value) (treeNames d t)
-unfolding treeNames
-tree-valid zero t v = absurd v
-tree-valid (suc d) (m, (zero, t)) v = all-more (v .0) (all-flat (tree-valid d) all-none)
-tree-valid (suc d) (m, (suc k, (t, (n, ts)))) v = all-more (v .0) (all-flat (tree-valid d) (v .1 .2 .1 .2 .1))
+module _ (version : ℕ) where
+  tree-valid : (d : ℕ) (t : Tree (CategoryIn version d)) → Valid (CategoryIn version d) t → All (Valid (Value version)) (treeNames version d t)
+  unfolding treeNames
+  tree-valid zero t v = absurd v
+  tree-valid (suc d) (m, (zero, t)) v = all-more (v .0) (all-flat (tree-valid d) all-none)
+  tree-valid (suc d) (m, (suc k, (t, (n, ts)))) v = all-more (v .0) (all-flat (tree-valid d) (v .1 .2 .1 .2 .1))
 
-categories-valid : (t : Tree Dimension) → Valid Dimension t → All (Valid Value) (categoryNames t)
-unfolding categoryNames
-categories-valid t v = all-flat (tree-valid category-depth) (v .1 .2 .1)
+  categories-valid : (t : Tree (Dimension version)) → Valid (Dimension version) t → All (Valid (Value version)) (categoryNames version t)
+  unfolding categoryNames
+  categories-valid t v = all-flat (tree-valid category-depth) (v .1 .2 .1)
 
 module _ (t : Tree Member) (v : Valid Member t) where
-  pub nodes-valid : All (Valid Value) (nodeNames t)
-  nodes-valid = all-flat categories-valid (v .0 .0 .1 .2 .1)
+  pub nodes-valid : All (Valid (Value (version t))) (nodeNames t)
+  nodes-valid = all-flat (categories-valid (version t)) (v .1 .2 .0 .0 .1 .2 .1)
 
-  pub dimensions-valid : All (Valid Value) (dimensionNames t)
-  dimensions-valid = all-map dimName (λ d w. w .0 .0) (v .0 .0 .1 .2 .1)
+  pub dimensions-valid : All (Valid (Value (version t))) (dimensionNames t)
+  dimensions-valid = all-map (dimName (version t)) (λ d w. w .0 .0) (v .1 .2 .0 .0 .1 .2 .1)
 
-  pub cells-valid : All (Valid Value) (cellValues t)
-  cells-valid = all-map cellValue (λ c w. w .1) (v .1 .2 .1)
+  pub cells-valid : All (Valid (CellValue (version t))) (cellValues t)
+  cells-valid = all-map (cellValue (version t)) (λ c w. w .1) (v .1 .2 .1 .2 .1)

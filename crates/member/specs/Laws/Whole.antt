@@ -38,11 +38,12 @@ use Rattle.cells.specs.Laws.Axes.{Order, AllAxes}
 use Rattle.cells.specs.Laws.Cells.{AllCells, cell-records, cell-room}
 use Rattle.member.specs.declared.Answer.{Answer}
 use Rattle.member.specs.declared.Tail.{Tail}
-use Rattle.member.specs.Member.{Member, order, cells, nodes, cellsStart, nodeRecords, dimensionEntries, cellRecords, frontSection, dimensionsSection, axesSection}
-use Rattle.member.specs.Refused.{memberRule}
+use Rattle.member.specs.Member.{Member, version as memberVersion, body-at, order, cells, nodes, cellsStart, nodeRecords, dimensionEntries, cellRecords, frontSection, dimensionsSection, axesSection}
+use Rattle.member.specs.Refused.{bodyRule, memberRule}
 use Rattle.member.specs.Checked.{ended, checked}
 use Rattle.member.specs.Answer.{zeros, refusal, accepted, answerOf, nodesAfter, cellsAfter, Delivered}
 use Rattle.member.specs.Laws.Demanded.{ended-got}
+use Rattle.member.specs.Laws.Header.{Bound}
 
 -- ---- the end
 
@@ -93,113 +94,6 @@ pub end-left : {A X : Type 0} {s : List ℕ} {Q : A → ℕ → X → Type 0} {y
     → {st : Step} → st ≡ endAt s q → {n p : ℕ} → st ≡ Refused n p → Keeps s Q (ended y) (off n p)
 end-left {s = s} {q = q} k₀ e f = let k = kept-on k₀ in rw (k .is, ended-off s q (k .tree) (sym e ∙ f)) keeps-off
 
--- ---- after the dimensions
-
--- the axes and the cells of a table with the dimensions ts, and the end
-unfoldable pub afterDims : List (Tree Dimension) → List ℕ → ℕ → Got (Tree Axes × Tree Cells)
-afterDims ts s at = bind (check (axesRule ts) s at) (λ a s₁ at₁. bind (ended (check (cellsRule (placesOf ts)) s₁ at₁)) (λ c s₂ at₂. got (a, c) s₂ at₂))
-
--- what is kept of them, from the place `at` on
-pub record Kept-tail (s : List ℕ) (at : ℕ) (ws : List ℕ) (a : Tree Axes) (c : Tree Cells) (layers rows columns : ℕ) (t : Tail) (vs : List ℕ) : Type 0 where
-  pub on-layers : layers ≡ axisLayers a
-  pub on-rows : rows ≡ axisRows a
-  pub on-columns : columns ≡ axisColumns a
-  pub order : t .order ≡ sets (replicate most-dimensions 0) 0 (map entryIndex (axisEntries a))
-  pub few-entries : length (axisEntries a) ≤ most-dimensions
-  pub count : t .cells ≡ length (cellsOf c)
-  pub stored : vs ≡ sets ws 0 (rowsWords (size Cell) cellWords (at + size Axes a + 4) (cellsOf c))
-  pub few : length (cellsOf c) ≤ most-cells
-  pub bytes : least-cell * length (cellsOf c) ≤ length s
-
-pub data TailIs (s : List ℕ) (at : ℕ) (ws : List ℕ) : Got (Tree Axes × Tree Cells) → Tail → List ℕ → Type 0 where
-  tail-on : {a : Tree Axes} {c : Tree Cells} {r : List ℕ} {p : ℕ} {t : Tail} {vs : List ℕ} (l rs cs q : ℕ) → t .axes ≡ counts.Of l rs cs q
-      → Kept-tail s at ws a c l rs cs t vs → TailIs s at ws (got (a, c) r p) t vs
-  tail-off : {n p : ℕ} {t : Tail} {vs : List ℕ} → t .axes ≡ counts.Refused n p → TailIs s at ws (no n p) t vs
-
-few-cells : (c : Tree Cells) → Valid Cells c → length (cellsOf c) ≤ most-cells
-unfolding passes
-few-cells c v = omega (arith, v .2 .0, leb-true (c .0) most-cells (v .1))
-
-many-bytes : {s : List ℕ} {at : ℕ} (c : Tree Cells) → Valid Cells c → {r : List ℕ} {p : ℕ} → Found Cells s at c r p → at ≤ length s → least-cell * length (cellsOf c) ≤ length s
-unfolding size spell
-many-bytes c v f h =
-    let l = simp length-append at (f .place) in
-    omega (arith, cells-bytes (v .2 .1), size-all Cell (c .1), stays-inside f h, l)
-
--- the code has the n of the d dimensions in the words ds
-abbrev pub TailRead : List ℕ → ℕ → ℕ → List ℕ → List ℕ → Tail → List ℕ → Type 0
-TailRead s at d ds ws t vs =
-    (ts : List (Tree Dimension)) → length ts ≤ most-dimensions → d ≡ length ts → sizes ds 0 d ≡ map (λ t. length (dimLeaves t)) ts → at ≤ length s
-    → TailIs s at ws (afterDims ts (drop at s) at) t vs
-
-module _ (s : List ℕ) (b : Bytes s) (at d : ℕ) (ds : List ℕ) {places : ℕ} (p-is : places ≡ min (product (sizes ds 0 (min d most-dimensions))) (2 ^ 32))
-    (ts : List (Tree Dimension)) (few : length ts ≤ most-dimensions) (d-is : d ≡ length ts) (ns : sizes ds 0 d ≡ map (λ t. length (dimLeaves t)) ts) (inside : at ≤ length s) where
-  d-few : min d most-dimensions ≡ d
-  d-few = omega arith
-
-  capped : places ≡ min (placesOf ts) (2 ^ 32)
-  capped = p-is ∙ rw (d-few, ns)
-
-  pub too-many-places : leb places most-places ≡ false → {t : Tail} {ws vs : List ℕ} → t .axes ≡ counts.Refused 7 at → TailIs s at ws (afterDims ts (drop at s) at) t vs
-  unfolding afterDims axesRule check bind pick
-  too-many-places e h =
-      let l : leb (placesOf ts) most-places ≡ false = lt-leb (placesOf ts) most-places (omega (arith, leb-false places most-places e, capped)) in
-      rw (l, sub-zero) (tail-off h)
-
-  module _ (e : leb places most-places ≡ true) where
-    places-is : places ≡ placesOf ts
-    places-is = omega (arith, leb-true places most-places e, capped)
-
-    by-counts : check (axesRule ts) (drop at s) at ≡ check (countsRule (min d most-dimensions)) (drop at s) at
-    unfolding axesRule check pick
-    by-counts =
-        let l : leb (placesOf ts) most-places ≡ true = le-leb (placesOf ts) most-places (omega (arith, leb-true places most-places e, places-is)) in
-        let n : length ts ≡ min d most-dimensions = omega arith in
-        rw (l, n)
-
-    pub no-axes : {n p : ℕ} → Keeps s AllAxes (check (countsRule (min d most-dimensions)) (drop at s) at) (off n p) → {t : Tail} {ws vs : List ℕ} → t .axes ≡ counts.Refused n p
-        → TailIs s at ws (afterDims ts (drop at s) at) t vs
-    unfolding afterDims bind
-    no-axes k h = rw (by-counts, kept-off k) (tail-off h)
-
-    module _ {next : ℕ} {x : Order} (ax : Keeps s AllAxes (check (countsRule (min d most-dimensions)) (drop at s) at) (on next x)) where
-      axes-read : Reached s AllAxes (check (countsRule (min d most-dimensions)) (drop at s) at) next x
-      axes-read = kept-on ax
-
-      axes-found : Found Axes s at (axes-read .tree) (drop next s) next
-      axes-found = found-by (countsRule (min d most-dimensions)) s b at (axes-read .tree) (drop next s) next (axes-read .is)
-
-      pub no-cells : {ws : List ℕ} {n p : ℕ} → Keeps s (AllCells next ws) (ended (check (cellsRule places) (drop next s) next)) (off n p) → {t : Tail} {vs : List ℕ} → t .axes ≡ counts.Refused n p
-          → TailIs s at ws (afterDims ts (drop at s) at) t vs
-      unfolding afterDims bind
-      no-cells k h =
-          let k′ = rw places-is at (kept-off k) in
-          rw (by-counts, axes-read .is, k′) (tail-off h)
-
-      pub with-cells : {ws : List ℕ} {q m : ℕ} {vs : List ℕ} → Keeps s (AllCells next ws) (ended (check (cellsRule places) (drop next s) next)) (on q (m, vs)) → {t : Tail}
-          → t .axes ≡ counts.Of (x .layers) (x .rows) (x .columns) q → t .cells ≡ m → t .order ≡ x .order → TailIs s at ws (afterDims ts (drop at s) at) t vs
-      unfolding afterDims bind
-      with-cells {ws} {q} {m} {vs} k₀ {t} h₁ h₂ h₃ =
-          let k = kept-on k₀ in
-          let c = k .tree in
-          let is = ended-got (check (cellsRule places) (drop next s) next) c (drop q s) q (k .is) .0 in
-          let f = found-by (cellsRule places) s b next c (drop q s) q is in
-          let v = f .valid in
-          let n-is : length (cellsOf c) ≡ c .0 = v .2 .0 in
-          let kept-all : Kept-tail s at ws (axes-read .tree) c (x .layers) (x .rows) (x .columns) t vs = record {
-            on-layers = axes-read .keeps .layers;
-            on-rows = axes-read .keeps .rows;
-            on-columns = axes-read .keeps .columns;
-            order = h₃ ∙ axes-read .keeps .order;
-            few-entries = axes-read .keeps .few;
-            count = h₂ ∙ k .keeps .count;
-            stored = k .keeps .stored ∙ ap (λ (a : ℕ). sets ws 0 (rowsWords (size Cell) cellWords (a + 4) (cellsOf c))) (axes-found .place);
-            few = few-cells c v;
-            bytes = many-bytes c v f (stays-inside axes-found inside);
-          } in
-          let is′ : ended (check (cellsRule (placesOf ts)) (drop next s) next) ≡ got c (drop q s) q = ap (λ (n : ℕ). ended (check (cellsRule n) (drop next s) next)) (sym places-is) ∙ k .is in
-          rw (by-counts, axes-read .is, is′) (tail-on (x .layers) (x .rows) (x .columns) q h₁ kept-all)
-
 -- ---- the n of the dimensions, from their entries
 
 -- the n of k dimensions, from their words
@@ -214,21 +108,6 @@ sizes-drop ws (suc k) i =
     let next : dimension-words * i + dimension-words ≡ dimension-words * (i + 1) = omega arith in
     let e : drop dimension-words (drop (dimension-words * i) ws) ≡ drop (dimension-words * (i + 1)) ws = drop-drop dimension-words (dimension-words * i) ws ∙ ap (λ (m : ℕ). drop m ws) next in
     rw (e, getD-drop (dimension-words * i) ws dimension-n 0) (ap (λ (l : List ℕ). getD ws (dimension-words * i + dimension-n) 0 ∷ l) (sizes-drop ws k (i + 1)))
-
-sizes-entries : (used at : ℕ) (ts : List (Tree Dimension)) (R : List ℕ)
-    → sizesOf (length ts) (dimsEntries used at ts ++ R) ≡ map (λ d. length (dimLeaves d)) ts
-unfolding sizesOf dimsEntries dimEntry
-sizes-entries used at [] R = refl
-sizes-entries used at (t ∷ ts) R =
-    ap (λ (l : List ℕ). length (dimLeaves t) ∷ l) (sizes-entries (used + dimNodes t) (at + size Dimension t) ts R)
-
-sizes-there : (at : ℕ) (ts : List (Tree Dimension)) → length ts ≤ most-dimensions
-    → sizes (sets (replicate dimension-area 0) 0 (dimsEntries 0 at ts)) 0 (length ts) ≡ map (λ d. length (dimLeaves d)) ts
-sizes-there at ts h =
-    let W = dimsEntries 0 at ts in
-    let fit : 0 + length W ≤ length (replicate {A = ℕ} dimension-area 0) = rw length-replicate (omega (arith, width-entries 0 at ts)) in
-    sizes-drop (sets (replicate dimension-area 0) 0 W) (length ts) 0
-    ∙ rw (sets-eq W (replicate dimension-area 0) 0 fit) (sizes-entries 0 at ts (drop (0 + length W) (replicate dimension-area 0)))
 
 -- ---- the whole
 
@@ -259,15 +138,6 @@ ended-bind (got t s at) f = go (leb (length s) (lead 0x01 1 s))
     go true = refl
     go false = refl
 
-in-sections : (s : List ℕ) → length s ≤ member-bytes
-    → checked s ≡ bind (read Front s 0) (λ f s₁ at₁. bind (check dimensionsRule s₁ at₁) (λ d s₂ at₂. bind (afterDims (d .1) s₂ at₂) (λ x s₃ at₃. got (((f, d), x .0), x .1) s₃ at₃)))
-unfolding checked memberRule check afterDims pick bind
-in-sections s h =
-    rw (le-leb (length s) member-bytes h)
-    (simp bind-assoc
-    (ended-after (read Front s 0) _ _ (λ f s₁ at₁. ended-after (check dimensionsRule s₁ at₁) _ _ (λ d s₂ at₂. ended-after (check (axesRule (d .1)) s₂ at₂) _ _ (λ a s₃ at₃.
-    ended-bind (check (cellsRule (placesOf (d .1))) s₃ at₃) (λ c. (((f, d), a), c)))))))
-
 -- words in front of zeros
 drop-zeros : (k n : ℕ) → drop k (replicate {A = ℕ} n 0) ≡ replicate (n - k) 0
 drop-zeros zero n = rw sub-zero
@@ -284,8 +154,39 @@ taken ws W k clear e h =
     let l : length W ≤ length ws = omega (arith, e, h) in
     ap (λ (zs : List ℕ). take k (sets zs 0 W)) clear ∙ ap (take k) (in-front (length ws) W l) ∙ take-at W (replicate (length ws - length W) 0) k e
 
+-- what the code hands on
+abbrev pub answered : ℕ → ℕ → Tail → List ℕ → ℕ → ℕ → ℕ → Answer
+answered d used t es l r c =
+    record { refusal = 0; place = 0; dims = word32 d; nodes = word32 used; cells = word32 (t .cells); dimensions = es; layers = l; rows = r; columns = c; order = t .order }
+
+same-answer : {d d′ n n′ c c′ l l′ r r′ k k′ : ℕ} {es es′ os os′ : List ℕ} → d ≡ d′ → n ≡ n′ → c ≡ c′ → es ≡ es′ → l ≡ l′ → r ≡ r′ → k ≡ k′ → os ≡ os′
+    → _≡_ {A = Answer} record { refusal = 0; place = 0; dims = d; nodes = n; cells = c; dimensions = es; layers = l; rows = r; columns = k; order = os }
+    record { refusal = 0; place = 0; dims = d′; nodes = n′; cells = c′; dimensions = es′; layers = l′; rows = r′; columns = k′; order = os′ }
+same-answer e₁ e₂ e₃ e₄ e₅ e₆ e₇ e₈ = rw (e₁, e₂, e₃, e₄, e₅, e₆, e₇, e₈)
+
+-- ---- what is delivered
+
+-- what is delivered of an answer a that accepts, with its records in front of two lists of words
+pub record Filled (a : Answer) (node-list cell-list nodes cells : List ℕ) (r : Answer) (nodes′ cells′ : List ℕ) : Type 0 where
+  pub answer : r ≡ pick (leb (node-words * a .nodes) (length nodes)) (pick (leb (cell-words * a .cells) (length cells)) a (refusal 13 0 (a .nodes) (a .cells))) (refusal 12 0 (a .nodes) (a .cells))
+  pub node-area : nodes′ ≡ pick (leb (node-words * a .nodes) (length nodes)) (pick (leb (cell-words * a .cells) (length cells)) (take (node-words * a .nodes) node-list ++ drop (node-words * a .nodes) nodes) nodes) nodes
+  pub cell-area : cells′ ≡ pick (leb (node-words * a .nodes) (length nodes)) (pick (leb (cell-words * a .cells) (length cells)) (take (cell-words * a .cells) cell-list ++ drop (cell-words * a .cells) cells) cells) cells
+
+pub not-delivered : (s : List ℕ) {n p : ℕ} → checked s ≡ no n p → {N C : List ℕ} → Delivered (checked s) N C (refusal n p 0 0) N C
+unfolding answerOf nodesAfter cellsAfter
+not-delivered s e = rw e (record { answer = refl; node-area = refl; cell-area = refl })
+
+-- what is refused by its Header is refused
+pub no-header : (s : List ℕ) → length s ≤ member-bytes → {n p : ℕ} → check memberRule s 0 ≡ no n p → checked s ≡ no n p
+unfolding checked ended pick
+no-header s h e = rw (le-leb (length s) member-bytes h, e)
+
+pub longer : (s : List ℕ) → member-bytes < length s → checked s ≡ no 1 0
+unfolding checked pick
+longer s h = rw (lt-leb (length s) member-bytes h)
+
 -- where the cells start
-cells-start : (t : Tree Member) → cellsStart t ≡ size Front (frontSection t) + size Dimensions (dimensionsSection t) + size Axes (axesSection t) + 4
+cells-start : (t : Tree Member) → let v = memberVersion t in cellsStart t ≡ body-at + size (Front v) (frontSection t) + size (Dimensions v) (dimensionsSection t) + size Axes (axesSection t) + 4
 unfolding size spell
 cells-start t = simp length-append (omega arith)
 
@@ -302,129 +203,6 @@ pub record Told (s : List ℕ) (a : Answer) (ms vs : List ℕ) : Type 0 where
   pub few-cells : length (cells tree) ≤ most-cells
   pub node-room : node-words * nodes tree ≤ length ms
   pub cell-room : cell-words * length (cells tree) ≤ length vs
-
--- what the code hands on
-abbrev pub answered : ℕ → ℕ → Tail → List ℕ → ℕ → ℕ → ℕ → Answer
-answered d used t es l r c =
-    record { refusal = 0; place = 0; dims = word32 d; nodes = word32 used; cells = word32 (t .cells); dimensions = es; layers = l; rows = r; columns = c; order = t .order }
-
-same-answer : {d d′ n n′ c c′ l l′ r r′ k k′ : ℕ} {es es′ os os′ : List ℕ} → d ≡ d′ → n ≡ n′ → c ≡ c′ → es ≡ es′ → l ≡ l′ → r ≡ r′ → k ≡ k′ → os ≡ os′
-    → _≡_ {A = Answer} record { refusal = 0; place = 0; dims = d; nodes = n; cells = c; dimensions = es; layers = l; rows = r; columns = k; order = os }
-    record { refusal = 0; place = 0; dims = d′; nodes = n′; cells = c′; dimensions = es′; layers = l′; rows = r′; columns = k′; order = os′ }
-same-answer e₁ e₂ e₃ e₄ e₅ e₆ e₇ e₈ = rw (e₁, e₂, e₃, e₄, e₅, e₆, e₇, e₈)
-
-module _ (s : List ℕ) (b : Bytes s) (ns cs : List ℕ) (room : ReadyLists s ns cs) {st : Step} (fr : Reads Front s (Next 0) st) where
-  pub no-front : {n p : ℕ} → st ≡ Refused n p → checked s ≡ no n p
-  unfolding bind
-  no-front e = rw (in-sections s (room .short), read-off fr e)
-
-  module _ {at : ℕ} (e : st ≡ Next at) where
-    start : Read Front s 0 at
-    start = read-on b fr e
-
-    abbrev Dimensioned : Out Kept → Type 0
-    Dimensioned = Keeps s (AllDims at ns (replicate dimension-area 0)) (within node-records s (length ns) (check dimensionsRule (drop at s) at))
-
-    pub no-dims : {n p : ℕ} → Dimensioned (off n p) → checked s ≡ no n p
-    unfolding bind
-    no-dims k =
-        let k′ = rw (is-within node-records s (length ns) (check dimensionsRule (drop at s) at) (room .short) (room .for-nodes)) at k in
-        rw (in-sections s (room .short), start .is, kept-off k′)
-
-    module _ {next d used : ℕ} {ms es : List ℕ} (k : Dimensioned (on next (kept d used ms es))) where
-      dims : Reached s (AllDims at ns (replicate dimension-area 0)) (check dimensionsRule (drop at s) at) next (kept d used ms es)
-      dims = kept-on (rw (is-within node-records s (length ns) (check dimensionsRule (drop at s) at) (room .short) (room .for-nodes)) at k)
-
-      pub same-length : length ms ≡ length ns
-      same-length = ap length (dims .keeps .words) ∙ length-sets ns 0 (dimsWords 0 0 (at + 4) (dimsOf (dims .tree)))
-
-      ts : List (Tree Dimension)
-      ts = dimsOf (dims .tree)
-
-      there : Found Dimensions s at (dims .tree) (drop next s) next
-      there = found-by dimensionsRule s b at (dims .tree) (drop next s) next (dims .is)
-
-      few-dims : length ts ≤ most-dimensions
-      unfolding passes ts
-      few-dims = omega (arith, there .valid .2 .0, leb-true (dims .tree .0) most-dimensions (there .valid .1))
-
-      inside : next ≤ length s
-      inside = stays-inside there (stays-inside (start .there) (omega arith))
-
-      tail-of : {t : Tail} {vs : List ℕ} → TailRead s next d es cs t vs → TailIs s next cs (afterDims ts (drop next s) next) t vs
-      unfolding ts
-      tail-of h =
-          let n-is = dims .keeps .number in
-          h ts few-dims n-is (ap (λ (l : List ℕ). sizes l 0 d) (dims .keeps .entries) ∙ ap (λ (n : ℕ). sizes (sets (replicate dimension-area 0) 0 (dimsEntries 0 (at + 4) ts)) 0 n) n-is ∙ sizes-there (at + 4) ts few-dims) inside
-
-      pub no-tail : {t : Tail} {vs : List ℕ} → TailRead s next d es cs t vs → {n p : ℕ} → t .axes ≡ counts.Refused n p → checked s ≡ no n p
-      unfolding bind ts
-      no-tail h {n} {p} e₁ = go (tail-of h) refl e₁
-        where
-          go : {y : Got (Tree Axes × Tree Cells)} {t : Tail} {vs : List ℕ} → TailIs s next cs y t vs → afterDims ts (drop next s) next ≡ y → t .axes ≡ counts.Refused n p → checked s ≡ no n p
-          go (tail-on l r c q x y) f g = absurd (let z : _≡_ {A = ℕ} 0 1 = cc in omega arith)
-          go (tail-off {n = m} {p = q} x) f g =
-              let m-is : m ≡ n = cc in
-              let q-is : q ≡ p = cc in
-              rw (in-sections s (room .short), start .is, dims .is, f, m-is, q-is)
-
-      pub with-tail : {t : Tail} {vs : List ℕ} → TailRead s next d es cs t vs → {l r c q : ℕ} → t .axes ≡ counts.Of l r c q → Told s (answered d used t es l r c) ms vs
-      unfolding bind ts zeros accepted
-      with-tail h {l} {r} {c} {q} e₁ = go (tail-of h) refl e₁
-        where
-          go : {y : Got (Tree Axes × Tree Cells)} {t : Tail} {vs : List ℕ} → TailIs s next cs y t vs → afterDims ts (drop next s) next ≡ y → t .axes ≡ counts.Of l r c q
-              → Told s (answered d used t es l r c) ms vs
-          go (tail-on {a = a} {c = x} {r = rest} {p = p} {t = t} {vs = vs} l′ r′ c′ q′ o k) f g =
-              let l-is : l′ ≡ l = cc in
-              let r-is : r′ ≡ r = cc in
-              let c-is : c′ ≡ c = cc in
-              let tree : Tree Member = (((start .tree, dims .tree), a), x) in
-              let at-is : at ≡ size Front (start .tree) = omega (arith, start .there .place) in
-              let cells-at : next + size Axes a + 4 ≡ cellsStart tree = omega (arith, cells-start tree, at-is, there .place) in
-              let d-is = dims .keeps .number in
-              let used-is = dims .keeps .count in
-              let few = few-dims in
-              let used-few = dims .keeps .few in
-              let all = width-entries 0 (at + 4) ts in
-              let bytes = dims .keeps .bytes in
-              let more = inside in
-              let entries-is : es ≡ dimensionEntries tree ++ zeros (dimension-area - length (dimensionEntries tree)) =
-              dims .keeps .entries ∙ in-front dimension-area (dimsEntries 0 (at + 4) ts) (omega (arith, all))
-              ∙ ap (λ (n : ℕ). dimsEntries 0 (n + 4) ts ++ zeros (dimension-area - length (dimsEntries 0 (n + 4) ts))) at-is in
-              let order-is : t .order ≡ order tree ++ zeros (most-dimensions - length (order tree)) =
-              k .order ∙ in-front most-dimensions (map entryIndex (axisEntries a)) (omega (arith, length-map (axisEntries a) entryIndex, k .few-entries)) in
-              let node-fit : node-words * nodes tree ≤ length ns = node-room s (length ns) (room .for-nodes) (nodes tree) (omega arith) (omega arith) in
-              let cell-fit : cell-words * length (cells tree) ≤ length cs = cell-room s (length cs) (room .for-cells) (length (cells tree)) (k .few) (k .bytes) in
-              record {
-                tree = tree;
-                rest = rest;
-                place = p;
-                is = rw (in-sections s (room .short), start .is, dims .is, f);
-                answer =
-                    same-answer (word-same d (omega arith) ∙ d-is) (word-same used (omega arith) ∙ used-is) (word-same (t .cells) (omega (arith, k .count, k .few)) ∙ k .count) entries-is
-                    (sym l-is ∙ k .on-layers) (sym r-is ∙ k .on-rows) (sym c-is ∙ k .on-columns) order-is;
-                nodes-stored =
-                    ap (take (node-words * nodes tree)) (dims .keeps .words)
-                    ∙ taken ns (dimsWords 0 0 (at + 4) ts) (node-words * nodes tree) (room .clear-nodes) (width-dims 0 0 (at + 4) ts) node-fit
-                    ∙ ap (λ (n : ℕ). dimsWords 0 0 (n + 4) ts) at-is;
-                cells-stored =
-                    ap (take (cell-words * length (cells tree))) (k .stored)
-                    ∙ taken cs (rowsWords (size Cell) cellWords (next + size Axes a + 4) (cellsOf x)) (cell-words * length (cells tree)) (room .clear-cells) (width-rows cell-words (size Cell) cellWords (λ _ _. refl) (next + size Axes a + 4) (cellsOf x)) cell-fit
-                    ∙ ap (λ (n : ℕ). rowsWords (size Cell) cellWords n (cellsOf x)) cells-at;
-                few-nodes = omega arith;
-                few-cells = k .few;
-                node-room = omega (arith, node-fit, ap length (dims .keeps .words), length-sets ns 0 (dimsWords 0 0 (at + 4) ts));
-                cell-room = omega (arith, cell-fit, ap length (k .stored), length-sets cs 0 (rowsWords (size Cell) cellWords (next + size Axes a + 4) (cellsOf x)));
-              }
-          go (tail-off x) f g = absurd (let z : _≡_ {A = ℕ} 0 1 = cc in omega arith)
-
--- ---- what is delivered
-
--- what is delivered of an answer a that accepts, with its records in front of two lists of words
-pub record Filled (a : Answer) (node-list cell-list nodes cells : List ℕ) (r : Answer) (nodes′ cells′ : List ℕ) : Type 0 where
-  pub answer : r ≡ pick (leb (node-words * a .nodes) (length nodes)) (pick (leb (cell-words * a .cells) (length cells)) a (refusal 13 0 (a .nodes) (a .cells))) (refusal 12 0 (a .nodes) (a .cells))
-  pub node-area : nodes′ ≡ pick (leb (node-words * a .nodes) (length nodes)) (pick (leb (cell-words * a .cells) (length cells)) (take (node-words * a .nodes) node-list ++ drop (node-words * a .nodes) nodes) nodes) nodes
-  pub cell-area : cells′ ≡ pick (leb (node-words * a .nodes) (length nodes)) (pick (leb (cell-words * a .cells) (length cells)) (take (cell-words * a .cells) cell-list ++ drop (cell-words * a .cells) cells) cells) cells
 
 pub delivered : {s : List ℕ} {a : Answer} {ms vs : List ℕ} → Told s a ms vs → {N C : List ℕ} {r : Answer} {N′ C′ : List ℕ} → Filled a ms vs N C r N′ C′ → Delivered (checked s) N C r N′ C′
 unfolding accepted answerOf nodesAfter cellsAfter
@@ -443,10 +221,239 @@ told-room t =
     let c = ap (λ (a : Answer). a .cells) (t .answer) in
     (omega (arith, n, t .node-room), omega (arith, c, t .cell-room), omega (arith, n, t .few-nodes), omega (arith, c, t .few-cells))
 
-pub not-delivered : (s : List ℕ) {n p : ℕ} → checked s ≡ no n p → {N C : List ℕ} → Delivered (checked s) N C (refusal n p 0 0) N C
-unfolding answerOf nodesAfter cellsAfter
-not-delivered s e = rw e (record { answer = refl; node-area = refl; cell-area = refl })
+module _ (version : ℕ) where
+  -- ---- after the dimensions
 
-pub longer : (s : List ℕ) → member-bytes < length s → checked s ≡ no 1 0
-unfolding checked pick
-longer s h = rw (lt-leb (length s) member-bytes h)
+  -- the axes and the cells of a table with the dimensions ts, and the end
+  unfoldable pub afterDims : List (Tree (Dimension version)) → List ℕ → ℕ → Got (Tree Axes × Tree (Cells version))
+  afterDims ts s at = bind (check (axesRule version ts) s at) (λ a s₁ at₁. bind (ended (check (cellsRule version (placesOf version ts)) s₁ at₁)) (λ c s₂ at₂. got (a, c) s₂ at₂))
+
+  -- what is kept of them, from the place `at` on
+  pub record Kept-tail (s : List ℕ) (at : ℕ) (ws : List ℕ) (a : Tree Axes) (c : Tree (Cells version)) (layers rows columns : ℕ) (t : Tail) (vs : List ℕ) : Type 0 where
+    pub on-layers : layers ≡ axisLayers a
+    pub on-rows : rows ≡ axisRows a
+    pub on-columns : columns ≡ axisColumns a
+    pub order : t .order ≡ sets (replicate most-dimensions 0) 0 (map entryIndex (axisEntries a))
+    pub few-entries : length (axisEntries a) ≤ most-dimensions
+    pub count : t .cells ≡ length (cellsOf version c)
+    pub stored : vs ≡ sets ws 0 (rowsWords (size (Cell version)) (cellWords version) (at + size Axes a + 4) (cellsOf version c))
+    pub few : length (cellsOf version c) ≤ most-cells
+    pub bytes : least-cell * length (cellsOf version c) ≤ length s
+
+  pub data TailIs (s : List ℕ) (at : ℕ) (ws : List ℕ) : Got (Tree Axes × Tree (Cells version)) → Tail → List ℕ → Type 0 where
+    tail-on : {a : Tree Axes} {c : Tree (Cells version)} {r : List ℕ} {p : ℕ} {t : Tail} {vs : List ℕ} (l rs cs q : ℕ) → t .axes ≡ counts.Of l rs cs q
+        → Kept-tail s at ws a c l rs cs t vs → TailIs s at ws (got (a, c) r p) t vs
+    tail-off : {n p : ℕ} {t : Tail} {vs : List ℕ} → t .axes ≡ counts.Refused n p → TailIs s at ws (no n p) t vs
+
+  few-cells : (c : Tree (Cells version)) → Valid (Cells version) c → length (cellsOf version c) ≤ most-cells
+  unfolding passes
+  few-cells c v = omega (arith, v .2 .0, leb-true (c .0) most-cells (v .1))
+
+  many-bytes : {s : List ℕ} {at : ℕ} (c : Tree (Cells version)) → Valid (Cells version) c → {r : List ℕ} {p : ℕ} → Found (Cells version) s at c r p → at ≤ length s → least-cell * length (cellsOf version c) ≤ length s
+  unfolding size spell
+  many-bytes c v f h =
+      let l = simp length-append at (f .place) in
+      omega (arith, (cells-bytes version) (v .2 .1), size-all (Cell version) (c .1), stays-inside f h, l)
+
+  -- the code has the n of the d dimensions in the words ds
+  abbrev pub TailRead : List ℕ → ℕ → ℕ → List ℕ → List ℕ → Tail → List ℕ → Type 0
+  TailRead s at d ds ws t vs =
+      (ts : List (Tree (Dimension version))) → length ts ≤ most-dimensions → d ≡ length ts → sizes ds 0 d ≡ map (λ t. length (dimLeaves version t)) ts → at ≤ length s
+      → TailIs s at ws (afterDims ts (drop at s) at) t vs
+
+  module _ (s : List ℕ) (b : Bytes s) (at d : ℕ) (ds : List ℕ) {places : ℕ} (p-is : places ≡ min (product (sizes ds 0 (min d most-dimensions))) (2 ^ 32))
+      (ts : List (Tree (Dimension version))) (few : length ts ≤ most-dimensions) (d-is : d ≡ length ts) (ns : sizes ds 0 d ≡ map (λ t. length (dimLeaves version t)) ts) (inside : at ≤ length s) where
+    d-few : min d most-dimensions ≡ d
+    d-few = omega arith
+
+    capped : places ≡ min (placesOf version ts) (2 ^ 32)
+    capped = p-is ∙ rw (d-few, ns)
+
+    pub too-many-places : leb places most-places ≡ false → {t : Tail} {ws vs : List ℕ} → t .axes ≡ counts.Refused 7 at → TailIs s at ws (afterDims ts (drop at s) at) t vs
+    unfolding afterDims axesRule check bind pick
+    too-many-places e h =
+        let l : leb (placesOf version ts) most-places ≡ false = lt-leb (placesOf version ts) most-places (omega (arith, leb-false places most-places e, capped)) in
+        rw (l, sub-zero) (tail-off h)
+
+    module _ (e : leb places most-places ≡ true) where
+      places-is : places ≡ placesOf version ts
+      places-is = omega (arith, leb-true places most-places e, capped)
+
+      by-counts : check (axesRule version ts) (drop at s) at ≡ check (countsRule (min d most-dimensions)) (drop at s) at
+      unfolding axesRule check pick
+      by-counts =
+          let l : leb (placesOf version ts) most-places ≡ true = le-leb (placesOf version ts) most-places (omega (arith, leb-true places most-places e, places-is)) in
+          let n : length ts ≡ min d most-dimensions = omega arith in
+          rw (l, n)
+
+      pub no-axes : {n p : ℕ} → Keeps s AllAxes (check (countsRule (min d most-dimensions)) (drop at s) at) (off n p) → {t : Tail} {ws vs : List ℕ} → t .axes ≡ counts.Refused n p
+          → TailIs s at ws (afterDims ts (drop at s) at) t vs
+      unfolding afterDims bind
+      no-axes k h = rw (by-counts, kept-off k) (tail-off h)
+
+      module _ {next : ℕ} {x : Order} (ax : Keeps s AllAxes (check (countsRule (min d most-dimensions)) (drop at s) at) (on next x)) where
+        axes-read : Reached s AllAxes (check (countsRule (min d most-dimensions)) (drop at s) at) next x
+        axes-read = kept-on ax
+
+        axes-found : Found Axes s at (axes-read .tree) (drop next s) next
+        axes-found = found-by (countsRule (min d most-dimensions)) s b at (axes-read .tree) (drop next s) next (axes-read .is)
+
+        pub no-cells : {ws : List ℕ} {n p : ℕ} → Keeps s (AllCells version next ws) (ended (check (cellsRule version places) (drop next s) next)) (off n p) → {t : Tail} {vs : List ℕ} → t .axes ≡ counts.Refused n p
+            → TailIs s at ws (afterDims ts (drop at s) at) t vs
+        unfolding afterDims bind
+        no-cells k h =
+            let k′ = rw places-is at (kept-off k) in
+            rw (by-counts, axes-read .is, k′) (tail-off h)
+
+        pub with-cells : {ws : List ℕ} {q m : ℕ} {vs : List ℕ} → Keeps s (AllCells version next ws) (ended (check (cellsRule version places) (drop next s) next)) (on q (m, vs)) → {t : Tail}
+            → t .axes ≡ counts.Of (x .layers) (x .rows) (x .columns) q → t .cells ≡ m → t .order ≡ x .order → TailIs s at ws (afterDims ts (drop at s) at) t vs
+        unfolding afterDims bind
+        with-cells {ws} {q} {m} {vs} k₀ {t} h₁ h₂ h₃ =
+            let k = kept-on k₀ in
+            let c = k .tree in
+            let is = ended-got (check (cellsRule version places) (drop next s) next) c (drop q s) q (k .is) .0 in
+            let f = found-by (cellsRule version places) s b next c (drop q s) q is in
+            let v = f .valid in
+            let n-is : length (cellsOf version c) ≡ c .0 = v .2 .0 in
+            let kept-all : Kept-tail s at ws (axes-read .tree) c (x .layers) (x .rows) (x .columns) t vs = record {
+              on-layers = axes-read .keeps .layers;
+              on-rows = axes-read .keeps .rows;
+              on-columns = axes-read .keeps .columns;
+              order = h₃ ∙ axes-read .keeps .order;
+              few-entries = axes-read .keeps .few;
+              count = h₂ ∙ k .keeps .count;
+              stored = k .keeps .stored ∙ ap (λ (a : ℕ). sets ws 0 (rowsWords (size (Cell version)) (cellWords version) (a + 4) (cellsOf version c))) (axes-found .place);
+              few = few-cells c v;
+              bytes = many-bytes c v f (stays-inside axes-found inside);
+            } in
+            let is′ : ended (check (cellsRule version (placesOf version ts)) (drop next s) next) ≡ got c (drop q s) q = ap (λ (n : ℕ). ended (check (cellsRule version n) (drop next s) next)) (sym places-is) ∙ k .is in
+            rw (by-counts, axes-read .is, is′) (tail-on (x .layers) (x .rows) (x .columns) q h₁ kept-all)
+
+  sizes-entries : (used at : ℕ) (ts : List (Tree (Dimension version))) (R : List ℕ)
+      → sizesOf (length ts) (dimsEntries version used at ts ++ R) ≡ map (λ d. length (dimLeaves version d)) ts
+  unfolding sizesOf dimsEntries dimEntry
+  sizes-entries used at [] R = refl
+  sizes-entries used at (t ∷ ts) R =
+      ap (λ (l : List ℕ). length (dimLeaves version t) ∷ l) (sizes-entries (used + (dimNodes version) t) (at + size (Dimension version) t) ts R)
+
+  sizes-there : (at : ℕ) (ts : List (Tree (Dimension version))) → length ts ≤ most-dimensions
+      → sizes (sets (replicate dimension-area 0) 0 (dimsEntries version 0 at ts)) 0 (length ts) ≡ map (λ d. length (dimLeaves version d)) ts
+  sizes-there at ts h =
+      let W = dimsEntries version 0 at ts in
+      let fit : 0 + length W ≤ length (replicate {A = ℕ} dimension-area 0) = rw length-replicate (omega (arith, (width-entries version) 0 at ts)) in
+      sizes-drop (sets (replicate dimension-area 0) 0 W) (length ts) 0
+      ∙ rw (sets-eq W (replicate dimension-area 0) 0 fit) (sizes-entries 0 at ts (drop (0 + length W) (replicate dimension-area 0)))
+
+  in-sections : (s : List ℕ) → length s ≤ member-bytes → {at : ℕ} (h : Bound s version at)
+      → checked s ≡ bind (read (Front version) (drop at s) at) (λ f s₁ at₁. bind (check (dimensionsRule version) s₁ at₁) (λ d s₂ at₂. bind (afterDims (d .1) s₂ at₂) (λ x s₃ at₃. got (h .start, (version, (((f, d), x .0), x .1))) s₃ at₃)))
+  unfolding checked bodyRule check afterDims pick bind
+  in-sections s l {at} h =
+      rw (le-leb (length s) member-bytes l, h .is)
+      (simp bind-assoc
+      (ended-after (read (Front version) (drop at s) at) _ _ (λ f s₁ at₁. ended-after (check (dimensionsRule version) s₁ at₁) _ _ (λ d s₂ at₂. ended-after (check (axesRule version (d .1)) s₂ at₂) _ _ (λ a s₃ at₃.
+      ended-bind (check (cellsRule version (placesOf version (d .1))) s₃ at₃) (λ c. (h .start, (version, (((f, d), a), c)))))))))
+
+  module _ (s : List ℕ) (b : Bytes s) (ns cs : List ℕ) (room : ReadyLists s ns cs) {st : Step} {from : ℕ} (hd : Bound s version from) (fr : Reads (Front version) s (Next from) st) where
+    pub no-front : {n p : ℕ} → st ≡ Refused n p → checked s ≡ no n p
+    unfolding bind
+    no-front e = rw (in-sections s (room .short) hd, read-off fr e)
+
+    module _ {at : ℕ} (e : st ≡ Next at) where
+      start : Read (Front version) s from at
+      start = read-on b fr e
+
+      abbrev Dimensioned : Out Kept → Type 0
+      Dimensioned = Keeps s (AllDims version at ns (replicate dimension-area 0)) (within node-records s (length ns) (check (dimensionsRule version) (drop at s) at))
+
+      pub no-dims : {n p : ℕ} → Dimensioned (off n p) → checked s ≡ no n p
+      unfolding bind
+      no-dims k =
+          let k′ = rw (is-within node-records s (length ns) (check (dimensionsRule version) (drop at s) at) (room .short) (room .for-nodes)) at k in
+          rw (in-sections s (room .short) hd, start .is, kept-off k′)
+
+      module _ {next d used : ℕ} {ms es : List ℕ} (k : Dimensioned (on next (kept d used ms es))) where
+        dims : Reached s (AllDims version at ns (replicate dimension-area 0)) (check (dimensionsRule version) (drop at s) at) next (kept d used ms es)
+        dims = kept-on (rw (is-within node-records s (length ns) (check (dimensionsRule version) (drop at s) at) (room .short) (room .for-nodes)) at k)
+
+        pub same-length : length ms ≡ length ns
+        same-length = ap length (dims .keeps .words) ∙ length-sets ns 0 (dimsWords version 0 0 (at + 4) (dimsOf version (dims .tree)))
+
+        ts : List (Tree (Dimension version))
+        ts = dimsOf version (dims .tree)
+
+        there : Found (Dimensions version) s at (dims .tree) (drop next s) next
+        there = found-by (dimensionsRule version) s b at (dims .tree) (drop next s) next (dims .is)
+
+        few-dims : length ts ≤ most-dimensions
+        unfolding passes ts
+        few-dims = omega (arith, there .valid .2 .0, leb-true (dims .tree .0) most-dimensions (there .valid .1))
+
+        inside : next ≤ length s
+        inside = stays-inside there (stays-inside (start .there) (hd .inside))
+
+        tail-of : {t : Tail} {vs : List ℕ} → TailRead s next d es cs t vs → TailIs s next cs (afterDims ts (drop next s) next) t vs
+        unfolding ts
+        tail-of h =
+            let n-is = dims .keeps .number in
+            h ts few-dims n-is (ap (λ (l : List ℕ). sizes l 0 d) (dims .keeps .entries) ∙ ap (λ (n : ℕ). sizes (sets (replicate dimension-area 0) 0 (dimsEntries version 0 (at + 4) ts)) 0 n) n-is ∙ sizes-there (at + 4) ts few-dims) inside
+
+        pub no-tail : {t : Tail} {vs : List ℕ} → TailRead s next d es cs t vs → {n p : ℕ} → t .axes ≡ counts.Refused n p → checked s ≡ no n p
+        unfolding bind ts
+        no-tail h {n} {p} e₁ = go (tail-of h) refl e₁
+          where
+            go : {y : Got (Tree Axes × Tree (Cells version))} {t : Tail} {vs : List ℕ} → TailIs s next cs y t vs → afterDims ts (drop next s) next ≡ y → t .axes ≡ counts.Refused n p → checked s ≡ no n p
+            go (tail-on l r c q x y) f g = absurd (let z : _≡_ {A = ℕ} 0 1 = cc in omega arith)
+            go (tail-off {n = m} {p = q} x) f g =
+                let m-is : m ≡ n = cc in
+                let q-is : q ≡ p = cc in
+                rw (in-sections s (room .short) hd, start .is, dims .is, f, m-is, q-is)
+
+        pub with-tail : {t : Tail} {vs : List ℕ} → TailRead s next d es cs t vs → {l r c q : ℕ} → t .axes ≡ counts.Of l r c q → Told s (answered d used t es l r c) ms vs
+        unfolding bind ts zeros accepted
+        with-tail h {l} {r} {c} {q} e₁ = go (tail-of h) refl e₁
+          where
+            go : {y : Got (Tree Axes × Tree (Cells version))} {t : Tail} {vs : List ℕ} → TailIs s next cs y t vs → afterDims ts (drop next s) next ≡ y → t .axes ≡ counts.Of l r c q
+                → Told s (answered d used t es l r c) ms vs
+            go (tail-on {a = a} {c = x} {r = rest} {p = p} {t = t} {vs = vs} l′ r′ c′ q′ o k) f g =
+                let l-is : l′ ≡ l = cc in
+                let r-is : r′ ≡ r = cc in
+                let c-is : c′ ≡ c = cc in
+                let tree : Tree Member = (hd .start, (version, (((start .tree, dims .tree), a), x))) in
+                let at-is : at ≡ body-at + size (Front version) (start .tree) = omega (arith, start .there .place, hd .place) in
+                let cells-at : next + size Axes a + 4 ≡ cellsStart tree = omega (arith, cells-start tree, at-is, there .place) in
+                let d-is = dims .keeps .number in
+                let used-is = dims .keeps .count in
+                let few = few-dims in
+                let used-few = dims .keeps .few in
+                let all = width-entries version 0 (at + 4) ts in
+                let bytes = dims .keeps .bytes in
+                let more = inside in
+                let entries-is : es ≡ dimensionEntries tree ++ zeros (dimension-area - length (dimensionEntries tree)) =
+                dims .keeps .entries ∙ in-front dimension-area (dimsEntries version 0 (at + 4) ts) (omega (arith, all))
+                ∙ ap (λ (n : ℕ). (dimsEntries version) 0 (n + 4) ts ++ zeros (dimension-area - length (dimsEntries version 0 (n + 4) ts))) at-is in
+                let order-is : t .order ≡ order tree ++ zeros (most-dimensions - length (order tree)) =
+                k .order ∙ in-front most-dimensions (map entryIndex (axisEntries a)) (omega (arith, length-map (axisEntries a) entryIndex, k .few-entries)) in
+                let node-fit : node-words * nodes tree ≤ length ns = node-room s (length ns) (room .for-nodes) (nodes tree) (omega arith) (omega arith) in
+                let cell-fit : cell-words * length (cells tree) ≤ length cs = cell-room s (length cs) (room .for-cells) (length (cells tree)) (k .few) (k .bytes) in
+                record {
+                  tree = tree;
+                  rest = rest;
+                  place = p;
+                  is = rw (in-sections s (room .short) hd, start .is, dims .is, f);
+                  answer =
+                      same-answer (word-same d (omega arith) ∙ d-is) (word-same used (omega arith) ∙ used-is) (word-same (t .cells) (omega (arith, k .count, k .few)) ∙ k .count) entries-is
+                      (sym l-is ∙ k .on-layers) (sym r-is ∙ k .on-rows) (sym c-is ∙ k .on-columns) order-is;
+                  nodes-stored =
+                      ap (take (node-words * nodes tree)) (dims .keeps .words)
+                      ∙ taken ns (dimsWords version 0 0 (at + 4) ts) (node-words * nodes tree) (room .clear-nodes) (width-dims version 0 0 (at + 4) ts) node-fit
+                      ∙ ap (λ (n : ℕ). (dimsWords version) 0 0 (n + 4) ts) at-is;
+                  cells-stored =
+                      ap (take (cell-words * length (cells tree))) (k .stored)
+                      ∙ taken cs (rowsWords (size (Cell version)) (cellWords version) (next + size Axes a + 4) (cellsOf version x)) (cell-words * length (cells tree)) (room .clear-cells) (width-rows cell-words (size (Cell version)) (cellWords version) (λ _ _. refl) (next + size Axes a + 4) (cellsOf version x)) cell-fit
+                      ∙ ap (λ (n : ℕ). rowsWords (size (Cell version)) (cellWords version) n (cellsOf version x)) cells-at;
+                  few-nodes = omega arith;
+                  few-cells = k .few;
+                  node-room = omega (arith, node-fit, ap length (dims .keeps .words), length-sets ns 0 (dimsWords version 0 0 (at + 4) ts));
+                  cell-room = omega (arith, cell-fit, ap length (k .stored), length-sets cs 0 (rowsWords (size (Cell version)) (cellWords version) (next + size Axes a + 4) (cellsOf version x)));
+                }
+            go (tail-off x) f g = absurd (let z : _≡_ {A = ℕ} 0 1 = cc in omega arith)

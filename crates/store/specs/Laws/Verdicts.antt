@@ -19,13 +19,13 @@ use Rattle.store.specs.Unwritable.{textLength, Inside, Outside}
 -- a number
 pub data NumberCase (test : Test) (n : ℕ) : ℕ → Type 0 where
   number-good : passes test n ≡ true → NumberCase test n 0
-  number-bad : passes test n ≡ false → eqb (refusal test) 0 ≡ false → NumberCase test n (refusal test)
+  number-bad : passes test n ≡ false → eqb (refusal test n) 0 ≡ false → NumberCase test n (refusal test n)
 
 pub number-case : (test : Test) (n : ℕ) → NumberCase test n (verdict test n)
 unfolding verdict pick
 number-case test n = go (passes test n) refl
   where
-    go : (b : Bool) → passes test n ≡ b → NumberCase test n (pick b 0 (refusal test))
+    go : (b : Bool) → passes test n ≡ b → NumberCase test n (pick b 0 (refusal test n))
     go true e = number-good e
     go false e = number-bad e (broken test n e)
 

@@ -38,36 +38,36 @@ abbrev category-below : ℕ → In 2 category-kinds.ps
 category-below t = and 2 category-kinds.ps (falls 2 category-kinds.ps _<_ μ-category t) category.Pre
 
 abbrev categories-Inv-loop : categories-lts.InvT-loop
-categories-Inv-loop s at depth dimension parent count used nodes₀ at₀ used₀ i₀ nodes at' used' i =
-    (length nodes ≡ length nodes₀) × Walking depth dimension parent s count at used nodes₀ i at' used' nodes
+categories-Inv-loop s at depth dimension parent count used nodes₀ version at₀ used₀ i₀ nodes at' used' i =
+    (length nodes ≡ length nodes₀) × Walking version depth dimension parent s count at used nodes₀ i at' used' nodes
 
 abbrev categories-μ-loop : categories-lts.MeasureT-loop
-categories-μ-loop s at depth dimension parent count used nodes₀ at₀ used₀ i₀ nodes at' used' i = count - i
+categories-μ-loop s at depth dimension parent count used nodes₀ version at₀ used₀ i₀ nodes at' used' i = count - i
 
 pub +categories+category-spec : {M : Type 1} → statement M
 +categories+category-spec =
     close μ-categories μ-category
     (λ t.
     categories-lts.spec (category-below t, category.Post) (categories-at t) categories.Post categories-Inv-loop categories-μ-loop
-    (λ c. (refl, walking _ _ _ _ _ _ _ _ (omega arith)))
+    (λ c. (refl, (walking _) _ _ _ _ _ _ _ _ (omega arith)))
     (λ c κs. (omega arith, (omega arith, c .before .before .loop .inv .1 .few)))
     (λ c. search needs) (λ c. omega arith)
     (λ c.
     let l = c .before .before .before .before .before .before .before .before in
-    walks-off _ _ _ _ _ _ _ _ (l .loop .inv .1) (omega arith) (rw (c .before .r .given .1) at (c .before .before .before .before .before .category .ensures)))
+    walks-off _ _ _ _ _ _ _ _ _ (l .loop .inv .1) (omega arith) (rw (c .before .r .given .1) at (c .before .before .before .before .before .category .ensures)))
     (λ c. search needs) (λ c. omega arith) (λ c. omega arith)
     (λ c.
     let l = c .before .before .before .before .before .before .before .before in
-    (omega arith, walks-on _ _ _ _ _ _ _ _ (l .loop .inv .1) (omega arith) (rw (c .before .a .given .1) at (c .before .before .before .before .before .category .ensures))))
+    (omega arith, walks-on _ _ _ _ _ _ _ _ _ (l .loop .inv .1) (omega arith) (rw (c .before .a .given .1) at (c .before .before .before .before .before .category .ensures))))
     (λ c. omega arith)
-    (λ c. walks-to _ _ _ _ _ _ _ _ (c .before .loop .inv .1) (omega arith)))
+    (λ c. walks-to _ _ _ _ _ _ _ _ _ (c .before .loop .inv .1) (omega arith)))
     (λ t.
     category-lts.spec (head-reads.Asked, head-reads.Learnt, categories-below t, categories.Post, length-reads.Asked, length-reads.Learnt, store-node-reads.Asked, store-node-reads.Learnt) (category-at t) category.Post
-    (λ c. rw (c .if1 .taken) (too-deep 0 _ _ _ _ _ _))
+    (λ c. rw (c .if1 .taken) (too-deep _ 0 _ _ _ _ _ _))
     (λ c.
     let a = c .before .before .before .before .args in
     let e : a .depth ≡ suc (a .depth - 1) = omega arith in
-    rw e (one-too-many (a .depth - 1) (a .s .now) (a .dimension) (a .parent) (a .at) (a .used) (a .nodes .now) (c .if2 .taken)))
+    rw e (one-too-many _ (a .depth - 1) (a .s .now) (a .dimension) (a .parent) (a .at) (a .used) (a .nodes .now) (c .if2 .taken)))
     (λ c κs. omega arith) (λ c. search needs) (λ c. search needs)
     (λ c. omega arith) (λ c. omega arith) (λ c. omega arith)
     (λ c κs. (omega arith, (omega arith, omega arith)))
@@ -76,7 +76,7 @@ pub +categories+category-spec : {M : Type 1} → statement M
     let h = c .before .before .before in
     let a = h .before .before .before .before .before .args in
     let e : a .depth ≡ suc (a .depth - 1) = omega arith in
-    rw e (no-head (a .depth - 1) (a .s .now) (a .dimension) (a .parent) (a .at) (a .used) (a .nodes .now) (h .before .if2 .left) (head-off (h .head .ensures) (c .before .r .given .1))))
+    rw e (no-head _ (a .depth - 1) (a .s .now) (a .dimension) (a .parent) (a .at) (a .used) (a .nodes .now) (h .before .if2 .left) (head-off _ (h .head .ensures) (c .before .r .given .1))))
     (λ c. omega arith)
     (λ c.
     let k = c .before .before .before .before .before in
@@ -85,7 +85,7 @@ pub +categories+category-spec : {M : Type 1} → statement M
     let a = h .before .before .before .before .before .args in
     let e : a .depth ≡ suc (a .depth - 1) = omega arith in
     let small : length (a .s .now) < 2 ^ 32 = omega (arith, h .before .before .before .before .before .pre .1 .0) in
-    rw e (with-head (a .depth - 1) (a .s .now) (a .dimension) (a .parent) (a .at) (a .used) (a .nodes .now) small (h .before .if2 .left) (rw (f .kind .given .1) at (h .head .ensures)) refl
+    rw e (with-head _ (a .depth - 1) (a .s .now) (a .dimension) (a .parent) (a .at) (a .used) (a .nodes .now) small (h .before .if2 .left) (rw (f .kind .given .1) at (h .head .ensures)) refl
     (rw (c .before .r2 .given .1) at (k .categories .ensures)) not-stored))
     (λ c. omega arith)
     (λ c.
@@ -98,5 +98,5 @@ pub +categories+category-spec : {M : Type 1} → statement M
     let a = h .before .before .before .before .before .args in
     let e : a .depth ≡ suc (a .depth - 1) = omega arith in
     let small : length (a .s .now) < 2 ^ 32 = omega (arith, h .before .before .before .before .before .pre .1 .0) in
-    rw e (with-head (a .depth - 1) (a .s .now) (a .dimension) (a .parent) (a .at) (a .used) (a .nodes .now) small (h .before .if2 .left) (rw (f .kind .given .1) at (h .head .ensures)) refl
+    rw e (with-head _ (a .depth - 1) (a .s .now) (a .dimension) (a .parent) (a .at) (a .used) (a .nodes .now) small (h .before .if2 .left) (rw (f .kind .given .1) at (h .head .ensures)) refl
     (rw (p .p .given .1) at (k .categories .ensures)) (stored (rw (n .length .ensures) at (q .store-node .ensures))))))

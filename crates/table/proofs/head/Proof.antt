@@ -16,7 +16,7 @@ head-spec =
     let k = f .before .before in
     let v = k .before .before in
     let a = f .fixed .ensures in
-    rw (c .node .ensures) (leaf-head (bytes-of _ (v .before .shared-slice-known .given)) (omega arith) (v .value .ensures) (k .kind-field .ensures) _
+    rw (c .node .ensures) (leaf-head _ (bytes-of _ (v .before .shared-slice-known .given)) (omega arith) (v .value .ensures) (k .kind-field .ensures) _
     (k .before .peek .ensures) (f .before .if1 .taken) a (y .before .peek2 .ensures) (c .before .fixed2 .ensures ◂ y .any .ensures .0 ◂ a)))
     (λ c.
     let p = c .before .before in
@@ -25,5 +25,5 @@ head-spec =
     let k = e .before in
     let v = k .before .before in
     let a = f .fixed3 .ensures ◂ f .before .any2 .ensures .0 in
-    rw (c .node2 .ensures) (group-head (bytes-of _ (v .before .shared-slice-known .given)) (omega arith) (v .value .ensures) (k .kind-field .ensures) _
+    rw (c .node2 .ensures) (group-head _ (bytes-of _ (v .before .shared-slice-known .given)) (omega arith) (v .value .ensures) (k .kind-field .ensures) _
     (k .before .peek .ensures) (e .if1 .left) a (p .peek3 .ensures) (c .before .any3 .ensures .0 ◂ a))))

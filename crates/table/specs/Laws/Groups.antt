@@ -49,39 +49,6 @@ module _ (ws : List ℕ) (par : ℕ) {A : Type 0} (count size : A → ℕ) (word
       each used at t (others ++ r) h′ e
       (all-groups (used + count t) (at + size t) ts r (words-after ws used (count t) (words used at t) (others ++ r) h′ (width used at t)) e (rw z at g))
 
-tree-groups : (ws : List ℕ) (d dim par used at : ℕ) (t : Tree (CategoryIn d)) (r : List ℕ) → drop (node-words * used) ws ≡ treeWords d dim par used at t ++ r
-    → (e : ℕ) → Groups ws par (used + nodes d t) e → Groups ws par used e
-unfolding treeWords nodes
-tree-groups ws zero dim par used at t r h e g = let z : used + 0 ≡ used = omega arith in rw z at g
-tree-groups ws (suc d) dim par used at t r h e g =
-    let ts = children d t in
-    let own = nodeWords dim par at (1 + sum (nodes d) ts) (front d t) in
-    let others = wordsAll (nodes d) (size (CategoryIn d)) (treeWords d dim used) (used + 1) (at + size Head (front d t)) ts in
-    let h′ : drop (node-words * used) ws ≡ own ++ (others ++ r) = h ∙ append-assoc own others r in
-    let z : used + 1 + sum (nodes d) ts ≡ used + (1 + sum (nodes d) ts) = omega arith in
-    one-group (word-there ws used h′ node-parent) (ap (λ (n : ℕ). used + n) (word-there ws used h′ node-size))
-    (all-groups ws used (nodes d) (size (CategoryIn d)) (treeWords d dim used) (width-tree d dim used) (tree-groups ws d dim used)
-    (used + 1) (at + size Head (front d t)) ts r (words-after ws used 1 own (others ++ r) h′ refl) _ (rw z no-groups))
-    g
-
-dim-groups : (ws : List ℕ) (i used at : ℕ) (t : Tree Dimension) (r : List ℕ) → drop (node-words * used) ws ≡ dimWords i used at t ++ r
-    → (e : ℕ) → Groups ws no-parent (used + dimNodes t) e → Groups ws no-parent used e
-unfolding dimWords dimNodes
-dim-groups ws i used at t =
-    all-groups ws no-parent (nodes category-depth) (size Category) (treeWords category-depth i no-parent) (width-tree category-depth i no-parent) (tree-groups ws category-depth i no-parent)
-    used (at + size (Value ▸ DimProperties) (dimOwn t) + 4) (dimCategories t)
-
--- dimensions make no difference: the categories of each have no parent
-pub dims-groups : (ws : List ℕ) (i used at : ℕ) (ts : List (Tree Dimension)) (r : List ℕ) → drop (node-words * used) ws ≡ dimsWords i used at ts ++ r → Groups ws no-parent used (used + sum dimNodes ts)
-unfolding dimsWords sum
-dims-groups ws i used at [] r h = let z : used + 0 ≡ used = omega arith in rw z no-groups
-dims-groups ws i used at (t ∷ ts) r h =
-    let others = dimsWords (i + 1) (used + dimNodes t) (at + size Dimension t) ts in
-    let h′ : drop (node-words * used) ws ≡ dimWords i used at t ++ (others ++ r) = h ∙ append-assoc (dimWords i used at t) others r in
-    let z : used + (dimNodes t + sum dimNodes ts) ≡ used + dimNodes t + sum dimNodes ts = omega arith in
-    dim-groups ws i used at t (others ++ r) h′ _
-    (rw z (dims-groups ws (i + 1) (used + dimNodes t) (at + size Dimension t) ts r (words-after ws used (dimNodes t) (dimWords i used at t) (others ++ r) h′ (width-dim i used at t))))
-
 -- ---- 2. what is below a node
 
 ordered : {ws : List ℕ} {par a e : ℕ} → Groups ws par a e → a ≤ e
@@ -184,3 +151,37 @@ module _ (ws : List ℕ) (count : ℕ) (all : Groups ws no-parent 0 count) (few 
   -- and so are the nodes without a parent
   pub next-top : (i : ℕ) → parentOf ws i ≡ no-parent → i + sizeOf ws i < count → parentOf ws (i + sizeOf ws i) ≡ no-parent
   next-top i e l = next-parent all (inr few) i (omega arith) l e
+
+module _ (version : ℕ) where
+  tree-groups : (ws : List ℕ) (d dim par used at : ℕ) (t : Tree (CategoryIn version d)) (r : List ℕ) → drop (node-words * used) ws ≡ treeWords version d dim par used at t ++ r
+      → (e : ℕ) → Groups ws par (used + (nodes version) d t) e → Groups ws par used e
+  unfolding treeWords nodes
+  tree-groups ws zero dim par used at t r h e g = let z : used + 0 ≡ used = omega arith in rw z at g
+  tree-groups ws (suc d) dim par used at t r h e g =
+      let ts = children version d t in
+      let own = nodeWords version dim par at (1 + sum (nodes version d) ts) (front version d t) in
+      let others = wordsAll (nodes version d) (size (CategoryIn version d)) (treeWords version d dim used) (used + 1) (at + size (Head version) (front version d t)) ts in
+      let h′ : drop (node-words * used) ws ≡ own ++ (others ++ r) = h ∙ append-assoc own others r in
+      let z : used + 1 + sum (nodes version d) ts ≡ used + (1 + sum (nodes version d) ts) = omega arith in
+      one-group (word-there ws used h′ node-parent) (ap (λ (n : ℕ). used + n) (word-there ws used h′ node-size))
+      (all-groups ws used (nodes version d) (size (CategoryIn version d)) (treeWords version d dim used) (width-tree version d dim used) (tree-groups ws d dim used)
+      (used + 1) (at + size (Head version) (front version d t)) ts r (words-after ws used 1 own (others ++ r) h′ refl) _ (rw z no-groups))
+      g
+
+  dim-groups : (ws : List ℕ) (i used at : ℕ) (t : Tree (Dimension version)) (r : List ℕ) → drop (node-words * used) ws ≡ dimWords version i used at t ++ r
+      → (e : ℕ) → Groups ws no-parent (used + (dimNodes version) t) e → Groups ws no-parent used e
+  unfolding dimWords dimNodes
+  dim-groups ws i used at t =
+      all-groups ws no-parent (nodes version category-depth) (size (Category version)) (treeWords version category-depth i no-parent) (width-tree version category-depth i no-parent) (tree-groups ws category-depth i no-parent)
+      used (at + size ((Value version) ▸ DimProperties) (dimOwn version t) + 4) (dimCategories version t)
+
+  -- dimensions make no difference: the categories of each have no parent
+  pub dims-groups : (ws : List ℕ) (i used at : ℕ) (ts : List (Tree (Dimension version))) (r : List ℕ) → drop (node-words * used) ws ≡ dimsWords version i used at ts ++ r → Groups ws no-parent used (used + sum (dimNodes version) ts)
+  unfolding dimsWords sum
+  dims-groups ws i used at [] r h = let z : used + 0 ≡ used = omega arith in rw z no-groups
+  dims-groups ws i used at (t ∷ ts) r h =
+      let others = dimsWords version (i + 1) (used + (dimNodes version) t) (at + size (Dimension version) t) ts in
+      let h′ : drop (node-words * used) ws ≡ dimWords version i used at t ++ (others ++ r) = h ∙ append-assoc (dimWords version i used at t) others r in
+      let z : used + (dimNodes version t + sum (dimNodes version) ts) ≡ used + (dimNodes version) t + sum (dimNodes version) ts = omega arith in
+      dim-groups ws i used at t (others ++ r) h′ _
+      (rw z (dims-groups ws (i + 1) (used + (dimNodes version) t) (at + size (Dimension version) t) ts r (words-after ws used (dimNodes version t) (dimWords version i used at t) (others ++ r) h′ (width-dim version i used at t))))

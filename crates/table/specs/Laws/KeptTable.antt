@@ -45,24 +45,6 @@ anything : {A : Type 0} (ts : List A) → All (λ _. Unit {0}) ts
 anything [] = all-none
 anything (t ∷ ts) = all-more tt (anything ts)
 
--- Nodes: a category after `used` others passes exactly when the nodes up to its end are at most `most-nodes`
-category-kept : (d used : ℕ) (t : Tree (CategoryIn d)) → Kept (categoryRule d used) t ↔ (used + nodes d t ≤ most-nodes)
-unfolding categoryRule nodes sum
-category-kept zero used t = absurd t
-category-kept (suc d) used (m, (zero, t)) = (
-  λ k. omega (arith, ltb-true used most-nodes (k .0)),
-  λ l. (lt-ltb used most-nodes (omega arith), (tt, tt)),
-)
-category-kept (suc d) used (m, (suc k, (t, (n, ts)))) =
-    let one : (done : List (Tree (CategoryIn d))) (c : Tree (CategoryIn d)) → used + 1 + sum (nodes d) done ≤ most-nodes
-    → Kept (categoryRule d (used + 1 + sum (nodes d) done)) c ↔ ((used + 1 + sum (nodes d) done + nodes d c ≤ most-nodes) × Unit {0}) =
-    λ done c _. let h = category-kept d (used + 1 + sum (nodes d) done) c in (λ k. (h .0 k, tt), λ l. h .1 (l .0)) in
-    let P : List (Tree (CategoryIn d)) → Tree (CategoryIn d) → Type 0 = λ done c. Kept (categoryRule d (used + 1 + sum (nodes d) done)) c in (
-      λ k. let l = ltb-true used most-nodes (k .0) in
-          omega (arith, few (nodes d) (λ _. Unit {0}) P (used + 1) one [] ts (omega arith) (k .1 .1 .1) .0),
-      λ l. (lt-ltb used most-nodes (omega arith), (tt, (tt, so-few (nodes d) (λ _. Unit {0}) P (used + 1) one [] ts (omega arith) (anything ts)))),
-    )
-
 -- ---- leaves
 
 indexes-joined : (xs ys : List Leaf) → indexes (xs ++ ys) ≡ indexes xs ++ indexes ys
@@ -76,63 +58,9 @@ indexes-all size f g h at [] = refl
 indexes-all size f g h at (t ∷ ts) =
     indexes-joined (f at t) (leavesAll size f (at + size t) ts) ∙ rw (h at t, indexes-all size f g h (at + size t) ts)
 
-indexes-tree : (d at : ℕ) (t : Tree (CategoryIn d)) → indexes (treeLeaves d at t) ≡ leafIndexes d t
-unfolding treeLeaves leafIndexes
-indexes-tree zero at t = refl
-indexes-tree (suc d) at (m, (zero, t)) =
-    ap (λ (l : List ℕ). leafIndex t ∷ l)
-    (indexes-all (size (CategoryIn d)) (treeLeaves d) (leafIndexes d) (indexes-tree d) (at + size Head (m, (zero, t))) [])
-indexes-tree (suc d) at (m, (suc k, (t, (n, ts)))) =
-    indexes-all (size (CategoryIn d)) (treeLeaves d) (leafIndexes d) (indexes-tree d) (at + size Head (m, (suc k, (t, (n, tt))))) ts
-
--- the leaves that are tested are the dimension's
-indexes-are : (t : Tree Dimension) → indexes (leavesOf t) ≡ dimLeaves t
-unfolding leavesOf dimLeaves
-indexes-are t = indexes-all (size Category) (treeLeaves category-depth) (leafIndexes category-depth) (indexes-tree category-depth) (size (Value ▸ DimProperties) (dimOwn t) + 4) (dimCategories t)
-
--- n of a dimension is their number
-pub leaf-count : (t : Tree Dimension) → length (leavesOf t) ≡ length (dimLeaves t)
-leaf-count t = sym (length-map (leavesOf t) (λ l. l .0)) ∙ ap length (indexes-are t)
-
 is-fine : (v : Verdict) → placeOf v ≡ none → v ≡ Fine
 is-fine Fine e = refl
 is-fine (Bad p) e = absurd (let z : _≡_ {A = ℕ} 0 1 = cc in omega arith)
-
--- Leaves: no place is wrong exactly when the n leaf indexes are 0 to n-1, once each
-leaves-once : (t : Tree Dimension) → (placeOf (firstBad (length (leavesOf t)) [] (leavesOf t)) ≡ none) ↔ LeavesOnce t
-leaves-once t =
-    let n = leaf-count t in
-    let bad = none-bad (length (leavesOf t)) (leavesOf t) in (
-      λ e. rw (indexes-are t, n) at (bad .0 (is-fine (firstBad (length (leavesOf t)) [] (leavesOf t)) e)),
-      λ o. ap placeOf (bad .1 (rw (indexes-are t, n) o)),
-    )
-
--- ---- dimensions
-
-dimension-kept : (used : ℕ) (t : Tree Dimension) → used ≤ most-nodes → Kept (dimensionRule used) t ↔ ((used + dimNodes t ≤ most-nodes) × LeavesOnce t)
-unfolding dimensionRule dimNodes sum
-dimension-kept used t l =
-    let P : List (Tree Category) → Tree Category → Type 0 = λ done c. Kept (categoryRule category-depth (used + sum (nodes category-depth) done)) c in
-    let one : (done : List (Tree Category)) (c : Tree Category) → used + sum (nodes category-depth) done ≤ most-nodes
-    → P done c ↔ ((used + sum (nodes category-depth) done + nodes category-depth c ≤ most-nodes) × Unit {0}) =
-    λ done c _. let h = category-kept category-depth (used + sum (nodes category-depth) done) c in (λ k. (h .0 k, tt), λ m. h .1 (m .0)) in (
-      λ k. (omega (arith, few (nodes category-depth) (λ _. Unit {0}) P used one [] (dimCategories t) (omega arith) (k .0 .1) .0), leaves-once t .0 (k .1)),
-      λ m. let n = m .0 in
-          ((tt, so-few (nodes category-depth) (λ _. Unit {0}) P used one [] (dimCategories t) (omega arith) (anything (dimCategories t))), leaves-once t .1 (m .1)),
-    )
-
--- Dimensions: at most `most-nodes` nodes in all, and the leaf indexes of each once each
-pub dimensions-kept : (t : Tree Dimensions) → Kept dimensionsRule t ↔ ((sum dimNodes (dimsOf t) ≤ most-nodes) × All LeavesOnce (dimsOf t))
-unfolding dimensionsRule sum
-dimensions-kept t =
-    let P : List (Tree Dimension) → Tree Dimension → Type 0 = λ done d. Kept (dimensionRule (sum dimNodes done)) d in
-    let one : (done : List (Tree Dimension)) (d : Tree Dimension) → 0 + sum dimNodes done ≤ most-nodes
-    → P done d ↔ ((0 + sum dimNodes done + dimNodes d ≤ most-nodes) × LeavesOnce d) =
-    λ done d l. let h = dimension-kept (sum dimNodes done) d (omega arith) in
-    (λ k. let m = h .0 k in (omega (arith, m .0), m .1), λ m. h .1 (omega (arith, m .0), m .1)) in (
-      λ k. let m = few dimNodes LeavesOnce P 0 one [] (dimsOf t) (omega arith) k in (omega (arith, m .0), m .1),
-      λ m. so-few dimNodes LeavesOnce P 0 one [] (dimsOf t) (omega (arith, m .0)) (m .1),
-    )
 
 -- ---- numbers that stand once each
 
@@ -204,29 +132,102 @@ three-kept d ls rs cs =
           ((l .0, r .1 (l .1)), c .1 (rw e at (k .1))),
     )
 
--- Axes: the product is at most `most-places`, the counts add up, each dimension is named once
-pub axes-kept : (ts : List (Tree Dimension)) (t : Tree Axes)
-    → Kept (axesRule ts) t
-    ↔ ((placesOf ts ≤ most-places)
-    × (axisLayers t + axisRows t + axisColumns t ≡ length ts)
-    × OnceEach (length ts) (map entryIndex (axisEntries t)))
-unfolding axesRule
-axes-kept ts t =
-    let e = t .1 .1 .1 in
-    let h = three-kept (length ts) (e .0 .0) (e .0 .1) (e .1) in (
-      λ k. (leb-true (placesOf ts) most-places (k .0), eqb-true (axisLayers t + axisRows t + axisColumns t) (length ts) (k .1 .0), h .0 (k .1 .1)),
-      λ m. (le-leb (placesOf ts) most-places (m .0), (eq-eqb (axisLayers t + axisRows t + axisColumns t) (length ts) (m .1), h .1 (m .2))),
-    )
+module _ (version : ℕ) where
+  -- Nodes: a category after `used` others passes exactly when the nodes up to its end are at most `most-nodes`
+  category-kept : (d used : ℕ) (t : Tree (CategoryIn version d)) → Kept (categoryRule version d used) t ↔ (used + (nodes version) d t ≤ most-nodes)
+  unfolding categoryRule nodes sum
+  category-kept zero used t = absurd t
+  category-kept (suc d) used (m, (zero, t)) = (
+    λ k. omega (arith, ltb-true used most-nodes (k .0)),
+    λ l. (lt-ltb used most-nodes (omega arith), (tt, tt)),
+  )
+  category-kept (suc d) used (m, (suc k, (t, (n, ts)))) =
+      let one : (done : List (Tree (CategoryIn version d))) (c : Tree (CategoryIn version d)) → used + 1 + sum (nodes version d) done ≤ most-nodes
+      → Kept (categoryRule version d (used + 1 + sum (nodes version d) done)) c ↔ ((used + 1 + sum (nodes version d) done + (nodes version) d c ≤ most-nodes) × Unit {0}) =
+      λ done c _. let h = category-kept d (used + 1 + sum (nodes version d) done) c in (λ k. (h .0 k, tt), λ l. h .1 (l .0)) in
+      let P : List (Tree (CategoryIn version d)) → Tree (CategoryIn version d) → Type 0 = λ done c. Kept (categoryRule version d (used + 1 + sum (nodes version d) done)) c in (
+        λ k. let l = ltb-true used most-nodes (k .0) in
+            omega (arith, few (nodes version d) (λ _. Unit {0}) P (used + 1) one [] ts (omega arith) (k .1 .1 .1) .0),
+        λ l. (lt-ltb used most-nodes (omega arith), (tt, (tt, so-few (nodes version d) (λ _. Unit {0}) P (used + 1) one [] ts (omega arith) (anything ts)))),
+      )
 
--- ---- cells
+  indexes-tree : (d at : ℕ) (t : Tree (CategoryIn version d)) → indexes (treeLeaves version d at t) ≡ leafIndexes version d t
+  unfolding treeLeaves leafIndexes
+  indexes-tree zero at t = refl
+  indexes-tree (suc d) at (m, (zero, t)) =
+      ap (λ (l : List ℕ). leafIndex t ∷ l)
+      (indexes-all (size (CategoryIn version d)) (treeLeaves version d) (leafIndexes version d) (indexes-tree d) (at + size (Head version) (m, (zero, t))) [])
+  indexes-tree (suc d) at (m, (suc k, (t, (n, ts)))) =
+      indexes-all (size (CategoryIn version d)) (treeLeaves version d) (leafIndexes version d) (indexes-tree d) (at + size (Head version) (m, (suc k, (t, (n, tt))))) ts
 
-cell-kept : (n : ℕ) (done : List (Tree Cell)) (t : Tree Cell) → Kept (cellRule n done) t ↔ (fresh n (map cellIndex done) (cellIndex t) ≡ true)
-unfolding cellRule
-cell-kept n done t =
-    let h = by-test (fresh n (map cellIndex done) (cellIndex t)) 0 in
-    (λ k. h .0 (k .0 .1), λ e. ((tt, h .1 e), tt))
+  -- the leaves that are tested are the dimension's
+  indexes-are : (t : Tree (Dimension version)) → indexes (leavesOf version t) ≡ dimLeaves version t
+  unfolding leavesOf dimLeaves
+  indexes-are t = indexes-all (size (Category version)) (treeLeaves version category-depth) (leafIndexes version category-depth) (indexes-tree category-depth) (size ((Value version) ▸ DimProperties) (dimOwn version t) + 4) (dimCategories version t)
 
--- Cells: each is inside the table of n places, and no index stands twice
-pub cells-kept : (n : ℕ) (t : Tree Cells) → Kept (cellsRule n) t ↔ OnceEach n (map cellIndex (cellsOf t))
-unfolding cellsRule
-cells-kept n t = once-kept (λ done c. Kept (cellRule n done) c) n cellIndex (cell-kept n) (cellsOf t)
+  -- n of a dimension is their number
+  pub leaf-count : (t : Tree (Dimension version)) → length (leavesOf version t) ≡ length (dimLeaves version t)
+  leaf-count t = sym (length-map (leavesOf version t) (λ l. l .0)) ∙ ap length (indexes-are t)
+
+  -- Leaves: no place is wrong exactly when the n leaf indexes are 0 to n-1, once each
+  leaves-once : (t : Tree (Dimension version)) → (placeOf (firstBad (length (leavesOf version t)) [] (leavesOf version t)) ≡ none) ↔ (LeavesOnce version) t
+  leaves-once t =
+      let n = leaf-count t in
+      let bad = none-bad (length (leavesOf version t)) (leavesOf version t) in (
+        λ e. rw (indexes-are t, n) at (bad .0 (is-fine (firstBad (length (leavesOf version t)) [] (leavesOf version t)) e)),
+        λ o. ap placeOf (bad .1 (rw (indexes-are t, n) o)),
+      )
+
+  -- ---- dimensions
+
+  dimension-kept : (used : ℕ) (t : Tree (Dimension version)) → used ≤ most-nodes → Kept (dimensionRule version used) t ↔ ((used + (dimNodes version) t ≤ most-nodes) × LeavesOnce version t)
+  unfolding dimensionRule dimNodes sum
+  dimension-kept used t l =
+      let P : List (Tree (Category version)) → Tree (Category version) → Type 0 = λ done c. Kept (categoryRule version category-depth (used + sum (nodes version category-depth) done)) c in
+      let one : (done : List (Tree (Category version))) (c : Tree (Category version)) → used + sum (nodes version category-depth) done ≤ most-nodes
+      → P done c ↔ ((used + sum (nodes version category-depth) done + (nodes version) category-depth c ≤ most-nodes) × Unit {0}) =
+      λ done c _. let h = category-kept category-depth (used + sum (nodes version category-depth) done) c in (λ k. (h .0 k, tt), λ m. h .1 (m .0)) in (
+        λ k. (omega (arith, few (nodes version category-depth) (λ _. Unit {0}) P used one [] (dimCategories version t) (omega arith) (k .0 .1) .0), leaves-once t .0 (k .1)),
+        λ m. let n = m .0 in
+            ((tt, so-few (nodes version category-depth) (λ _. Unit {0}) P used one [] (dimCategories version t) (omega arith) (anything (dimCategories version t))), leaves-once t .1 (m .1)),
+      )
+
+  -- Dimensions: at most `most-nodes` nodes in all, and the leaf indexes of each once each
+  pub dimensions-kept : (t : Tree (Dimensions version)) → Kept (dimensionsRule version) t ↔ ((sum (dimNodes version) (dimsOf version t) ≤ most-nodes) × All (LeavesOnce version) (dimsOf version t))
+  unfolding dimensionsRule sum
+  dimensions-kept t =
+      let P : List (Tree (Dimension version)) → Tree (Dimension version) → Type 0 = λ done d. Kept (dimensionRule version (sum (dimNodes version) done)) d in
+      let one : (done : List (Tree (Dimension version))) (d : Tree (Dimension version)) → 0 + sum (dimNodes version) done ≤ most-nodes
+      → P done d ↔ ((0 + sum (dimNodes version) done + (dimNodes version) d ≤ most-nodes) × LeavesOnce version d) =
+      λ done d l. let h = dimension-kept (sum (dimNodes version) done) d (omega arith) in
+      (λ k. let m = h .0 k in (omega (arith, m .0), m .1), λ m. h .1 (omega (arith, m .0), m .1)) in (
+        λ k. let m = few (dimNodes version) (LeavesOnce version) P 0 one [] (dimsOf version t) (omega arith) k in (omega (arith, m .0), m .1),
+        λ m. so-few (dimNodes version) (LeavesOnce version) P 0 one [] (dimsOf version t) (omega (arith, m .0)) (m .1),
+      )
+
+  -- Axes: the product is at most `most-places`, the counts add up, each dimension is named once
+  pub axes-kept : (ts : List (Tree (Dimension version))) (t : Tree Axes)
+      → Kept (axesRule version ts) t
+      ↔ ((placesOf version ts ≤ most-places)
+      × (axisLayers t + axisRows t + axisColumns t ≡ length ts)
+      × OnceEach (length ts) (map entryIndex (axisEntries t)))
+  unfolding axesRule
+  axes-kept ts t =
+      let e = t .1 .1 .1 in
+      let h = three-kept (length ts) (e .0 .0) (e .0 .1) (e .1) in (
+        λ k. (leb-true (placesOf version ts) most-places (k .0), eqb-true (axisLayers t + axisRows t + axisColumns t) (length ts) (k .1 .0), h .0 (k .1 .1)),
+        λ m. (le-leb (placesOf version ts) most-places (m .0), (eq-eqb (axisLayers t + axisRows t + axisColumns t) (length ts) (m .1), h .1 (m .2))),
+      )
+
+  -- ---- cells
+
+  cell-kept : (n : ℕ) (done : List (Tree (Cell version))) (t : Tree (Cell version)) → Kept (cellRule version n done) t ↔ (fresh n (map (cellIndex version) done) (cellIndex version t) ≡ true)
+  unfolding cellRule
+  cell-kept n done t =
+      let h = by-test (fresh n (map (cellIndex version) done) (cellIndex version t)) 0 in
+      (λ k. h .0 (k .0 .1), λ e. ((tt, h .1 e), tt))
+
+  -- Cells: each is inside the table of n places, and no index stands twice
+  pub cells-kept : (n : ℕ) (t : Tree (Cells version)) → Kept (cellsRule version n) t ↔ OnceEach n (map (cellIndex version) (cellsOf version t))
+  unfolding cellsRule
+  cells-kept n t = once-kept (λ done c. Kept (cellRule version n done) c) n (cellIndex version) (cell-kept n) (cellsOf version t)

@@ -8,7 +8,7 @@ use lib.ListN.{length, length-append}
 use Rattle.layout.specs.Layout.{Tree, spell, All, all-none, all-more, Valid, size}
 use Rattle.layout.specs.Laws.{digits-length}
 use Rattle.layout.specs.Steps.Least.{least, least-spelt}
-use Rattle.value.specs.Value.{Value, ValueIn}
+use Rattle.value.specs.Value.{Value, ValueIn, CellValue}
 use Rattle.table.specs.Table.{Leaf, CategoryIn, Cell}
 use Rattle.table.specs.Records.{sum, nodes}
 use Rattle.table.specs.Laws.Lengths.{size-all}
@@ -29,36 +29,37 @@ unfolding sum
 sum-least c f h each all-none = omega (arith, mul-zero c)
 sum-least c f h each (all-more {x} {xs} p ps) = rw (mul-add c (f x) (sum f xs)) (omega (arith, each x p, sum-least c f h each ps))
 
--- ---- categories
+module _ (version : ℕ) where
+  -- ---- categories
 
--- a Value takes a byte or more
-value-bytes : (t : Tree Value) → Valid Value t → 1 ≤ size Value t
-unfolding Value ValueIn least size
-value-bytes t v = least-spelt Value t v
+  -- a Value takes a byte or more
+  value-bytes : (t : Tree (Value version)) → Valid (Value version) t → 1 ≤ size (Value version) t
+  unfolding Value ValueIn least size
+  value-bytes t v = least-spelt (Value version) t v
 
-pub category-bytes : (d : ℕ) (t : Tree (CategoryIn d)) → Valid (CategoryIn d) t → least-category * nodes d t ≤ size (CategoryIn d) t
-unfolding nodes sum least size spell
-category-bytes zero t v = absurd v
-category-bytes (suc d) (m, (zero, t)) v =
-    let name = value-bytes m (v .0) in
-    let rest : 12 ≤ size Leaf t = least-spelt Leaf t (v .1 .2) in
-    simp (length-append, digits-length) (omega arith)
-category-bytes (suc d) (m, (suc k, (t, (n, ts)))) v =
-    let name = value-bytes m (v .0) in
-    let rest = sum-least least-category (nodes d) (size (CategoryIn d)) (category-bytes d) (v .1 .2 .1 .2 .1) in
-    let count : nodes (suc d) (m, (suc k, (t, (n, ts)))) ≡ 1 + sum (nodes d) ts = refl in
-    rw count (simp (length-append, digits-length) (omega (arith, size-all (CategoryIn d) ts)))
+  pub category-bytes : (d : ℕ) (t : Tree (CategoryIn version d)) → Valid (CategoryIn version d) t → least-category * (nodes version) d t ≤ size (CategoryIn version d) t
+  unfolding nodes sum least size spell
+  category-bytes zero t v = absurd v
+  category-bytes (suc d) (m, (zero, t)) v =
+      let name = value-bytes m (v .0) in
+      let rest : 12 ≤ size Leaf t = least-spelt Leaf t (v .1 .2) in
+      simp (length-append, digits-length) (omega arith)
+  category-bytes (suc d) (m, (suc k, (t, (n, ts)))) v =
+      let name = value-bytes m (v .0) in
+      let rest = sum-least least-category (nodes version d) (size (CategoryIn version d)) (category-bytes d) (v .1 .2 .1 .2 .1) in
+      let count : (nodes version) (suc d) (m, (suc k, (t, (n, ts)))) ≡ 1 + sum (nodes version d) ts = refl in
+      rw count (simp (length-append, digits-length) (omega (arith, size-all (CategoryIn version d) ts)))
 
-pub categories-bytes : (d : ℕ) {ts : List (Tree (CategoryIn d))} → All (Valid (CategoryIn d)) ts → least-category * sum (nodes d) ts ≤ sum (size (CategoryIn d)) ts
-categories-bytes d vs = sum-least least-category (nodes d) (size (CategoryIn d)) (category-bytes d) vs
+  pub categories-bytes : (d : ℕ) {ts : List (Tree (CategoryIn version d))} → All (Valid (CategoryIn version d)) ts → least-category * sum (nodes version d) ts ≤ sum (size (CategoryIn version d)) ts
+  categories-bytes d vs = sum-least least-category (nodes version d) (size (CategoryIn version d)) (category-bytes d) vs
 
--- ---- cells
+  -- ---- cells
 
-pub cell-bytes : (t : Tree Cell) → Valid Cell t → least-cell ≤ size Cell t
-unfolding least Value ValueIn size
-cell-bytes t v = least-spelt Cell t v
+  pub cell-bytes : (t : Tree (Cell version)) → Valid (Cell version) t → least-cell ≤ size (Cell version) t
+  unfolding least CellValue size
+  cell-bytes t v = least-spelt (Cell version) t v
 
-pub cells-bytes : {ts : List (Tree Cell)} → All (Valid Cell) ts → least-cell * length ts ≤ sum (size Cell) ts
-unfolding sum
-cells-bytes all-none = omega arith
-cells-bytes (all-more {x} {xs} v vs) = omega (arith, cell-bytes x v, cells-bytes vs)
+  pub cells-bytes : {ts : List (Tree (Cell version))} → All (Valid (Cell version)) ts → least-cell * length ts ≤ sum (size (Cell version)) ts
+  unfolding sum
+  cells-bytes all-none = omega arith
+  cells-bytes (all-more {x} {xs} v vs) = omega (arith, cell-bytes x v, cells-bytes vs)

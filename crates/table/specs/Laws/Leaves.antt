@@ -52,39 +52,6 @@ module _ {A : Type 0} (count size : A → ℕ) (words : ℕ → ℕ → A → Li
       rw (e, append-assoc (words used at t) w r, one (sum count ts + b) used at t (w ++ r), leaves-all b (used + count t) (at + size t) ts r)
       (sym (append-assoc (leavesIn at t) (leavesAll size leavesIn (at + size t) ts) (leavesFrom b r)))
 
-leaves-tree : (d dim par b used at : ℕ) (t : Tree (CategoryIn d)) (r : List ℕ)
-    → leavesFrom (nodes d t + b) (treeWords d dim par used at t ++ r) ≡ treeLeaves d at t ++ leavesFrom b r
-unfolding nodes treeWords treeLeaves leavesFrom pick
-leaves-tree zero dim par b used at t r = let e : 0 + b ≡ b = omega arith in rw e
-leaves-tree (suc d) dim par b used at (m, (zero, t)) r =
-    let e : 1 + sum (nodes d) [] + b ≡ suc (sum (nodes d) [] + b) = omega arith in
-    let below = leaves-all (nodes d) (size (CategoryIn d)) (treeWords d dim used) (treeLeaves d) (λ b₁ used₁ at₁ t₁ r₁. leaves-tree d dim used b₁ used₁ at₁ t₁ r₁)
-    b (used + 1) (at + size Head (m, (zero, t))) [] r in
-    rw (e, below)
-leaves-tree (suc d) dim par b used at (m, (suc k, (t, (n, ts)))) r =
-    let e : 1 + sum (nodes d) ts + b ≡ suc (sum (nodes d) ts + b) = omega arith in
-    let below = leaves-all (nodes d) (size (CategoryIn d)) (treeWords d dim used) (treeLeaves d) (λ b₁ used₁ at₁ t₁ r₁. leaves-tree d dim used b₁ used₁ at₁ t₁ r₁)
-    b (used + 1) (at + size Head (m, (suc k, (t, (n, tt))))) ts r in
-    rw (e, below)
-
--- ---- 3. the words where they are stored
-
-pub leaves-same : (dim par used at u : ℕ) (ns ms : List ℕ) (ts : List (Tree Category)) → node-words * u ≤ length ns
-    → u ≡ used + sum (nodes category-depth) ts → u ≤ most-nodes
-    → ms ≡ sets ns (node-words * used) (wordsAll (nodes category-depth) (size Category) (treeWords category-depth dim par) used at ts)
-    → leaves ms (min used most-nodes) (min (u - used) most-nodes) ≡ leavesAll (size Category) (treeLeaves category-depth) at ts
-unfolding leavesFrom
-leaves-same dim par used at u ns ms ts l e h m =
-    let ws = wordsAll (nodes category-depth) (size Category) (treeWords category-depth dim par) used at ts in
-    let all : length ws ≡ node-words * sum (nodes category-depth) ts = width-all (nodes category-depth) (size Category) (treeWords category-depth dim par) (width-tree category-depth dim par) used at ts in
-    let a : min used most-nodes ≡ used = omega arith in
-    let c : min (u - used) most-nodes ≡ sum (nodes category-depth) ts + 0 = omega arith in
-    let fit : node-words * used + length ws ≤ length ns = omega arith in
-    leaves-from ms (min used most-nodes) (min (u - used) most-nodes)
-    ∙ rw (a, c, m, drop-sets ns ws (node-words * used) fit)
-    (leaves-all (nodes category-depth) (size Category) (treeWords category-depth dim par) (treeLeaves category-depth) (λ b used at t r. leaves-tree category-depth dim par b used at t r) 0 used at ts (drop (node-words * used + length ws) ns)
-    ∙ append-nil (leavesAll (size Category) (treeLeaves category-depth) at ts))
-
 -- ---- 4. the same from another place on
 
 unfoldable pub further : ℕ → List Leaf → List Leaf
@@ -103,22 +70,6 @@ further-all size f a h at [] = refl
 further-all size f a h at (t ∷ ts) =
     let e : a + at + size t ≡ a + (at + size t) = omega arith in
     rw (e, h at t, further-all size f a h (at + size t) ts) (sym (further-append a (f at t) (leavesAll size f (at + size t) ts)))
-
-further-tree : (d a at : ℕ) (t : Tree (CategoryIn d)) → treeLeaves d (a + at) t ≡ further a (treeLeaves d at t)
-unfolding treeLeaves further
-further-tree zero a at t = refl
-further-tree (suc d) a at (m, (zero, t)) =
-    let e : a + at + size Head (m, (zero, t)) ≡ a + (at + size Head (m, (zero, t))) = omega arith in
-    let p : a + at + size Value m + name-to-index ≡ a + (at + size Value m + name-to-index) = omega arith in
-    rw (e, p, further-all (size (CategoryIn d)) (treeLeaves d) a (further-tree d a) (at + size Head (m, (zero, t))) [])
-further-tree (suc d) a at (m, (suc k, (t, (n, ts)))) =
-    let h : Tree Head = (m, (suc k, (t, (n, tt)))) in
-    let e : a + at + size Head h ≡ a + (at + size Head h) = omega arith in
-    rw (e, further-all (size (CategoryIn d)) (treeLeaves d) a (further-tree d a) (at + size Head h) ts)
-
-pub further-leaves : (a at : ℕ) (ts : List (Tree Category))
-    → leavesAll (size Category) (treeLeaves category-depth) (a + at) ts ≡ further a (leavesAll (size Category) (treeLeaves category-depth) at ts)
-further-leaves a at ts = further-all (size Category) (treeLeaves category-depth) a (further-tree category-depth a) at ts
 
 pub further-length : (a : ℕ) (ls : List Leaf) → length (further a ls) ≡ length ls
 unfolding further
@@ -151,3 +102,53 @@ pub few-leaves : (ms : List ℕ) (i k : ℕ) → length (leaves ms i k) ≤ k
 unfolding leaves
 few-leaves ms i zero = omega arith
 few-leaves ms i (suc k) = more-leaves (isLeaf ms i) (leaf ms i) (leaves ms (i + 1) k) k (few-leaves ms (i + 1) k)
+
+module _ (version : ℕ) where
+  leaves-tree : (d dim par b used at : ℕ) (t : Tree (CategoryIn version d)) (r : List ℕ)
+      → leavesFrom (nodes version d t + b) (treeWords version d dim par used at t ++ r) ≡ treeLeaves version d at t ++ leavesFrom b r
+  unfolding nodes treeWords treeLeaves leavesFrom pick
+  leaves-tree zero dim par b used at t r = let e : 0 + b ≡ b = omega arith in rw e
+  leaves-tree (suc d) dim par b used at (m, (zero, t)) r =
+      let e : 1 + sum (nodes version d) [] + b ≡ suc (sum (nodes version d) [] + b) = omega arith in
+      let below = leaves-all (nodes version d) (size (CategoryIn version d)) (treeWords version d dim used) (treeLeaves version d) (λ b₁ used₁ at₁ t₁ r₁. leaves-tree d dim used b₁ used₁ at₁ t₁ r₁)
+      b (used + 1) (at + size (Head version) (m, (zero, t))) [] r in
+      rw (e, below)
+  leaves-tree (suc d) dim par b used at (m, (suc k, (t, (n, ts)))) r =
+      let e : 1 + sum (nodes version d) ts + b ≡ suc (sum (nodes version d) ts + b) = omega arith in
+      let below = leaves-all (nodes version d) (size (CategoryIn version d)) (treeWords version d dim used) (treeLeaves version d) (λ b₁ used₁ at₁ t₁ r₁. leaves-tree d dim used b₁ used₁ at₁ t₁ r₁)
+      b (used + 1) (at + size (Head version) (m, (suc k, (t, (n, tt))))) ts r in
+      rw (e, below)
+
+  -- ---- 3. the words where they are stored
+
+  pub leaves-same : (dim par used at u : ℕ) (ns ms : List ℕ) (ts : List (Tree (Category version))) → node-words * u ≤ length ns
+      → u ≡ used + sum (nodes version category-depth) ts → u ≤ most-nodes
+      → ms ≡ sets ns (node-words * used) (wordsAll (nodes version category-depth) (size (Category version)) (treeWords version category-depth dim par) used at ts)
+      → leaves ms (min used most-nodes) (min (u - used) most-nodes) ≡ leavesAll (size (Category version)) (treeLeaves version category-depth) at ts
+  unfolding leavesFrom
+  leaves-same dim par used at u ns ms ts l e h m =
+      let ws = wordsAll (nodes version category-depth) (size (Category version)) (treeWords version category-depth dim par) used at ts in
+      let all : length ws ≡ node-words * sum (nodes version category-depth) ts = width-all (nodes version category-depth) (size (Category version)) (treeWords version category-depth dim par) (width-tree version category-depth dim par) used at ts in
+      let a : min used most-nodes ≡ used = omega arith in
+      let c : min (u - used) most-nodes ≡ sum (nodes version category-depth) ts + 0 = omega arith in
+      let fit : node-words * used + length ws ≤ length ns = omega arith in
+      leaves-from ms (min used most-nodes) (min (u - used) most-nodes)
+      ∙ rw (a, c, m, drop-sets ns ws (node-words * used) fit)
+      (leaves-all (nodes version category-depth) (size (Category version)) (treeWords version category-depth dim par) (treeLeaves version category-depth) (λ b used at t r. leaves-tree category-depth dim par b used at t r) 0 used at ts (drop (node-words * used + length ws) ns)
+      ∙ append-nil (leavesAll (size (Category version)) (treeLeaves version category-depth) at ts))
+
+  further-tree : (d a at : ℕ) (t : Tree (CategoryIn version d)) → treeLeaves version d (a + at) t ≡ further a (treeLeaves version d at t)
+  unfolding treeLeaves further
+  further-tree zero a at t = refl
+  further-tree (suc d) a at (m, (zero, t)) =
+      let e : a + at + size (Head version) (m, (zero, t)) ≡ a + (at + size (Head version) (m, (zero, t))) = omega arith in
+      let p : a + at + size (Value version) m + name-to-index ≡ a + (at + size (Value version) m + name-to-index) = omega arith in
+      rw (e, p, further-all (size (CategoryIn version d)) (treeLeaves version d) a (further-tree d a) (at + size (Head version) (m, (zero, t))) [])
+  further-tree (suc d) a at (m, (suc k, (t, (n, ts)))) =
+      let h : Tree (Head version) = (m, (suc k, (t, (n, tt)))) in
+      let e : a + at + size (Head version) h ≡ a + (at + size (Head version) h) = omega arith in
+      rw (e, further-all (size (CategoryIn version d)) (treeLeaves version d) a (further-tree d a) (at + size (Head version) h) ts)
+
+  pub further-leaves : (a at : ℕ) (ts : List (Tree (Category version)))
+      → leavesAll (size (Category version)) (treeLeaves version category-depth) (a + at) ts ≡ further a (leavesAll (size (Category version)) (treeLeaves version category-depth) at ts)
+  further-leaves a at ts = further-all (size (Category version)) (treeLeaves version category-depth) a (further-tree category-depth a) at ts

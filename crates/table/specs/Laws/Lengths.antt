@@ -9,18 +9,6 @@ use Rattle.value.specs.Value.{Value}
 use Rattle.table.specs.Table.{CategoryIn, DimProperties, Dimension, Category}
 use Rattle.table.specs.Records.{Head, front, children, sum, dimOwn, dimCategories}
 
--- ---- what they spell
-
-pub spell-category : (d : ℕ) (t : Tree (CategoryIn (suc d))) → spell (CategoryIn (suc d)) t ≡ spell Head (front d t) ++ spellAll (spell (CategoryIn d)) (children d t)
-unfolding spell spellAll
-spell-category d (m, (zero, t)) = sym (append-nil (spell Head (m, (zero, t))))
-spell-category d (m, (suc k, (t, (n, ts)))) = simp (append-nil, append-assoc)
-
-pub spell-dimension : (t : Tree Dimension)
-    → spell Dimension t ≡ spell (Value ▸ DimProperties) (dimOwn t) ++ digits little 4 (t .1 .0) ++ spellAll (spell Category) (dimCategories t)
-unfolding spell
-spell-dimension t = sym (append-assoc (spell (Value ▸ DimProperties) (dimOwn t)) (digits little 4 (t .1 .0)) (spellAll (spell Category) (dimCategories t)))
-
 -- ---- sizes
 
 -- the bytes of all are those of each
@@ -29,10 +17,23 @@ unfolding sum size spellAll
 size-all g [] = refl
 size-all g (t ∷ ts) = rw (length-append, size-all g ts)
 
-pub size-category : (d : ℕ) (t : Tree (CategoryIn (suc d))) → size (CategoryIn (suc d)) t ≡ size Head (front d t) + sum (size (CategoryIn d)) (children d t)
-unfolding size
-size-category d t = rw (spell-category d t, length-append, size-all (CategoryIn d) (children d t))
+module _ (version : ℕ) where
+  -- ---- what they spell
 
-pub size-dimension : (t : Tree Dimension) → size Dimension t ≡ size (Value ▸ DimProperties) (dimOwn t) + 4 + sum (size Category) (dimCategories t)
-unfolding size
-size-dimension t = rw (spell-dimension t, length-append, length-append, digits-length, size-all Category (dimCategories t))
+  pub spell-category : (d : ℕ) (t : Tree (CategoryIn version (suc d))) → spell (CategoryIn version (suc d)) t ≡ spell (Head version) (front version d t) ++ spellAll (spell (CategoryIn version d)) (children version d t)
+  unfolding spell spellAll
+  spell-category d (m, (zero, t)) = sym (append-nil (spell (Head version) (m, (zero, t))))
+  spell-category d (m, (suc k, (t, (n, ts)))) = simp (append-nil, append-assoc)
+
+  pub spell-dimension : (t : Tree (Dimension version))
+      → spell (Dimension version) t ≡ spell ((Value version) ▸ DimProperties) (dimOwn version t) ++ digits little 4 (t .1 .0) ++ spellAll (spell (Category version)) (dimCategories version t)
+  unfolding spell
+  spell-dimension t = sym (append-assoc (spell ((Value version) ▸ DimProperties) (dimOwn version t)) (digits little 4 (t .1 .0)) (spellAll (spell (Category version)) (dimCategories version t)))
+
+  pub size-category : (d : ℕ) (t : Tree (CategoryIn version (suc d))) → size (CategoryIn version (suc d)) t ≡ size (Head version) (front version d t) + sum (size (CategoryIn version d)) (children version d t)
+  unfolding size
+  size-category d t = rw (spell-category d t, length-append, size-all (CategoryIn version d) (children version d t))
+
+  pub size-dimension : (t : Tree (Dimension version)) → size (Dimension version) t ≡ size ((Value version) ▸ DimProperties) (dimOwn version t) + 4 + sum (size (Category version)) (dimCategories version t)
+  unfolding size
+  size-dimension t = rw (spell-dimension t, length-append, length-append, digits-length, size-all (Category version) (dimCategories version t))

@@ -27,28 +27,6 @@ use Rattle.table.specs.Laws.Lengths.{size-category, size-dimension}
 abbrev pub numbers : List ℕ
 numbers = 2 ∷ 3 ∷ 4 ∷ 5 ∷ 6 ∷ 7 ∷ 8 ∷ 9 ∷ 10 ∷ 18 ∷ []
 
-kind-numbered : (d : ℕ) (below : List (Tree (CategoryIn d)) → Rule (CategoryIn d)) → ((done : List (Tree (CategoryIn d))) → Numbered numbers (below done))
-    → (k : ℕ) → Numbered numbers (kindRule d below k)
-kind-numbered d below h zero = tt
-kind-numbered d below h (suc k) = (tt, λ _ n done. h done)
-
-category-numbered : (d used : ℕ) → Numbered numbers (categoryRule d used)
-unfolding categoryRule among
-category-numbered zero used = tt
-category-numbered (suc d) used = (refl, (tt, λ _ k. kind-numbered d _ (λ done. category-numbered d _) k))
-
-pub dimensions-numbered : Numbered numbers dimensionsRule
-unfolding dimensionsRule dimensionRule among
-dimensions-numbered = λ n done. (refl, (tt, λ _ m before. category-numbered category-depth _))
-
-pub axes-numbered : (ts : List (Tree Dimension)) → Numbered numbers (axesRule ts)
-unfolding axesRule entryRule among
-axes-numbered ts = (refl, λ l r c. (refl, (((λ _. (refl, tt)), λ _ _. (refl, tt)), λ _ _. (refl, tt))))
-
-pub cells-numbered : (places : ℕ) → Numbered numbers (cellsRule places)
-unfolding cellsRule cellRule among
-cells-numbered places = λ n done. ((refl, tt), λ _. tt)
-
 -- ---- places
 
 -- no leaf's place is past m
@@ -65,21 +43,6 @@ unfolding leavesAll sum
 all-up-to m sz f h at [] l = all-none
 all-up-to m sz f h at (t ∷ ts) l = both-up-to (h at t (omega arith)) (all-up-to m sz f h (at + sz t) ts (omega arith))
 
-tree-up-to : (m d at : ℕ) (t : Tree (CategoryIn d)) → at + size (CategoryIn d) t ≤ m → UpTo m (treeLeaves d at t)
-unfolding treeLeaves leavesAll size spell
-tree-up-to m zero at t l = all-none
-tree-up-to m (suc d) at (x, (zero, t)) l =
-    let h : at + size Value x + name-to-index ≤ m = omega (arith, simp (length-append, digits-length) at l) in all-more h all-none
-tree-up-to m (suc d) at (x, (suc k, (t, (n, ts)))) l =
-    all-up-to m (size (CategoryIn d)) (treeLeaves d) (tree-up-to m d) (at + size Head (x, (suc k, (t, (n, tt))))) ts
-    (omega (arith, size-category d (x, (suc k, (t, (n, ts))))))
-
-leaves-up-to : (t : Tree Dimension) → UpTo (size Dimension t) (leavesOf t)
-unfolding leavesOf
-leaves-up-to t =
-    all-up-to (size Dimension t) (size Category) (treeLeaves category-depth) (tree-up-to (size Dimension t) category-depth) (size (Value ▸ DimProperties) (dimOwn t) + 4) (dimCategories t)
-    (omega (arith, size-dimension t))
-
 -- the place of a bad leaf is that of one of them
 bad-up-to : (m n : ℕ) (seen : List ℕ) {ls : List once.Leaf} → UpTo m ls → (q : ℕ) → placeOf (firstBad n seen ls) ≡ some q → q ≤ m
 unfolding firstBad pick
@@ -91,20 +54,6 @@ bad-up-to m n seen (all-more {x} {xs} h hs) q e = go (fresh n seen (x .0)) e (ba
     go true e′ rest = rest e′
     go false e′ rest = let i : x .1 ≡ q = cc in omega arith
 
-kind-inside : (d : ℕ) (below : List (Tree (CategoryIn d)) → Rule (CategoryIn d)) → ((done : List (Tree (CategoryIn d))) → PlacesInside (below done))
-    → (k : ℕ) → PlacesInside (kindRule d below k)
-kind-inside d below h zero = tt
-kind-inside d below h (suc k) = (tt, λ _ n done. h done)
-
-category-inside : (d used : ℕ) → PlacesInside (categoryRule d used)
-unfolding categoryRule
-category-inside zero used = tt
-category-inside (suc d) used = (tt, λ _ k. kind-inside d _ (λ done. category-inside d _) k)
-
-pub dimensions-inside : PlacesInside dimensionsRule
-unfolding dimensionsRule dimensionRule size
-dimensions-inside = λ n done. ((tt, λ _ m before. category-inside category-depth _), λ t v q e. bad-up-to (size Dimension t) _ [] (leaves-up-to t) q e)
-
 -- a test that finds its own start wrong
 start-up-to : (b : Bool) (q m : ℕ) → pick b none (some 0) ≡ some q → q ≤ m
 unfolding pick
@@ -115,10 +64,62 @@ entry-inside : (d : ℕ) (before : List (Tree int32)) → PlacesInside (entryRul
 unfolding entryRule
 entry-inside d before = (tt, λ t v q e. start-up-to _ q _ e)
 
-pub axes-inside : (ts : List (Tree Dimension)) → PlacesInside (axesRule ts)
-unfolding axesRule
-axes-inside ts = λ l r c. (((λ _. entry-inside _ _), λ _ _. entry-inside _ _), λ _ _. entry-inside _ _)
+module _ (version : ℕ) where
+  kind-numbered : (d : ℕ) (below : List (Tree (CategoryIn version d)) → Rule (CategoryIn version d)) → ((done : List (Tree (CategoryIn version d))) → Numbered numbers (below done))
+      → (k : ℕ) → Numbered numbers (kindRule version d below k)
+  kind-numbered d below h zero = tt
+  kind-numbered d below h (suc k) = (tt, λ _ n done. h done)
 
-pub cells-inside : (places : ℕ) → PlacesInside (cellsRule places)
-unfolding cellsRule cellRule
-cells-inside places = λ n done. ((tt, λ t v q e. start-up-to _ q _ e), λ _. tt)
+  category-numbered : (d used : ℕ) → Numbered numbers (categoryRule version d used)
+  unfolding categoryRule among
+  category-numbered zero used = tt
+  category-numbered (suc d) used = (refl, (tt, λ _ k. kind-numbered d _ (λ done. category-numbered d _) k))
+
+  pub dimensions-numbered : Numbered numbers (dimensionsRule version)
+  unfolding dimensionsRule dimensionRule among
+  dimensions-numbered = λ n done. (refl, (tt, λ _ m before. category-numbered category-depth _))
+
+  pub axes-numbered : (ts : List (Tree (Dimension version))) → Numbered numbers (axesRule version ts)
+  unfolding axesRule entryRule among
+  axes-numbered ts = (refl, λ l r c. (refl, (((λ _. (refl, tt)), λ _ _. (refl, tt)), λ _ _. (refl, tt))))
+
+  pub cells-numbered : (places : ℕ) → Numbered numbers (cellsRule version places)
+  unfolding cellsRule cellRule among
+  cells-numbered places = λ n done. ((refl, tt), λ _. tt)
+
+  tree-up-to : (m d at : ℕ) (t : Tree (CategoryIn version d)) → at + size (CategoryIn version d) t ≤ m → UpTo m (treeLeaves version d at t)
+  unfolding treeLeaves leavesAll size spell
+  tree-up-to m zero at t l = all-none
+  tree-up-to m (suc d) at (x, (zero, t)) l =
+      let h : at + size (Value version) x + name-to-index ≤ m = omega (arith, simp (length-append, digits-length) at l) in all-more h all-none
+  tree-up-to m (suc d) at (x, (suc k, (t, (n, ts)))) l =
+      all-up-to m (size (CategoryIn version d)) (treeLeaves version d) (tree-up-to m d) (at + size (Head version) (x, (suc k, (t, (n, tt))))) ts
+      (omega (arith, (size-category version) d (x, (suc k, (t, (n, ts))))))
+
+  leaves-up-to : (t : Tree (Dimension version)) → UpTo (size (Dimension version) t) (leavesOf version t)
+  unfolding leavesOf
+  leaves-up-to t =
+      all-up-to (size (Dimension version) t) (size (Category version)) (treeLeaves version category-depth) (tree-up-to (size (Dimension version) t) category-depth) (size ((Value version) ▸ DimProperties) (dimOwn version t) + 4) (dimCategories version t)
+      (omega (arith, (size-dimension version) t))
+
+  kind-inside : (d : ℕ) (below : List (Tree (CategoryIn version d)) → Rule (CategoryIn version d)) → ((done : List (Tree (CategoryIn version d))) → PlacesInside (below done))
+      → (k : ℕ) → PlacesInside (kindRule version d below k)
+  kind-inside d below h zero = tt
+  kind-inside d below h (suc k) = (tt, λ _ n done. h done)
+
+  category-inside : (d used : ℕ) → PlacesInside (categoryRule version d used)
+  unfolding categoryRule
+  category-inside zero used = tt
+  category-inside (suc d) used = (tt, λ _ k. kind-inside d _ (λ done. category-inside d _) k)
+
+  pub dimensions-inside : PlacesInside (dimensionsRule version)
+  unfolding dimensionsRule dimensionRule size
+  dimensions-inside = λ n done. ((tt, λ _ m before. category-inside category-depth _), λ t v q e. bad-up-to (size (Dimension version) t) _ [] (leaves-up-to t) q e)
+
+  pub axes-inside : (ts : List (Tree (Dimension version))) → PlacesInside (axesRule version ts)
+  unfolding axesRule
+  axes-inside ts = λ l r c. (((λ _. entry-inside _ _), λ _ _. entry-inside _ _), λ _ _. entry-inside _ _)
+
+  pub cells-inside : (places : ℕ) → PlacesInside (cellsRule version places)
+  unfolding cellsRule cellRule
+  cells-inside places = λ n done. ((tt, λ t v q e. start-up-to _ q _ e), λ _. tt)

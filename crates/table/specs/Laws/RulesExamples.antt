@@ -6,7 +6,7 @@ use Rattle.layout.specs.Layout.{Layout, passes, among, pick}
 use Rattle.layout.specs.Rule.{Rule}
 use Rattle.layout.specs.Read.{Got, got, no, read, refusal}
 use Rattle.layout.specs.Check.{check}
-use Rattle.value.specs.Value.{Value, ValueIn, RawValueOf, TemplateOf, ArgumentOf}
+use Rattle.value.specs.Value.{CellValue, ValueIn, RawValueOf, TemplateOf, ArgumentOf}
 use Rattle.once.specs.Once.{fresh}
 use Rattle.table.specs.Records.{}
 use Rattle.table.specs.Rules.{entryRule, countsRule, cellRule}
@@ -33,7 +33,7 @@ unfolding line int check entryRule read passes pick fresh among refusal
 axes = refl
 
 -- in a table of four places: 10 at the index, as soon as it is read; an index that is inside is followed by a Value
-cells : map (line (cellRule 4 [])) ((int 4 ++ int 0) ∷ (int 3 ++ int 1) ∷ (int 3 ++ int 0) ∷ [])
+cells : map (line (cellRule 3 4 [])) ((int 4 ++ int 0) ∷ (int 3 ++ int 1) ∷ (int 3 ++ int 0) ∷ [])
     ≡ refused-at 10 100 ∷ refused-at 10 100 ∷ refused-at 2 108 ∷ []
-unfolding line int check cellRule Value ValueIn RawValueOf TemplateOf ArgumentOf read passes pick fresh among refusal
+unfolding line int check cellRule CellValue ValueIn RawValueOf TemplateOf ArgumentOf read passes pick fresh among refusal
 cells = refl

@@ -71,9 +71,10 @@ module _ {A : Type 0} (count size : A → ℕ) (words : ℕ → ℕ → A → Li
   width-all used at [] = refl
   width-all used at (t ∷ ts) = rw (length-append, width, width-all (used + count t) (at + size t) ts) (omega arith)
 
-pub width-tree : (d dim par used at : ℕ) (t : Tree (CategoryIn d)) → length (treeWords d dim par used at t) ≡ node-words * nodes d t
-unfolding treeWords nodes
-width-tree zero dim par used at t = refl
-width-tree (suc d) dim par used at t =
-    let below = width-all (nodes d) (size (CategoryIn d)) (treeWords d dim used) (width-tree d dim used) (used + 1) (at + size Head (front d t)) (children d t) in
-    rw (length-append, below) (omega arith)
+module _ (version : ℕ) where
+  pub width-tree : (d dim par used at : ℕ) (t : Tree (CategoryIn version d)) → length (treeWords version d dim par used at t) ≡ node-words * (nodes version) d t
+  unfolding treeWords nodes
+  width-tree zero dim par used at t = refl
+  width-tree (suc d) dim par used at t =
+      let below = width-all (nodes version d) (size (CategoryIn version d)) (treeWords version d dim used) (width-tree d dim used) (used + 1) (at + size (Head version) (front version d t)) (children version d t) in
+      rw (length-append, below) (omega arith)

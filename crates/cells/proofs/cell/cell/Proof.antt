@@ -19,7 +19,7 @@ cell-spec =
     let a = g .before .args in
     let b = bytes-of _ (g .shared-slice-known .given) in
     let small : a .places < 2 ^ 32 = omega arith in
-    no-index (a .s .now) b (g .before .pre .1) (a .at) (a .places) (a .j) small (a .cells .now) (k .any .ensures .0) (c .before .r .given .1))
+    no-index _ (a .s .now) b (g .before .pre .1) (a .at) (a .places) (a .j) small (a .cells .now) (k .any .ensures .0) (c .before .r .given .1))
     (λ c. search needs)
     (λ c.
     let p = c .before .before .before .before .before .before in
@@ -29,7 +29,7 @@ cell-spec =
     let q = g .before .pre in
     let b = bytes-of _ (g .shared-slice-known .given) in
     let small : a .places < 2 ^ 32 = omega arith in
-    done (a .s .now) b (q .1) (a .at) (a .places) (a .j) small (a .cells .now) (k .any .ensures .0) (p .p .given .1) (k .before .peek .ensures) (ltb-true _ _ (c .before .before .before .before .if1 .taken)) (q .2) (q .0) (q .3) (c .before .before .«record» .ensures))
+    done _ (a .s .now) b (q .1) (a .at) (a .places) (a .j) small (a .cells .now) (k .any .ensures .0) (p .p .given .1) (k .before .peek .ensures) (ltb-true _ _ (c .before .before .before .before .if1 .taken)) (q .2) (q .0) (q .3) (c .before .before .«record» .ensures))
     (λ c.
     let p = c .before .before in
     let k = p .before .before in
@@ -37,4 +37,4 @@ cell-spec =
     let a = g .before .args in
     let b = bytes-of _ (g .shared-slice-known .given) in
     let small : a .places < 2 ^ 32 = omega arith in
-    not-below (a .s .now) b (g .before .pre .1) (a .at) (a .places) (a .j) small (a .cells .now) (k .any .ensures .0) (p .p .given .1) (k .before .peek .ensures) (c .if1 .left)))
+    not-below _ (a .s .now) b (g .before .pre .1) (a .at) (a .places) (a .j) small (a .cells .now) (k .any .ensures .0) (p .p .given .1) (k .before .peek .ensures) (c .if1 .left)))

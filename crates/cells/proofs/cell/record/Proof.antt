@@ -12,8 +12,8 @@ record-spec =
     (λ c. search needs)
     (λ c.
     let r = c .before .before .before .before .before in
-    not-recorded (rw (r .r .given .1) at (r .before .before .value .ensures)) (c .before .before .put-three .ensures))
+    not-recorded (rw (r .r .given .1) at (r .before .before .cell-value .ensures)) (c .before .before .put-three .ensures))
     (λ c. search needs)
     (λ c.
     let q = c .before .before .before .before .before .before in
-    recorded (rw (q .q .given .1) at (q .before .before .value .ensures)) (rw (c .before .before .before .before .length .ensures) at (c .before .before .put-three2 .ensures))))
+    recorded (rw (q .q .given .1) at (q .before .before .cell-value .ensures)) (rw (c .before .before .before .before .length .ensures) at (c .before .before .put-three2 .ensures))))

@@ -21,21 +21,21 @@ section-spec =
     let st = k .before .before .before in
     let a = st .before .args in
     let b = bytes-of _ (st .shared-slice-known .given) in
-    (in-limit most-cells (after cell-kind (cellOf (a .places))) (a .s .now) b (a .at) (AllCells (a .at) (a .words .now)) (k .count .ensures) (c .before .before .p .given .1) (k .before .peek .ensures), st .before .pre .0, omega (arith, ends-at most-cells (after cell-kind (cellOf (a .places))) (a .s .now) b (a .at) (AllCells (a .at) (a .words .now)) (k .count .ensures) (c .before .before .p .given .1) (k .before .peek .ensures)), st .before .pre .1))
+    (in-limit most-cells (after (cell-kind (a .version)) ((cellOf (a .version)) (a .places))) (a .s .now) b (a .at) ((AllCells (a .version)) (a .at) (a .words .now)) (k .count .ensures) (c .before .before .p .given .1) (k .before .peek .ensures), st .before .pre .0, omega (arith, ends-at most-cells (after (cell-kind (a .version)) ((cellOf (a .version)) (a .places))) (a .s .now) b (a .at) ((AllCells (a .version)) (a .at) (a .words .now)) (k .count .ensures) (c .before .before .p .given .1) (k .before .peek .ensures)), st .before .pre .1))
     (λ c. search needs) (λ c. search needs)
     (λ c.
     let k = c .before .before .before in
     let st = k .before .before .before in
     let a = st .before .args in
     let b = bytes-of _ (st .shared-slice-known .given) in
-    no-number most-cells (after cell-kind (cellOf (a .places))) (a .s .now) b (a .at) (AllCells (a .at) (a .words .now)) (k .count .ensures) (c .before .r .given .1))
+    no-number most-cells (after (cell-kind (a .version)) ((cellOf (a .version)) (a .places))) (a .s .now) b (a .at) ((AllCells (a .version)) (a .at) (a .words .now)) (k .count .ensures) (c .before .r .given .1))
     (λ c. search needs)
     (λ c.
     let k = c .before .before .before .before .before .before .before .before .before .before in
     let st = k .before .before .before in
     let a = st .before .args in
     let b = bytes-of _ (st .shared-slice-known .given) in
-    no-items most-cells (after cell-kind (cellOf (a .places))) (a .s .now) b (a .at) (AllCells (a .at) (a .words .now)) (k .count .ensures) (c .before .before .before .before .before .before .before .before .p .given .1) (k .before .peek .ensures) (kept-off (rw (c .before .r2 .given .1) at (c .before .before .before .before .before .all .ensures))))
+    no-items most-cells (after (cell-kind (a .version)) ((cellOf (a .version)) (a .places))) (a .s .now) b (a .at) ((AllCells (a .version)) (a .at) (a .words .now)) (k .count .ensures) (c .before .before .before .before .before .before .before .before .p .given .1) (k .before .peek .ensures) (kept-off (rw (c .before .r2 .given .1) at (c .before .before .before .before .before .all .ensures))))
     (λ c. search needs)
     (λ c.
     let k = c .before .before .before .before .before .before .before .before .before .before in
@@ -43,4 +43,4 @@ section-spec =
     let a = st .before .args in
     let b = bytes-of _ (st .shared-slice-known .given) in
     let r = kept-on (rw (c .before .q .given .1) at (c .before .before .before .before .before .all .ensures)) in
-    the-items most-cells (after cell-kind (cellOf (a .places))) (a .s .now) b (a .at) (AllCells (a .at) (a .words .now)) (k .count .ensures) (c .before .before .before .before .before .before .before .before .p .given .1) (k .before .peek .ensures) (r .tree) (r .is) (the-cells (ends-at most-cells (after cell-kind (cellOf (a .places))) (a .s .now) b (a .at) (AllCells (a .at) (a .words .now)) (k .count .ensures) (c .before .before .before .before .before .before .before .before .p .given .1) (k .before .peek .ensures)) (r .keeps))))
+    the-items most-cells (after (cell-kind (a .version)) ((cellOf (a .version)) (a .places))) (a .s .now) b (a .at) ((AllCells (a .version)) (a .at) (a .words .now)) (k .count .ensures) (c .before .before .before .before .before .before .before .before .p .given .1) (k .before .peek .ensures) (r .tree) (r .is) ((the-cells (a .version)) (ends-at most-cells (after (cell-kind (a .version)) ((cellOf (a .version)) (a .places))) (a .s .now) b (a .at) ((AllCells (a .version)) (a .at) (a .words .now)) (k .count .ensures) (c .before .before .before .before .before .before .before .before .p .given .1) (k .before .peek .ensures)) (r .keeps))))

@@ -1,12 +1,9 @@
-use Rattle.layout.specs.Layout.{passes, among, pick}
+use Rattle.layout.specs.Layout.{passes}
 use Rattle.layout.specs.Read.{refusal}
 use Rattle.layout.specs.Reads.{verdict}
 use Rattle.layout.proofs.number.known.Statement.{statement}
 use Rattle.layout.proofs.number.known.Tie as tie
 
 pub known-spec : {M : Type 1} → statement M
-unfolding verdict passes among refusal pick
-known-spec =
-    tie.close
-    (tie.spec
-    (λ c. simp (c .if1 .taken)) (λ c. simp (c .if1 .left)))
+unfolding verdict passes refusal
+known-spec = tie.close (tie.spec (λ _ _. tt) (λ c. c .unless-either .ensures))

@@ -9,7 +9,7 @@ pub notes-spec : {M : Type 1} → statement M
 notes-spec =
     tie.close
     (tie.spec
-    (λ s n at₀ k₀ at k. Left Footnote s n at₀ k at) (λ s n at₀ k₀ at k. k) (λ c r h. h) (λ c. search needs)
+    (λ s n version at₀ k₀ at k. Left (Footnote version) s n at₀ k at) (λ s n version at₀ k₀ at k. k) (λ c r h. h) (λ c. search needs)
     (λ c. left-kept (c .before .before .before .loop .inv) (c .enum-told .given .1)) (λ c. search needs) (λ _ _. tt)
     (λ c. omega arith) (λ c. omega arith)
     (λ c. left-more (c .before .before .before .before .loop .inv) (c .before .before .before .loop-test .taken) (c .footnote .ensures))

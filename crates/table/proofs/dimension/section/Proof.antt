@@ -18,19 +18,19 @@ section-spec =
     let k = c .before .before .before .before .before in
     let st = k .before .before .before .before in
     let a = st .args in
-    (in-limit most-dimensions nextDim (a .s .now) (bytes-of _ (k .before .before .before .shared-slice-known .given)) (a .at) (AllDims (a .at) (a .nodes .now) (a .dims .now)) (k .count .ensures) (c .before .before .before .p .given .1) (k .before .peek .ensures), st .pre .0, st .pre .1))
+    (in-limit most-dimensions (nextDim (a .version)) (a .s .now) (bytes-of _ (k .before .before .before .shared-slice-known .given)) (a .at) ((AllDims (a .version)) (a .at) (a .nodes .now) (a .dims .now)) (k .count .ensures) (c .before .before .before .p .given .1) (k .before .peek .ensures), st .pre .0, st .pre .1))
     (λ c. search needs) (λ c. search needs)
     (λ c.
     let k = c .before .before .before in
     let a = k .before .before .before .before .args in
-    no-number most-dimensions nextDim (a .s .now) (bytes-of _ (k .before .before .before .shared-slice-known .given)) (a .at) (AllDims (a .at) (a .nodes .now) (a .dims .now)) (k .count .ensures) (c .before .r .given .1))
+    no-number most-dimensions (nextDim (a .version)) (a .s .now) (bytes-of _ (k .before .before .before .shared-slice-known .given)) (a .at) ((AllDims (a .version)) (a .at) (a .nodes .now) (a .dims .now)) (k .count .ensures) (c .before .r .given .1))
     (λ c. search needs)
     (λ c.
     let m = c .before .before .before .before .before in
     let p = m .before .before .before .before in
     let k = p .before .before in
     let a = k .before .before .before .before .args in
-    no-items most-dimensions nextDim (a .s .now) (bytes-of _ (k .before .before .before .shared-slice-known .given)) (a .at) (AllDims (a .at) (a .nodes .now) (a .dims .now)) (k .count .ensures) (p .p .given .1) (k .before .peek .ensures)
+    no-items most-dimensions (nextDim (a .version)) (a .s .now) (bytes-of _ (k .before .before .before .shared-slice-known .given)) (a .at) ((AllDims (a .version)) (a .at) (a .nodes .now) (a .dims .now)) (k .count .ensures) (p .p .given .1) (k .before .peek .ensures)
     (kept-off (rw (c .before .r2 .given .1) at (m .all .ensures))))
     (λ c. search needs)
     (λ c.
@@ -40,5 +40,5 @@ section-spec =
     let a = k .before .before .before .before .args in
     let b = bytes-of _ (k .before .before .before .shared-slice-known .given) in
     let r = kept-on (rw (c .before .q .given .1) at (m .all .ensures)) in
-    the-items most-dimensions nextDim (a .s .now) b (a .at) (AllDims (a .at) (a .nodes .now) (a .dims .now)) (k .count .ensures) (p .p .given .1) (k .before .peek .ensures) (r .tree) (r .is)
-    (the-dims (ends-at most-dimensions nextDim (a .s .now) b (a .at) (AllDims (a .at) (a .nodes .now) (a .dims .now)) (k .count .ensures) (p .p .given .1) (k .before .peek .ensures)) (r .keeps))))
+    the-items most-dimensions (nextDim (a .version)) (a .s .now) b (a .at) ((AllDims (a .version)) (a .at) (a .nodes .now) (a .dims .now)) (k .count .ensures) (p .p .given .1) (k .before .peek .ensures) (r .tree) (r .is)
+    ((the-dims (a .version)) (ends-at most-dimensions (nextDim (a .version)) (a .s .now) b (a .at) ((AllDims (a .version)) (a .at) (a .nodes .now) (a .dims .now)) (k .count .ensures) (p .p .given .1) (k .before .peek .ensures)) (r .keeps))))
