@@ -1,4 +1,4 @@
-/* Digarumbi: reads version 3 light detail members and binary table looks (.tlo).
+/* Digarumbi: reads light detail members, version 1 and 3, and binary table looks (.tlo).
  *
  * "01", "02", "002" and "003" below are the papers that the library follows: document 01 (the rules), document 02 (changes to them), source
  * document 002 (looks) and source document 003 (members).
@@ -39,7 +39,8 @@ uint32_t digarumbi_abi(void);
  *    1   member too long                                                          0
  *    2   a field doesn't fit in the input or its region                           first byte of the field
  *    3   a fixed byte, fixed number, mark or area index differs                   the field
- *    4   version not 3 (look: not 00 or 02)                                       version
+ *    4   version neither 1 nor 3; in version 1 also a value's modifier that       version / that 31
+ *        begins 31; look: version not 00 or 02
  *    5   a bool neither 0 nor 1                                                   the byte
  *    6   a region's content ends early                                            first byte left in it
  *    7   a limit passed                                                           see below
@@ -68,6 +69,10 @@ uint32_t digarumbi_abi(void);
 
 /* ---- Members ---- */
 
+/* The version of an accepted member, 1 or 3, is the number in its bytes 2 to 5, little-endian; the answer has no word for it, and its words
+ * are the same for both versions. A value of a version 1 member may not have a modifier that begins 31: its long form there can't be read
+ * one way only (02, T-03). */
+
 /* Words of a member's answer. */
 enum {
     DIGARUMBI_REFUSAL = 0,         /* 0 if the member is accepted */
@@ -95,7 +100,8 @@ enum {
  *   5  leaf index of a leaf, number of direct children of a group
  *   6  number of nodes that it contains at any depth, itself included: 1 for a leaf and for an empty group
  * The nodes below node i are exactly the records directly after it, as many as word 6 less one.
- * A cell record has 3 words, in file order: index; place and length of its Value.
+ * A cell record has 3 words, in file order: index; place and length of its Value, its leading 00 bytes included (0 to 5 of them in
+ * version 1, 0 to 4 in version 3).
  *
  * A cell's index (003, Cells): k = 0; for each dimension i from the first to the last, k = n_i * k + x_i. The coordinate x_i is the leaf
  * index of the cell's category in dimension i. */

@@ -4,7 +4,8 @@ use crate::cursor::{Cursor, Span};
 use crate::limits::CELLS;
 use crate::refusal::*;
 use crate::seen::Seen;
-use crate::value::value;
+use crate::value::cell_value;
+use crate::version::Version;
 
 pub struct Cell {
     pub index: u32,
@@ -17,20 +18,29 @@ pub fn cell_index(leaves: &[u32], coordinates: &[u32]) -> u64 {
 }
 
 /// Reads the cells of a table with `table_places` places.
-pub fn cells(cursor: &mut Cursor, table_places: u64) -> Result<Vec<Cell>, Refusal> {
+pub fn cells(
+    cursor: &mut Cursor,
+    version: Version,
+    table_places: u64,
+) -> Result<Vec<Cell>, Refusal> {
     let place = cursor.place();
     let count = cursor.int32()?;
     refuse_if(count > CELLS, LIMIT, place)?;
     let mut seen = Seen::none(count, table_places);
-    (0..count).map(|_| cell(cursor, table_places, &mut seen)).collect()
+    (0..count).map(|_| cell(cursor, version, table_places, &mut seen)).collect()
 }
 
-fn cell(cursor: &mut Cursor, table_places: u64, seen: &mut Seen) -> Result<Cell, Refusal> {
+fn cell(
+    cursor: &mut Cursor,
+    version: Version,
+    table_places: u64,
+    seen: &mut Seen,
+) -> Result<Cell, Refusal> {
     let place = cursor.place();
     let index = cursor.int64()?;
     let bad = index >= table_places || !seen.insert(index);
     refuse_if(bad, CELL_INDEX, place)?;
-    let value = value(cursor)?;
+    let value = cell_value(cursor, version)?;
     // The index is below the number of places, which is below 2^32.
     Ok(Cell { index: index as u32, value })
 }
@@ -56,7 +66,7 @@ mod tests {
     }
 
     fn read(bytes: &[u8], table_places: u64) -> Result<usize, Refusal> {
-        Ok(cells(&mut Cursor::new(bytes), table_places)?.len())
+        Ok(cells(&mut Cursor::new(bytes), Version::Three, table_places)?.len())
     }
 
     #[test]

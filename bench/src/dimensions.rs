@@ -4,6 +4,7 @@ use crate::cursor::{Cursor, Span};
 use crate::limits::{CATEGORY_DEPTH, DIMENSIONS, NODES};
 use crate::refusal::*;
 use crate::value::value;
+use crate::version::Version;
 
 /// Parent of a category that stands directly in its dimension.
 pub const NO_PARENT: u32 = u32::MAX;
@@ -43,22 +44,27 @@ struct LeafIndex {
     place: usize,
 }
 
-pub fn dimensions(cursor: &mut Cursor) -> Result<Dimensions, Refusal> {
+pub fn dimensions(cursor: &mut Cursor, version: Version) -> Result<Dimensions, Refusal> {
     let place = cursor.place();
     let count = cursor.int32()?;
     refuse_if(count as usize > DIMENSIONS, LIMIT, place)?;
     let mut result = Dimensions::default();
     for _ in 0..count {
-        dimension(cursor, &mut result)?;
+        dimension(cursor, version, &mut result)?;
     }
     Ok(result)
 }
 
-fn dimension(cursor: &mut Cursor, result: &mut Dimensions) -> Result<(), Refusal> {
-    let name = value(cursor)?;
+fn dimension(
+    cursor: &mut Cursor,
+    version: Version,
+    result: &mut Dimensions,
+) -> Result<(), Refusal> {
+    let name = value(cursor, version)?;
     dimension_properties(cursor)?;
     let first_node = result.nodes.len() as u32;
     let mut reader = CategoryReader {
+        version,
         dimension: result.dimensions.len() as u32,
         nodes: &mut result.nodes,
         leaf_indexes: Vec::new(),
@@ -96,6 +102,7 @@ fn check_leaf_indexes(leaf_indexes: &[LeafIndex]) -> Result<(), Refusal> {
 
 /// Reads the categories of one dimension.
 struct CategoryReader<'a> {
+    version: Version,
     dimension: u32,
     nodes: &'a mut Vec<Node>,
     leaf_indexes: Vec<LeafIndex>,
@@ -121,7 +128,7 @@ impl CategoryReader<'_> {
     fn category(&mut self, cursor: &mut Cursor, parent: u32, depth: u32) -> Result<u32, Refusal> {
         let limit_passed = self.nodes.len() >= NODES || depth > CATEGORY_DEPTH;
         refuse_if(limit_passed, LIMIT, cursor.place())?;
-        let name = value(cursor)?;
+        let name = value(cursor, self.version)?;
         let place = cursor.place();
         match cursor.three_bytes()? {
             [0, 0, 0] => self.leaf(cursor, parent, name),

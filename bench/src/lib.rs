@@ -1,5 +1,5 @@
-//! Reference readers for version 3 light detail members and binary table looks,
-//! with generators of inputs for them.
+//! Reference readers for light detail members, version 1 and 3, and binary table
+//! looks, with generators of inputs for them.
 
 pub mod axes;
 pub mod cells;
@@ -22,3 +22,4 @@ pub mod titles;
 pub mod units;
 pub mod value;
 pub mod vectors;
+pub mod version;

@@ -6,6 +6,7 @@ use crate::cursor::Cursor;
 use crate::dimensions::{dimensions, Dimension, Dimensions, Node, NodeKind};
 use crate::limits::{DIMENSIONS, MEMBER_BYTES};
 use crate::refusal::*;
+use crate::version::Version;
 use crate::{sections, titles};
 
 pub const NODE_WORDS: usize = 7;
@@ -32,16 +33,15 @@ pub struct Answer {
     pub axis_order: [u32; DIMENSIONS],
 }
 
-type Section = fn(&mut Cursor) -> Result<(), Refusal>;
+type Section = fn(&mut Cursor, Version) -> Result<(), Refusal>;
 
-/// The sections before Dimensions, in file order.
-const SECTIONS: [Section; 8] = [
-    titles::header,
+/// The sections between Header and Dimensions, in file order.
+const SECTIONS: [Section; 7] = [
     titles::titles,
     titles::footnotes,
     sections::areas,
-    sections::borders,
-    sections::print_settings,
+    |cursor, _| sections::borders(cursor),
+    |cursor, _| sections::print_settings(cursor),
     sections::table_settings,
     sections::formats,
 ];
@@ -69,13 +69,14 @@ pub fn read_member(member: &[u8], nodes: &mut [u32], cells: &mut [u32]) -> Answe
 fn parse(member: &[u8]) -> Result<Member, Refusal> {
     refuse_if(member.len() > MEMBER_BYTES, TOO_LONG, 0)?;
     let mut cursor = Cursor::new(member);
+    let version = titles::header(&mut cursor)?;
     for section in SECTIONS {
-        section(&mut cursor)?;
+        section(&mut cursor, version)?;
     }
-    let dimensions = dimensions(&mut cursor)?;
+    let dimensions = dimensions(&mut cursor, version)?;
     let leaves: Vec<u32> = dimensions.dimensions.iter().map(|d| d.leaves).collect();
     let axes = axes(&mut cursor, &leaves)?;
-    let cells = cells(&mut cursor, axes.table_places)?;
+    let cells = cells(&mut cursor, version, axes.table_places)?;
     cursor.optional_byte(0x01);
     cursor.input_end()?;
     Ok(Member { dimensions, axes, cells })
@@ -84,17 +85,20 @@ fn parse(member: &[u8]) -> Result<Member, Refusal> {
 /// The place after each section before Dimensions, as far as they are read.
 pub fn section_ends(member: &[u8]) -> (Vec<usize>, Option<Refusal>) {
     let mut ends = Vec::new();
-    if let Err(refusal) = refuse_if(member.len() > MEMBER_BYTES, TOO_LONG, 0) {
-        return (ends, Some(refusal));
-    }
+    let refusal = push_section_ends(member, &mut ends).err();
+    (ends, refusal)
+}
+
+fn push_section_ends(member: &[u8], ends: &mut Vec<usize>) -> Result<(), Refusal> {
+    refuse_if(member.len() > MEMBER_BYTES, TOO_LONG, 0)?;
     let mut cursor = Cursor::new(member);
+    let version = titles::header(&mut cursor)?;
+    ends.push(cursor.place());
     for section in SECTIONS {
-        if let Err(refusal) = section(&mut cursor) {
-            return (ends, Some(refusal));
-        }
+        section(&mut cursor, version)?;
         ends.push(cursor.place());
     }
-    (ends, None)
+    Ok(())
 }
 
 fn refused(refusal: Refusal) -> Answer {

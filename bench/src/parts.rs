@@ -23,7 +23,7 @@ pub enum Section {
 pub struct Parts([Vec<u8>; 12]);
 
 impl Parts {
-    /// The shortest accepted member.
+    /// The shortest accepted member of version 3.
     pub fn shortest() -> Parts {
         Parts([
             header(),
@@ -39,6 +39,20 @@ impl Parts {
             list(&[]),
             Vec::new(),
         ])
+    }
+
+    /// The shortest accepted member of version 1.
+    pub fn shortest_version_1() -> Parts {
+        Parts::shortest().in_version_1()
+    }
+
+    /// The same member in version 1: areas without margins, and the regions of TableSettings and
+    /// Formats empty.
+    pub fn in_version_1(self) -> Parts {
+        self.with(Section::Header, header_version_1())
+            .with(Section::Areas, areas_version_1())
+            .with(Section::TableSettings, count(&[]))
+            .with(Section::Formats, formats_version_1(&[]))
     }
 
     /// The shortest member with another content of one section.
@@ -75,6 +89,13 @@ pub fn header() -> Vec<u8> {
     bytes
 }
 
+/// The same with version 1.
+pub fn header_version_1() -> Vec<u8> {
+    let mut bytes = header();
+    bytes[2] = 1;
+    bytes
+}
+
 /// The shortest Value: a template without text and arguments, 9 bytes.
 pub fn template() -> Vec<u8> {
     [vec![0x58], string(b""), list(&[])].concat()
@@ -102,6 +123,15 @@ pub fn area(index: u8) -> Vec<u8> {
 
 pub fn areas() -> Vec<u8> {
     (1..=8).flat_map(area).collect()
+}
+
+/// An area of version 1, without text and margins, 40 bytes.
+pub fn area_version_1(index: u8) -> Vec<u8> {
+    area(index)[..40].to_vec()
+}
+
+pub fn areas_version_1() -> Vec<u8> {
+    (1..=8).flat_map(area_version_1).collect()
 }
 
 /// The content of Borders.
@@ -148,6 +178,24 @@ pub fn formats_start() -> Vec<u8> {
     bytes.extend(int32(1948));
     bytes.extend(b".,");
     bytes.extend(list(&[]));
+    bytes
+}
+
+/// Formats of version 1 with this content of its outer region, which starts at 29.
+pub fn formats_version_1(region: &[u8]) -> Vec<u8> {
+    [formats_start(), count(region)].concat()
+}
+
+/// 50 bytes without text and currencies: after 14 bytes five strings from 14 on, four bools from 34
+/// on, six bytes, the currencies from 44 on, `missing` at 48 and the last bool at 49.
+pub fn x0() -> Vec<u8> {
+    let mut bytes: Vec<u8> = (0..14).collect();
+    bytes.extend(string(b"").repeat(5));
+    bytes.extend([0, 1, 1, 1]);
+    bytes.extend(int32(1948));
+    bytes.extend(b".,");
+    bytes.extend(list(&[]));
+    bytes.extend([b'.', 0]);
     bytes
 }
 

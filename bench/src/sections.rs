@@ -3,13 +3,14 @@
 use crate::cursor::Cursor;
 use crate::refusal::*;
 use crate::value::style_pair;
+use crate::version::Version;
 
-pub fn areas(cursor: &mut Cursor) -> Result<(), Refusal> {
+pub fn areas(cursor: &mut Cursor, version: Version) -> Result<(), Refusal> {
     cursor.optional_byte(0x00);
-    (1..=8).try_for_each(|index| area(cursor, index))
+    (1..=8).try_for_each(|index| area(cursor, version, index))
 }
 
-fn area(cursor: &mut Cursor, index: u8) -> Result<(), Refusal> {
+fn area(cursor: &mut Cursor, version: Version, index: u8) -> Result<(), Refusal> {
     cursor.fixed_byte(index)?;
     cursor.fixed_byte(0x31)?;
     cursor.string()?;
@@ -23,6 +24,13 @@ fn area(cursor: &mut Cursor, index: u8) -> Result<(), Refusal> {
     cursor.bool()?;
     cursor.string()?;
     cursor.string()?;
+    match version {
+        Version::One => Ok(()),
+        Version::Three => margins(cursor),
+    }
+}
+
+fn margins(cursor: &mut Cursor) -> Result<(), Refusal> {
     for _ in 0..4 {
         cursor.int32()?;
     }
@@ -59,19 +67,26 @@ pub fn print_settings(cursor: &mut Cursor) -> Result<(), Refusal> {
     region.region_end()
 }
 
-/// The bytes after the look's name are free.
-pub fn table_settings(cursor: &mut Cursor) -> Result<(), Refusal> {
+/// The bytes after the look's name are free; in version 1 all bytes of the region are.
+pub fn table_settings(cursor: &mut Cursor, version: Version) -> Result<(), Refusal> {
     let mut region = cursor.count()?;
-    region.fixed_be32(1)?;
-    region.be32()?;
-    region.be32()?;
-    for _ in 0..4 {
-        region.bool()?;
+    match version {
+        Version::One => Ok(()),
+        Version::Three => table_settings_content(&mut region),
     }
-    region.byte()?;
-    breaks_and_keeps(&mut region)?;
-    region.bestring()?;
-    region.bestring()?;
+}
+
+fn table_settings_content(cursor: &mut Cursor) -> Result<(), Refusal> {
+    cursor.fixed_be32(1)?;
+    cursor.be32()?;
+    cursor.be32()?;
+    for _ in 0..4 {
+        cursor.bool()?;
+    }
+    cursor.byte()?;
+    breaks_and_keeps(cursor)?;
+    cursor.bestring()?;
+    cursor.bestring()?;
     Ok(())
 }
 
@@ -94,7 +109,7 @@ fn be32_entries(cursor: &mut Cursor, numbers_per_entry: u32) -> Result<(), Refus
     Ok(())
 }
 
-pub fn formats(cursor: &mut Cursor) -> Result<(), Refusal> {
+pub fn formats(cursor: &mut Cursor, version: Version) -> Result<(), Refusal> {
     int32_entries(cursor)?;
     cursor.string()?;
     cursor.int32()?;
@@ -104,10 +119,51 @@ pub fn formats(cursor: &mut Cursor) -> Result<(), Refusal> {
     y0(cursor)?;
     custom_currency(cursor)?;
     let mut region = cursor.count()?;
-    x1_and_x2(&mut region)?;
-    // X3: a region with free content.
-    region.count()?;
+    match version {
+        Version::One => optional_x0(&mut region)?,
+        Version::Three => x1_to_x3(&mut region)?,
+    }
     region.region_end()
+}
+
+/// X0 is there if the region has a byte.
+fn optional_x0(cursor: &mut Cursor) -> Result<(), Refusal> {
+    if cursor.has_byte() {
+        x0(cursor)?;
+    }
+    Ok(())
+}
+
+fn x0(cursor: &mut Cursor) -> Result<(), Refusal> {
+    for _ in 0..14 {
+        cursor.byte()?;
+    }
+    y1(cursor)?;
+    y2(cursor)
+}
+
+fn y1(cursor: &mut Cursor) -> Result<(), Refusal> {
+    for _ in 0..5 {
+        cursor.string()?;
+    }
+    for _ in 0..4 {
+        cursor.bool()?;
+    }
+    y0(cursor)
+}
+
+fn y2(cursor: &mut Cursor) -> Result<(), Refusal> {
+    custom_currency(cursor)?;
+    cursor.byte()?;
+    cursor.bool()?;
+    Ok(())
+}
+
+fn x1_to_x3(cursor: &mut Cursor) -> Result<(), Refusal> {
+    x1_and_x2(cursor)?;
+    // X3: a region with free content.
+    cursor.count()?;
+    Ok(())
 }
 
 fn int32_entries(cursor: &mut Cursor) -> Result<(), Refusal> {

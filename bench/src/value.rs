@@ -3,61 +3,80 @@
 use crate::cursor::{Cursor, Span};
 use crate::limits::VALUE_DEPTH;
 use crate::refusal::*;
+use crate::version::Version;
+
+/// The most zero bytes before a raw form, but for a cell's own Value.
+const ZEROS: usize = 4;
 
 /// A Value that is not part of another Value.
-pub fn value(cursor: &mut Cursor) -> Result<Span, Refusal> {
-    value_at_depth(cursor, 1)
+pub fn value(cursor: &mut Cursor, version: Version) -> Result<Span, Refusal> {
+    value_at_depth(cursor, version, 1)
 }
 
-fn value_at_depth(cursor: &mut Cursor, depth: u32) -> Result<Span, Refusal> {
+/// A cell's own Value, with all the zero bytes before it.
+pub fn cell_value(cursor: &mut Cursor, version: Version) -> Result<Span, Refusal> {
+    value_after_zeros(cursor, version, version.cell_zeros(), 1)
+}
+
+fn value_at_depth(cursor: &mut Cursor, version: Version, depth: u32) -> Result<Span, Refusal> {
+    refuse_if(depth > VALUE_DEPTH, LIMIT, cursor.place())?;
+    value_after_zeros(cursor, version, ZEROS, depth)
+}
+
+/// A Value at `depth` with at most `zeros` zero bytes before its raw form.
+fn value_after_zeros(
+    cursor: &mut Cursor,
+    version: Version,
+    zeros: usize,
+    depth: u32,
+) -> Result<Span, Refusal> {
     let place = cursor.place();
-    refuse_if(depth > VALUE_DEPTH, LIMIT, place)?;
-    cursor.zero_run(4);
-    raw_value(cursor, depth)?;
+    cursor.zero_run(zeros);
+    raw_value(cursor, version, depth)?;
     Ok(cursor.span_from(place))
 }
 
-fn raw_value(cursor: &mut Cursor, depth: u32) -> Result<(), Refusal> {
+fn raw_value(cursor: &mut Cursor, version: Version, depth: u32) -> Result<(), Refusal> {
     let place = cursor.place();
     match cursor.byte()? {
-        0x01 => number(cursor),
-        0x02 => labelled_number(cursor),
-        0x03 => text_with_fixed(cursor),
-        0x04 => labelled_string(cursor),
-        0x05 => variable(cursor),
-        0x06 => text(cursor),
+        0x01 => number(cursor, version),
+        0x02 => labelled_number(cursor, version),
+        0x03 => text_with_fixed(cursor, version),
+        0x04 => labelled_string(cursor, version),
+        0x05 => variable(cursor, version),
+        0x06 => text(cursor, version),
         0x31 => {
-            value_mod_content(cursor)?;
-            template(cursor, depth)
+            long_value_mod(cursor, version, place)?;
+            template(cursor, version, depth)
         }
-        0x58 => template(cursor, depth),
+        0x58 => template(cursor, version, depth),
         _ => Err(Refusal::new(FIXED_DIFFERS, place)),
     }
 }
 
-fn number(cursor: &mut Cursor) -> Result<(), Refusal> {
-    value_mod(cursor)?;
+fn number(cursor: &mut Cursor, version: Version) -> Result<(), Refusal> {
+    value_mod(cursor, version)?;
     cursor.int32()?;
     cursor.double()?;
     Ok(())
 }
 
-fn labelled_number(cursor: &mut Cursor) -> Result<(), Refusal> {
-    number(cursor)?;
+fn labelled_number(cursor: &mut Cursor, version: Version) -> Result<(), Refusal> {
+    number(cursor, version)?;
     cursor.string()?;
     cursor.string()?;
     cursor.byte()?;
     Ok(())
 }
 
-fn text_with_fixed(cursor: &mut Cursor) -> Result<(), Refusal> {
-    text(cursor)?;
+fn text_with_fixed(cursor: &mut Cursor, version: Version) -> Result<(), Refusal> {
+    text(cursor, version)?;
     cursor.bool()?;
     Ok(())
 }
 
-fn labelled_string(cursor: &mut Cursor) -> Result<(), Refusal> {
-    value_mod(cursor)?;
+fn labelled_string(cursor: &mut Cursor, version: Version) -> Result<(), Refusal> {
+    value_mod(cursor, version)?;
     cursor.int32()?;
     cursor.string()?;
     cursor.string()?;
@@ -66,55 +85,57 @@ fn labelled_string(cursor: &mut Cursor) -> Result<(), Refusal> {
     Ok(())
 }
 
-fn variable(cursor: &mut Cursor) -> Result<(), Refusal> {
-    value_mod(cursor)?;
+fn variable(cursor: &mut Cursor, version: Version) -> Result<(), Refusal> {
+    value_mod(cursor, version)?;
     cursor.string()?;
     cursor.string()?;
     cursor.byte()?;
     Ok(())
 }
 
-fn text(cursor: &mut Cursor) -> Result<(), Refusal> {
+fn text(cursor: &mut Cursor, version: Version) -> Result<(), Refusal> {
     cursor.string()?;
-    value_mod(cursor)?;
+    value_mod(cursor, version)?;
     cursor.string()?;
     cursor.string()?;
     Ok(())
 }
 
 /// A template after its ValueMod.
-fn template(cursor: &mut Cursor, depth: u32) -> Result<(), Refusal> {
+fn template(cursor: &mut Cursor, version: Version, depth: u32) -> Result<(), Refusal> {
     cursor.string()?;
     let arguments = cursor.int32()?;
     for _ in 0..arguments {
-        argument(cursor, depth)?;
+        argument(cursor, version, depth)?;
     }
     Ok(())
 }
 
 /// An argument of a template that stands at `depth`.
-fn argument(cursor: &mut Cursor, depth: u32) -> Result<(), Refusal> {
+fn argument(cursor: &mut Cursor, version: Version, depth: u32) -> Result<(), Refusal> {
     let values = cursor.int32()?;
     if values == 0 {
-        value_at_depth(cursor, depth + 1)?;
+        value_at_depth(cursor, version, depth + 1)?;
         return Ok(());
     }
     cursor.fixed_int32(0)?;
     for _ in 0..values {
-        value_at_depth(cursor, depth + 1)?;
+        value_at_depth(cursor, version, depth + 1)?;
     }
     Ok(())
 }
 
-fn value_mod(cursor: &mut Cursor) -> Result<(), Refusal> {
+fn value_mod(cursor: &mut Cursor, version: Version) -> Result<(), Refusal> {
+    let place = cursor.place();
     if cursor.mark()? {
-        value_mod_content(cursor)?;
+        long_value_mod(cursor, version, place)?;
     }
     Ok(())
 }
 
-/// A ValueMod after its first byte 31.
-fn value_mod_content(cursor: &mut Cursor) -> Result<(), Refusal> {
+/// A ValueMod after its first byte 31, which stands at `place`. Version 1 is without it.
+fn long_value_mod(cursor: &mut Cursor, version: Version, place: usize) -> Result<(), Refusal> {
+    refuse_if(version == Version::One, VERSION, place)?;
     let references = cursor.int32()?;
     for _ in 0..references {
         cursor.int16()?;
@@ -195,7 +216,7 @@ mod tests {
     }
 
     fn read(bytes: &[u8]) -> Result<Span, Refusal> {
-        value(&mut Cursor::new(bytes))
+        value(&mut Cursor::new(bytes), Version::Three)
     }
 
     #[test]

@@ -1,9 +1,11 @@
 //! Generated members: accepted ones give the records they were made from.
 
 use digarumbi_bench::damage::damaged;
-use digarumbi_bench::generate::member;
+use digarumbi_bench::generate::{member, GeneratedMember};
 use digarumbi_bench::member::{read_member, section_ends, Answer, CELL_WORDS, NODE_WORDS};
 use digarumbi_bench::random::Random;
+use digarumbi_bench::refusal::VERSION;
+use digarumbi_bench::version::Version;
 
 const UNTOUCHED: u32 = 0x5555_aaaa;
 
@@ -19,6 +21,40 @@ fn generated_members_are_accepted() {
         assert_eq!(cells.pop(), Some(UNTOUCHED));
         assert_eq!((nodes, cells), (generated.nodes, generated.cells), "seed {seed}");
     }
+}
+
+/// Half of the members are of version 1, and these have all that version 3 has not.
+#[test]
+fn both_versions_are_generated() {
+    let members: Vec<_> = (0..3_000).map(|seed| member(&mut Random::new(seed))).collect();
+    let ones: Vec<_> = members.iter().filter(|member| member.version == Version::One).collect();
+    assert!((1_200..1_800).contains(&ones.len()));
+    assert!(members
+        .iter()
+        .all(|member| member.bytes[2..6] == member.version.number().to_le_bytes()));
+    let zeros = |member: &&GeneratedMember, place: u32| {
+        member.bytes[place as usize..].iter().take_while(|&&byte| byte == 0).count()
+    };
+    for number in 0..=5 {
+        let cell = |member: &&&GeneratedMember| {
+            member.cells.chunks(CELL_WORDS).any(|cell| zeros(member, cell[1]) == number)
+        };
+        assert!(ones.iter().any(|member| cell(&member)), "a cell after {number} zeros");
+    }
+    // The regions of TableSettings and Formats, by the places after the sections before them.
+    let region = |member: &GeneratedMember, section: usize| {
+        let (ends, _) = section_ends(&member.bytes);
+        ends[section] - ends[section - 1]
+    };
+    let settings: Vec<usize> = ones.iter().map(|member| region(member, 6) - 4).collect();
+    assert!(settings.iter().any(|&length| length > 100));
+    assert!((0..=3).all(|length| settings.contains(&length)));
+    let formats_empty = |member: &&&GeneratedMember| {
+        let (ends, _) = section_ends(&member.bytes);
+        member.bytes[ends[7] - 4..ends[7]] == [0; 4]
+    };
+    let empty = ones.iter().filter(formats_empty).count();
+    assert!(0 < empty && empty < ones.len());
 }
 
 #[test]
@@ -48,6 +84,7 @@ fn check_refusal(bytes: &[u8], answer: &Answer) {
 #[test]
 fn damaged_members_leave_the_areas_when_refused() {
     let mut numbers = [0; 19];
+    let mut long_value_mods = 0;
     for seed in 0..20_000 {
         let mut random = Random::new(seed);
         let bytes = damaged(&member(&mut random).bytes, &mut random);
@@ -55,6 +92,7 @@ fn damaged_members_leave_the_areas_when_refused() {
         let mut cells = vec![UNTOUCHED; CELL_WORDS * 4_096];
         let answer = read_member(&bytes, &mut nodes, &mut cells);
         numbers[answer.refusal as usize] += 1;
+        long_value_mods += u32::from(answer.refusal == VERSION && answer.place > 2);
         if answer.refusal != 0 {
             check_refusal(&bytes, &answer);
             assert!(nodes.iter().chain(&cells).all(|&word| word == UNTOUCHED));
@@ -62,4 +100,5 @@ fn damaged_members_leave_the_areas_when_refused() {
     }
     println!("number of members for each refusal number: {numbers:?}");
     assert!((2..=11).chain([18]).all(|number| numbers[number] > 0));
+    assert!(long_value_mods > 0);
 }

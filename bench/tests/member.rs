@@ -28,7 +28,8 @@ fn first_bytes() {
     assert_refused(&[], 2, 0);
     assert_refused(&[1], 2, 1);
     assert_refused(&[0], 3, 0);
-    assert_refused(&[1, 0, 1, 0, 0, 0], 4, 2);
+    assert_refused(&[1, 0, 1, 0, 0, 0], 2, 6);
+    assert_refused(&[1, 0, 2, 0, 0, 0], 4, 2);
     assert_refused(&[1, 0, 3, 0, 0, 0, 2], 5, 6);
 }
 
@@ -76,6 +77,20 @@ fn records_of_an_accepted_member() {
     let cell = parts.start(Section::Cells) as u32 + 4;
     let expected_cells = [1, cell + 8, 9, 0, cell + 17 + 8, 9, UNTOUCHED];
     assert_eq!(cells, expected_cells);
+}
+
+/// The record of a cell of version 1 starts at the first zero byte, and its length counts them.
+#[test]
+fn records_of_a_member_of_version_1() {
+    let zeros = |index: u8, zeros: usize| [vec![index], vec![0; 7 + zeros], template()].concat();
+    let content = list(&[zeros(1, 5), zeros(0, 0)]);
+    let parts = example().in_version_1().with(Section::Cells, content);
+    let (answer, nodes, cells) = read(&parts.bytes(), 4 * NODE_WORDS, 2 * CELL_WORDS);
+    assert_eq!((answer.refusal, answer.node_count, answer.cell_count), (0, 4, 2));
+    let first = parts.start(Section::Dimensions) as u32 + 4;
+    assert_eq!((nodes[3], nodes[4]), (first + 26, 9));
+    let cell = parts.start(Section::Cells) as u32 + 4;
+    assert_eq!(cells, [1, cell + 8, 14, 0, cell + 22 + 8, 9]);
 }
 
 #[test]

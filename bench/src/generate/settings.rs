@@ -4,16 +4,17 @@ use super::field::*;
 use super::value::style_pair;
 use crate::encode;
 use crate::random::Random;
+use crate::version::Version;
 
-pub fn areas(random: &mut Random) -> Vec<u8> {
+pub fn areas(random: &mut Random, version: Version) -> Vec<u8> {
     let mut bytes = optional_byte(random, 0x00);
     for index in 1..=8 {
-        bytes.extend(area(random, index));
+        bytes.extend(area(random, version, index));
     }
     bytes
 }
 
-fn area(random: &mut Random, index: u8) -> Vec<u8> {
+fn area(random: &mut Random, version: Version, index: u8) -> Vec<u8> {
     let mut bytes = vec![index, 0x31];
     bytes.extend(string(random));
     bytes.extend(random.bytes(4));
@@ -23,7 +24,9 @@ fn area(random: &mut Random, index: u8) -> Vec<u8> {
     bytes.extend(strings(random, 2));
     bytes.extend(bools(random, 1));
     bytes.extend(strings(random, 2));
-    bytes.extend(int32s(random, 4));
+    if version == Version::Three {
+        bytes.extend(int32s(random, 4));
+    }
     bytes
 }
 
@@ -40,7 +43,28 @@ pub fn print_settings(random: &mut Random) -> Vec<u8> {
     encode::count(&content.concat())
 }
 
-pub fn table_settings(random: &mut Random) -> Vec<u8> {
+pub fn table_settings(random: &mut Random, version: Version) -> Vec<u8> {
+    let content = match version {
+        Version::One => free_table_settings(random),
+        Version::Three => table_settings_content(random),
+    };
+    encode::count(&content)
+}
+
+/// Any bytes, often none or the content of version 3.
+fn free_table_settings(random: &mut Random) -> Vec<u8> {
+    match random.below(4) {
+        0 => Vec::new(),
+        1 => table_settings_content(random),
+        2 => {
+            let length = random.size(200);
+            random.bytes(length)
+        }
+        _ => free_content(random),
+    }
+}
+
+fn table_settings_content(random: &mut Random) -> Vec<u8> {
     let mut content = encode::be32(1);
     content.extend(int32s(random, 2));
     content.extend(bools(random, 4));
@@ -49,7 +73,7 @@ pub fn table_settings(random: &mut Random) -> Vec<u8> {
     content.extend(bestring(random));
     content.extend(bestring(random));
     content.extend(free_content(random));
-    encode::count(&content)
+    content
 }
 
 fn breaks_and_keeps(random: &mut Random) -> Vec<u8> {
@@ -66,19 +90,48 @@ fn free_content(random: &mut Random) -> Vec<u8> {
     random.bytes(length)
 }
 
-pub fn formats(random: &mut Random) -> Vec<u8> {
+pub fn formats(random: &mut Random, version: Version) -> Vec<u8> {
     let mut bytes = list(random, 3, int32);
     bytes.extend(string(random));
     bytes.extend(int32(random));
     bytes.extend(bools(random, 3));
-    bytes.extend(int32(random));
-    bytes.extend(random.bytes(2));
-    bytes.extend(list(random, 5, string));
-    let x1_and_x2 = [x1(random), encode::count(&x2(random))].concat();
-    let x3 = free_content(random);
-    let region = [encode::count(&x1_and_x2), encode::count(&x3)].concat();
+    bytes.extend(y0(random));
+    bytes.extend(custom_currency(random));
+    let region = match version {
+        Version::One => optional_x0(random),
+        Version::Three => x1_to_x3(random),
+    };
     bytes.extend(encode::count(&region));
     bytes
+}
+
+fn y0(random: &mut Random) -> Vec<u8> {
+    [int32(random), random.bytes(2)].concat()
+}
+
+fn custom_currency(random: &mut Random) -> Vec<u8> {
+    list(random, 5, string)
+}
+
+fn optional_x0(random: &mut Random) -> Vec<u8> {
+    if random.once_in(3) {
+        return Vec::new();
+    }
+    [random.bytes(14), y1(random), y2(random)].concat()
+}
+
+fn y1(random: &mut Random) -> Vec<u8> {
+    [strings(random, 5), bools(random, 4), y0(random)].concat()
+}
+
+fn y2(random: &mut Random) -> Vec<u8> {
+    [custom_currency(random), vec![random.byte()], bools(random, 1)].concat()
+}
+
+fn x1_to_x3(random: &mut Random) -> Vec<u8> {
+    let x1_and_x2 = [x1(random), encode::count(&x2(random))].concat();
+    let x3 = free_content(random);
+    [encode::count(&x1_and_x2), encode::count(&x3)].concat()
 }
 
 fn x1(random: &mut Random) -> Vec<u8> {

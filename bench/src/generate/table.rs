@@ -1,12 +1,13 @@
 //! Random Dimensions, Axes and Cells, with the records that belong to them.
 
 use super::field::*;
-use super::value::value;
+use super::value::{cell_value, value};
 use super::GeneratedMember;
 use crate::encode;
 use crate::limits::{CATEGORY_DEPTH, TABLE_PLACES};
 use crate::member::{Answer, DimensionAnswer};
 use crate::random::Random;
+use crate::version::Version;
 
 /// A category without its name and leaf index.
 enum Category {
@@ -36,9 +37,9 @@ fn leaves(categories: &[Category]) -> u32 {
 }
 
 /// Appends Dimensions, Axes and Cells to the sections before them.
-pub fn append_table(bytes: Vec<u8>, random: &mut Random) -> GeneratedMember {
-    let mut member =
-        GeneratedMember { bytes, answer: Answer::default(), nodes: Vec::new(), cells: Vec::new() };
+pub fn append_table(bytes: Vec<u8>, version: Version, random: &mut Random) -> GeneratedMember {
+    let (nodes, cells) = (Vec::new(), Vec::new());
+    let mut member = GeneratedMember { version, bytes, answer: Answer::default(), nodes, cells };
     let (dimensions, table_places) = shapes(random);
     member.bytes.extend(encode::int32(dimensions.len() as u32));
     for categories in &dimensions {
@@ -111,7 +112,8 @@ fn random_ending(random: &mut Random) -> Category {
 
 fn append_dimension(member: &mut GeneratedMember, categories: &[Category], random: &mut Random) {
     let dimension = member.answer.dimension_count;
-    let (name_place, name_length) = append_value(member, random);
+    let name = value(random, member.version);
+    let (name_place, name_length) = append_value(member, &name);
     append_dimension_properties(member, random);
     let first_node = member.answer.node_count;
     let mut leaf_indexes: Vec<u32> = (0..leaves(categories)).collect();
@@ -122,11 +124,11 @@ fn append_dimension(member: &mut GeneratedMember, categories: &[Category], rando
     member.answer.dimension_count += 1;
 }
 
-fn append_value(member: &mut GeneratedMember, random: &mut Random) -> (u32, u32) {
-    let name = value(random);
+/// The place and the length of the Value.
+fn append_value(member: &mut GeneratedMember, value: &[u8]) -> (u32, u32) {
     let place = member.bytes.len() as u32;
-    member.bytes.extend(&name);
-    (place, name.len() as u32)
+    member.bytes.extend(value);
+    (place, value.len() as u32)
 }
 
 fn append_dimension_properties(member: &mut GeneratedMember, random: &mut Random) {
@@ -157,7 +159,8 @@ fn append_category(
     leaf_indexes: &mut Vec<u32>,
     random: &mut Random,
 ) {
-    let (place, length) = append_value(member, random);
+    let name = value(random, member.version);
+    let (place, length) = append_value(member, &name);
     let number = member.answer.node_count;
     let dimension = member.answer.dimension_count;
     member.answer.node_count += 1;
@@ -200,7 +203,8 @@ fn append_cells(member: &mut GeneratedMember, table_places: u64, random: &mut Ra
     member.bytes.extend(encode::int32(indexes.len() as u32));
     for &index in &indexes {
         member.bytes.extend(encode::int64(index));
-        let (place, length) = append_value(member, random);
+        let value = cell_value(random, member.version);
+        let (place, length) = append_value(member, &value);
         member.cells.extend([index as u32, place, length]);
     }
     member.answer.cell_count = indexes.len() as u32;

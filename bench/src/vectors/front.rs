@@ -17,7 +17,7 @@ fn header_cases(cases: &mut Cases) {
     cases.refuse_bytes("header_one_byte", 2, &[1], 1);
     cases.refuse_bytes("header_first_byte", 3, &[0], 0);
     cases.refuse_bytes("header_second_byte", 3, &[1, 1, 3, 0, 0, 0], 1);
-    cases.refuse_bytes("header_version_1", 4, &[1, 0, 1, 0, 0, 0], 2);
+    cases.refuse_bytes("header_version_1", 2, &[1, 0, 1, 0, 0, 0], 6);
     cases.refuse_bytes("header_version_cut", 2, &[1, 0, 1, 0, 0], 2);
     cases.refuse_bytes("header_bool", 5, &[1, 0, 3, 0, 0, 0, 2], 6);
     let shortest = Parts::shortest();

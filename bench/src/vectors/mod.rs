@@ -6,6 +6,7 @@ mod front;
 mod selection;
 mod settings;
 mod values;
+mod version_1;
 mod zeros;
 
 use crate::parts::{Parts, Section};
@@ -73,6 +74,7 @@ pub fn cases() -> Vec<Case> {
     dimensions::add(&mut cases);
     cells::add(&mut cases);
     zeros::add(&mut cases);
+    version_1::add(&mut cases);
     cases.0
 }
 

@@ -41,6 +41,22 @@ pub fn member_with_large_indexes(indexes: &[u64]) -> Vec<u8> {
     table_with_cells(&leaves, indexes)
 }
 
+/// The same in version 1, with five zero bytes before the raw form of each cell's Value.
+pub fn version_1_with_cells(indexes: &[u64]) -> Vec<u8> {
+    let value = |index: u64| [vec![0; 5], number(index as f64)].concat();
+    let cells: Vec<Vec<u8>> =
+        indexes.iter().map(|&index| [int64(index), value(index)].concat()).collect();
+    table(&[64, 64], &[]).in_version_1().with(Section::Cells, list(&cells)).bytes()
+}
+
+/// A member of version 1 of exactly this many bytes, at least 1,000, nearly all in the free region
+/// of TableSettings.
+pub fn version_1_with_free_bytes(bytes: usize) -> Vec<u8> {
+    let shortest = Parts::shortest_version_1();
+    let free = Random::new(1).bytes(bytes - shortest.bytes().len());
+    shortest.with(Section::TableSettings, count(&free)).bytes()
+}
+
 /// Indexes from 0 on, in ascending order.
 pub fn ascending(cells: u64) -> Vec<u64> {
     (0..cells).collect()
@@ -116,6 +132,15 @@ mod tests {
         let expected = "accepted 2 dims 128 nodes 256 cells";
         assert_eq!(read_line(&member_with_cells(&ascending(256))), expected);
         assert_eq!(read_line(&member_with_cells(&shuffled(256))), expected);
+    }
+
+    #[test]
+    fn version_1() {
+        let expected = "accepted 2 dims 128 nodes 256 cells";
+        assert_eq!(read_line(&version_1_with_cells(&shuffled(256))), expected);
+        let member = version_1_with_free_bytes(65_536);
+        assert_eq!(member.len(), 65_536);
+        assert_eq!(read_line(&member), "accepted 0 dims 0 nodes 0 cells");
     }
 
     #[test]

@@ -14,6 +14,8 @@ use crate::words;
 
 /// Every so many members are also read with the areas that always suffice.
 const FULL_AREAS_EVERY: u64 = 32;
+/// The first bytes of a member of version 1.
+const VERSION_1: [u8; 6] = [1, 0, 1, 0, 0, 0];
 /// Most nodes of a member whose names are asked for.
 const NAMES_ASKED: usize = 40;
 
@@ -73,6 +75,8 @@ pub struct MemberCheck {
     pub members: Tally,
     /// What all readings got.
     pub readings: Tally,
+    /// What readings of members got whose version is 1, whole and damaged ones.
+    pub version_1: Tally,
 }
 
 impl Check for MemberCheck {
@@ -108,6 +112,7 @@ impl MemberCheck {
             random: Random::new(seed),
             members: Tally::default(),
             readings: Tally::default(),
+            version_1: Tally::default(),
         }
     }
 
@@ -140,6 +145,9 @@ impl MemberCheck {
             .map_err(|difference| difference.with(format_args!("{lengths:?} in words")))?;
         if let Some(answer) = answer {
             self.readings.count(answer.refusal);
+            if member.starts_with(&VERSION_1) {
+                self.version_1.count(answer.refusal);
+            }
         }
         Ok(answer)
     }

@@ -1,7 +1,9 @@
 //! The table that the Rust bindings make of an accepted member.
 
 use digarumbi::{Axes, Cell, Dimension, Node, NodeKind, Table};
+use digarumbi_bench::cursor::Cursor;
 use digarumbi_bench::member::{Answer, CELL_WORDS, NODE_WORDS};
+use digarumbi_bench::titles::header;
 
 use crate::difference::Difference;
 
@@ -12,7 +14,9 @@ pub fn check_table(
     nodes: &[u32],
     cells: &[u32],
 ) -> Result<(), Difference> {
+    let version = header(&mut Cursor::new(member)).expect("an accepted member");
     let expected = Table {
+        version: version.number(),
         dimensions: dimensions(member, answer),
         axes: axes(answer),
         nodes: nodes

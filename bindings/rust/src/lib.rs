@@ -1,4 +1,4 @@
-//! Reads version 3 light detail members and binary table looks (.tlo).
+//! Reads light detail members, version 1 and 3, and binary table looks (.tlo).
 //!
 //! The work is done by a library in which every function is proved to meet its contract. This
 //! crate declares its functions ([`ffi`]), calls them on slices ([`lent`]), and turns their

@@ -11,6 +11,8 @@ const DIMENSIONS: usize = 8;
 const DIMENSION_WORDS: usize = 4;
 /// First word of the axis order in an answer.
 const AXIS_ORDER: usize = 72;
+/// Where the version stands in a member: four bytes, little-endian.
+const VERSION: Range<usize> = 2..6;
 /// What stands for the parent of a node that has none.
 const NO_PARENT: u32 = u32::MAX;
 
@@ -18,6 +20,9 @@ const NO_PARENT: u32 = u32::MAX;
 /// they stand in the member; `value_text` makes a text of most.
 #[derive(Clone, Debug, PartialEq, Eq)]
 pub struct Table<'a> {
+    /// The version of the member, 1 or 3. No word of the library's answer has it: it is read from
+    /// the member's own bytes 2 to 5, which an accepted member has.
+    pub version: u32,
     pub dimensions: Vec<Dimension<'a>>,
     pub axes: Axes,
     /// The nodes of all dimensions, in file order.
@@ -79,6 +84,7 @@ pub struct Axes {
 /// let member = std::fs::read("../../examples/spine_18.bin")?;
 /// let table = digarumbi::read_member(&member)?;
 /// assert_eq!((table.dimensions.len(), table.nodes.len(), table.cells.len()), (2, 9, 10));
+/// assert_eq!(table.version, 3);
 ///
 /// let refusal = digarumbi::read_member(&member[..1_000]).unwrap_err();
 /// assert_eq!(refusal.to_string(), "refused 2 at 911");
@@ -95,11 +101,17 @@ pub fn read_member(member: &[u8]) -> Result<Table<'_>, Refusal> {
     }
     cells.truncate(CELL_RECORD * cell_count as usize);
     Ok(Table {
+        version: version(member),
         dimensions: dimensions(member, &answer, dimension_count as usize, node_count as usize),
         axes: axes(&answer),
         nodes: node_records(member, &nodes, node_count as usize),
         cells: cells.chunks(CELL_RECORD).map(|record| cell(member, record)).collect(),
     })
+}
+
+/// The version of an accepted member.
+fn version(member: &[u8]) -> u32 {
+    u32::from_le_bytes(member[VERSION].try_into().expect("four bytes"))
 }
 
 /// The part of the member at `place`; the empty part if it does not lie inside.

@@ -17,6 +17,7 @@ fn dimensions_and_axes() {
     let expected = [("Statistics".to_string(), 5, 0..7), ("Variables".to_string(), 2, 7..9)];
     assert_eq!(dimensions, expected);
     assert_eq!(table.axes, Axes { layers: vec![], rows: vec![1], columns: vec![0] });
+    assert_eq!(table.version, 3);
 }
 
 #[test]
@@ -99,7 +100,8 @@ fn each_cell_is_under_one_leaf_of_each_dimension() {
 #[test]
 fn refusals() {
     assert_eq!(read_member(&[]).unwrap_err().to_string(), "refused 2 at 0");
-    assert_eq!(read_member(&[1, 0, 1, 0, 0, 0]).unwrap_err().to_string(), "refused 4 at 2");
+    assert_eq!(read_member(&[1, 0, 1, 0, 0, 0]).unwrap_err().to_string(), "refused 2 at 6");
+    assert_eq!(read_member(&[1, 0, 2, 0, 0, 0]).unwrap_err().to_string(), "refused 4 at 2");
     let longer = [MEMBER, &[0]].concat();
     assert_eq!(read_member(&longer).unwrap_err().to_string(), "refused 11 at 2456");
 }

@@ -1,5 +1,7 @@
 // The place after each section of a member from Header to Formats, or the refusal of the first section that is refused.
+use layout::LITTLE;
 use layout::Step;
+use layout::number::peek;
 use libc::STDOUT_FILENO;
 use report::LINE_BYTES;
 
@@ -22,8 +24,8 @@ fn told(st: Step) -> bool {
 }
 
 // Areas and what comes after them.
-fn later(s: &[u8], st: Step) {
-    let st = sections::areas::areas(s, st);
+fn later(s: &[u8], st: Step, version: u64) {
+    let st = sections::areas::areas(s, st, version);
     if !told(st) {
         return;
     }
@@ -35,27 +37,29 @@ fn later(s: &[u8], st: Step) {
     if !told(st) {
         return;
     }
-    let st = sections::table_settings::table_settings(s, st);
+    let st = sections::table_settings::table_settings(s, st, version);
     if !told(st) {
         return;
     }
-    if told(sections::formats::formats(s, st)) {
+    if told(sections::formats::formats(s, st, version)) {
         io::write_all(STDOUT_FILENO, b"\n");
     }
 }
 
 pub(crate) fn line(s: &[u8]) {
-    let st = sections::header::header(s, Step::Next(0));
+    let st = sections::header::start(s, Step::Next(0));
+    let version = peek(s, st, LITTLE, 4);
+    let st = sections::header::rest(s, sections::header::version(s, st));
     if !told(st) {
         return;
     }
-    let st = sections::titles::titles(s, st);
+    let st = sections::titles::titles(s, st, version);
     if !told(st) {
         return;
     }
-    let st = sections::footnotes::footnotes(s, st);
+    let st = sections::footnotes::footnotes(s, st, version);
     if !told(st) {
         return;
     }
-    later(s, st);
+    later(s, st, version);
 }

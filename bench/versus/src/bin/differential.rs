@@ -13,7 +13,7 @@ use digarumbi_versus::difference::Difference;
 use digarumbi_versus::inputs::Inputs;
 use digarumbi_versus::large::{
     ascending, deepest_member, member_of_strings, member_with_cells, member_with_nested_categories,
-    shuffled,
+    shuffled, version_1_with_cells, version_1_with_free_bytes,
 };
 use digarumbi_versus::look_check::LookCheck;
 use digarumbi_versus::member_check::MemberCheck;
@@ -27,6 +27,8 @@ const GENERATED_LOOKS: u64 = 25_000;
 /// The refusal numbers that these functions can give. 16 is not among them: it is the writer's
 /// for looks that no file gives.
 const MEMBER_NUMBERS: [u32; 14] = [1, 2, 3, 4, 5, 6, 7, 8, 9, 10, 11, 12, 13, 18];
+/// Those that a member can get whose version is 1; 4 is then that of a modifier that begins 31.
+const VERSION_1_NUMBERS: [u32; 15] = [0, 1, 2, 3, 4, 5, 6, 7, 8, 9, 10, 11, 12, 13, 18];
 const LOOK_NUMBERS: [u32; 8] = [2, 3, 4, 5, 7, 11, 14, 15];
 
 fn main() -> ExitCode {
@@ -44,11 +46,13 @@ fn run(seed: u64) -> Result<(), Difference> {
     let members = members(seed)?;
     println!("{} members: {}", members.members.total(), members.members);
     println!("{} readings of them: {}", members.readings.total(), members.readings);
+    println!("{} of these with version 1: {}", members.version_1.total(), members.version_1);
     let looks = looks(seed)?;
     println!("{} looks: {}", looks.looks.total(), looks.looks);
     println!("{} rewritings of them: {}", looks.rewritten.total(), looks.rewritten);
     println!("{} numbers as points, pixels and font sizes", unit_check::check(seed)?);
     members.readings.all_seen(&MEMBER_NUMBERS)?;
+    members.version_1.all_seen(&VERSION_1_NUMBERS)?;
     looks.rewritten.all_seen(&LOOK_NUMBERS)?;
     println!("no difference");
     Ok(())
@@ -87,6 +91,10 @@ fn large_members() -> Vec<(&'static str, Vec<u8>)> {
         ("categories and values nested 8 deep", deepest_member()),
         ("the longest member", member_of_strings(MEMBER_BYTES)),
         ("a member one byte too long", member_of_strings(MEMBER_BYTES + 1)),
+        ("version 1, 4,096 cells", version_1_with_cells(&shuffled(4_096))),
+        ("version 1, a repeated cell", version_1_with_cells(&repeated)),
+        ("version 1, the longest member", version_1_with_free_bytes(MEMBER_BYTES)),
+        ("version 1, one byte too long", version_1_with_free_bytes(MEMBER_BYTES + 1)),
     ]
 }
 
