@@ -1,3 +1,4 @@
 mod Names
 mod Read
 mod Rewrite
+mod ValueCalls

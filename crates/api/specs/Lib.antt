@@ -1,2 +1,3 @@
 pub mod Api
+pub mod Values
 pub mod Laws

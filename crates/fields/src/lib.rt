@@ -22,6 +22,11 @@ pub struct Got32 {
     pub next: Step,
 }
 
+pub struct Got64 {
+    pub value: u64,
+    pub next: Step,
+}
+
 pub struct GotSigned {
     pub value: i32,
     pub next: Step,

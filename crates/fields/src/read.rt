@@ -12,10 +12,11 @@ ghost use Rattle.layout.specs.Conventions as grammar;
 ghost use lib.Dec.{eqb};
 ghost use Rattle.store.specs.Values.{bit, twos};
 ghost use Rattle.store.specs.Fields.{lent};
-ghost use Rattle.fields.specs.Gives.{Gives, GivesValue};
+ghost use Rattle.fields.specs.Gives.{Gives, GivesValue, nameAt};
 use crate::Got8;
 use crate::Got16;
 use crate::Got32;
+use crate::Got64;
 use crate::GotBool;
 use crate::GotName;
 use crate::GotSigned;
@@ -31,6 +32,7 @@ use layout::number::limit;
 use layout::number::peek;
 use layout::region::bytes;
 use layout::region::part;
+use layout::region::string;
 use store::Name;
 use store::verdict::high_byte;
 
@@ -102,6 +104,16 @@ pub fn int32(s: &[u8], st: Step) -> Got32
     }
 }
 
+// A double, by its bits.
+pub fn double(s: &[u8], st: Step) -> Got64
+    ensures { λ r. ⌜ GivesValue grammar.double (now (s .entry)) st (r .next) (r .value, tt) (r .value) 0 ⌝ }
+{
+    Got64 {
+        value: peek(s, st, LITTLE, 8),
+        next: any(s, st, 8),
+    }
+}
+
 // A byte that is at most n.
 pub fn small(s: &[u8], st: Step, n: u64) -> Got8
     ensures { λ r. ⌜ GivesValue (grammar.field little 1 (at-most n)) (now (s .entry)) st (r .next) (r .value, tt) (r .value) 0 ⌝ }
@@ -169,26 +181,56 @@ pub fn signed(s: &[u8], st: Step) -> GotSigned
     }
 }
 
+// The place and the length of a counted part; both 0 where it is refused.
+fn name_at(s: &[u8], p: Span) -> Name
+    ensures { λ r. ⌜ r ≡ nameAt (now (s .entry)) p ⌝ }
+{
+    match p {
+        Span::Of(b, e) => Name {
+            place: b,
+            length: bytes(s, Span::Of(b, e)).len(),
+        },
+        Span::Refused(_, _) => Name {
+            place: 0,
+            length: 0,
+        },
+    }
+}
+
 // A name: its length in one byte, and as many bytes.
 pub fn name(s: &[u8], st: Step) -> GotName
     ensures { λ r. ⌜ GivesValue (string little 1 any-bytes) (now (s .entry)) st (r .next) (lent (r .value)) (r .value) (record { place = 0; length = 0 }) ⌝ }
 {
     let p = part(s, st, LITTLE, 1);
-    let n = bytes(s, p);
+    let value = name_at(s, p);
     match p {
-        Span::Of(b, e) => GotName {
-            value: Name {
-                place: b,
-                length: n.len(),
-            },
+        Span::Of(_, e) => GotName {
+            value,
             next: Step::Next(e),
         },
         Span::Refused(r, q) => GotName {
+            value,
+            next: Step::Refused(r, q),
+        },
+    }
+}
+
+// A string without a zero byte: its length in four bytes, and as many bytes.
+pub fn text(s: &[u8], st: Step) -> GotName
+    ensures { λ r. ⌜ GivesValue grammar.lestring (now (s .entry)) st (r .next) (lent (r .value)) (r .value) (record { place = 0; length = 0 }) ⌝ }
+{
+    let value = name_at(s, part(s, st, LITTLE, 4));
+    match string(s, st, LITTLE, 4) {
+        Step::Next(p) => GotName {
+            value,
+            next: Step::Next(p),
+        },
+        Step::Refused(r, p) => GotName {
             value: Name {
                 place: 0,
                 length: 0,
             },
-            next: Step::Refused(r, q),
+            next: Step::Refused(r, p),
         },
     }
 }

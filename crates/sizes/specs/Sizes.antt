@@ -29,7 +29,7 @@ value-depth = 8
 
 -- so many are left inside the outermost
 abbrev pub below-value : ℕ
-below-value = 7
+below-value = value-depth - 1
 
 -- "Categories nested 8 deep likewise."
 abbrev pub category-depth : ℕ
@@ -96,6 +96,26 @@ dimension-area = dimension-words * most-dimensions
 -- an answer as words: eight numbers, the entries of the dimensions and the axis order
 abbrev pub answer-words : ℕ
 answer-words = 8 + dimension-area + most-dimensions
+
+-- what a Value says as words: the refusal, its place, the length, the bytes 00, and 18 words of the form; of an Argument
+abbrev pub value-answer-words : ℕ
+value-answer-words = 22
+
+abbrev pub argument-answer-words : ℕ
+argument-answer-words = 5
+
+-- ---- document 02, T-01
+
+-- the answer for one leaf as words: the refusal, its place, nodes, cells, and the totals
+abbrev pub total-answer-words : ℕ
+total-answer-words = 13
+
+-- the answer for all leaves of a dimension: the refusal, its place, nodes, cells, leaves; and for each leaf its refusal, place and totals
+abbrev pub totals-answer-words : ℕ
+totals-answer-words = 5
+
+abbrev pub leaf-total-words : ℕ
+leaf-total-words = 11
 
 -- ---- document 02, T-04
 

@@ -16,7 +16,7 @@ pub const MOST_CELLS: usize = 4096;
 pub const VALUE_DEPTH: usize = 8;
 
 // Inside the outermost.
-pub const BELOW_VALUE: usize = 7;
+pub const BELOW_VALUE: usize = VALUE_DEPTH - 1;
 
 pub const CATEGORY_DEPTH: usize = 8;
 // the largest product of all n
@@ -56,6 +56,20 @@ pub const DIMENSION_AREA: usize = DIMENSION_WORDS * MOST_DIMENSIONS;
 
 // an answer as words: eight numbers, the entries of the dimensions and the axis order
 pub const ANSWER_WORDS: usize = 8 + DIMENSION_AREA + MOST_DIMENSIONS;
+
+// what a Value says as words: the refusal, its place, the length, the bytes 00, and 18 words of the form; of an Argument
+pub const VALUE_ANSWER_WORDS: usize = 22;
+
+pub const ARGUMENT_ANSWER_WORDS: usize = 5;
+
+// ---- document 02, T-01
+
+// the answer for one leaf as words: the refusal, its place, nodes, cells, and the totals
+pub const TOTAL_ANSWER_WORDS: usize = 13;
+// the answer for all leaves of a dimension: the refusal, its place, nodes, cells, leaves; and for each leaf its refusal, place and totals
+pub const TOTALS_ANSWER_WORDS: usize = 5;
+
+pub const LEAF_TOTAL_WORDS: usize = 11;
 
 // ---- the interface for C
 

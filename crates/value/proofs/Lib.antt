@@ -1,2 +1,1 @@
-mod Forms
 mod Cycle

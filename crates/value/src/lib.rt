@@ -4,8 +4,6 @@ ghost use mathlib.Core.Path.{_≡_};
 ghost use Rattle.layout.specs.Layout.{times};
 ghost use Rattle.layout.specs.Reads.{Reads};
 ghost use Rattle.value.specs.Value as grammar;
-use crate::modifier::modifiers;
-use crate::modifier::value_mod;
 use layout::LITTLE;
 use layout::Step;
 use layout::number::any;
@@ -21,7 +19,9 @@ use sizes::VALUE_DEPTH;
 
 mod modifier; // ValueMod
 
+pub use modifier::modifiers;
 pub use modifier::style_pair;
+pub use modifier::value_mod;
 
 // ---- what follows the first byte of each form
 
@@ -128,7 +128,8 @@ fn template(s: &[u8], st: Step, depth: usize, version: u64) -> Step
     arguments(s, any(s, st, 4), n, depth, version)
 }
 
-fn arguments(s: &[u8], st: Step, n: u64, depth: usize, version: u64) -> Step
+// n arguments.
+pub fn arguments(s: &[u8], st: Step, n: u64, depth: usize, version: u64) -> Step
     ensures { λ r. ⌜ Reads (times n (grammar.Argument version depth)) (now (s .entry)) st r ⌝ }
 {
     let mut at = st;
@@ -143,7 +144,7 @@ fn arguments(s: &[u8], st: Step, n: u64, depth: usize, version: u64) -> Step
     at
 }
 
-fn argument(s: &[u8], st: Step, depth: usize, version: u64) -> Step
+pub fn argument(s: &[u8], st: Step, depth: usize, version: u64) -> Step
     ensures { λ r. ⌜ Reads (grammar.Argument version depth) (now (s .entry)) st r ⌝ }
 {
     let x = peek(s, st, LITTLE, 4);
@@ -177,7 +178,8 @@ pub fn value(s: &[u8], st: Step, version: u64) -> Step
     value_in(s, st, VALUE_DEPTH, version)
 }
 
-fn cell_zeros(version: u64) -> usize
+// How many bytes 00 may stand before the Value of a cell.
+pub fn cell_zeros(version: u64) -> usize
     ensures { λ r. ⌜ r ≡ grammar.cell-zeros version ⌝ }
 {
     let one_more = version == 1;

@@ -16,9 +16,9 @@ use Rattle.layout.specs.declared.Span.the-variants.{Of}
 use Rattle.layout.specs.declared.Span.the-variants as span
 use Rattle.layout.specs.declared.Step.{Step}
 use Rattle.layout.specs.declared.Step.the-variants.{Next, Refused}
-use Rattle.layout.specs.Layout.{Order, Test, any-number, the-number, a-bool, one-of, among, passes, suits, any-bytes, Layout, empty, number, string, _▸_, times, Tree, spell, Bytes, pick, undigits}
+use Rattle.layout.specs.Layout.{Order, Test, any-number, the-number, a-bool, one-of, among, passes, Content, suits, Layout, empty, number, string, _▸_, times, Tree, spell, Bytes, pick, undigits}
 use Rattle.layout.specs.Steps.Slices.{drop-bytes}
-use Rattle.layout.specs.Read.{Got, got, no, bind, readNumber, readTimes, read, too-short}
+use Rattle.layout.specs.Read.{Got, got, no, bind, readNumber, readTimes, read, zero-byte}
 use Rattle.layout.specs.Laws as laws
 use Rattle.layout.specs.Laws.Places.{Announced, announced, too-few, counted-view, announced-length}
 use Rattle.layout.specs.Laws.IfGot.{IfGot, is-got, is-no, bind-got, pick-got, of-got}
@@ -29,55 +29,23 @@ use Rattle.layout.specs.Steps.Counted.{string-of}
 use Rattle.store.specs.declared.Name.{Name}
 use Rattle.store.specs.Values.{bit}
 use Rattle.store.specs.Fields.{lent, Fields, placedAll, placed}
-use Rattle.fields.specs.Gives.{FoundFields, Gives, GivesValue}
+use Rattle.fields.specs.Gives.{Found, Shows, Gives, GivesValue, nameAt}
+use Rattle.fields.specs.Laws.Shows.{Read, tree-of, between, Numbered, numbered-of, peeked, switch-shows, shows-of, never-next}
+use Rattle.fields.specs.Laws.Shows as shows
 
--- a reading that ends at a position has a tree
-record Read (g : Layout) (s : List ℕ) (at p : ℕ) : Type 0 where
-  tree : Tree g
-  is : read g (drop at s) at ≡ got tree (drop p s) p
+-- the fields are something that is said of a tree
+pub to-shows : {g : Layout} {s : List ℕ} {st r : Step} {f : Fields g} → Gives g s st r f → Shows g (placed g) s st r f
+to-shows x = record { reads = x .reads; found = x .found }
 
-tree-of : {g : Layout} {s : List ℕ} {st r : Step} {at p : ℕ} → Reads g s st r → st ≡ Next at → r ≡ Next p → Read g s at p
-unfolding step chain
-tree-of {g} {s} {st} {r} {at} {p} h e e′ =
-    let i : r ≡ chain (Next at) (step g s) = rw e at (h .is) in
-    go (read g (drop at s) at) refl (sym i ∙ e′)
-  where
-    go : (x : Got (Tree g)) → read g (drop at s) at ≡ x → forget x ≡ Next p → Read g s at p
-    go (got t r₁ q) a b =
-        let q≡p : q ≡ p = cc in
-        let l : r₁ ≡ drop q s = laws.left g s at t r₁ q a in
-        record { tree = t; is = a ∙ rw (l, q≡p) }
-    go (no n q) a b = absurd (let z : _≡_ {A = ℕ} 0 1 = cc in omega arith)
+of-shows : {g : Layout} {s : List ℕ} {st r : Step} {f : Fields g} → Shows g (placed g) s st r f → Gives g s st r f
+of-shows x = record { reads = x .reads; found = x .found }
 
 -- ---- one after the other
 
--- what comes before something that was read was read
-between : {g : Layout} {s : List ℕ} {q r : Step} {p : ℕ} → Reads g s q r → r ≡ Next p → (m : ℕ) × (q ≡ Next m)
-unfolding chain
-between {g} {s} {q} {r} {p} h e = go q (sym (h .is) ∙ e)
-  where
-    go : (q : Step) → chain q (step g s) ≡ Next p → (m : ℕ) × (q ≡ Next m)
-    go (Next m) i = (m, refl)
-    go (Refused n x) i = absurd (let z : _≡_ {A = ℕ} 0 1 = cc in omega arith)
-
-found-then : {a b : Layout} {s : List ℕ} {at m p : ℕ} {f : Fields a} {h : Fields b} → Bytes s → FoundFields a s at m f → FoundFields b s m p h → FoundFields (a ▸ b) s at p (f, h)
-unfolding read bind placed
-found-then {a} {b} {s} {at} {m} {p} bs x y =
-    let place : m ≡ at + length (spell a (x .tree)) = laws.sound a (drop at s) (drop-bytes at bs) at (x .tree) (drop m s) m (x .reads) .2 in
-    record {
-      tree = (x .tree, y .tree);
-      reads = rw (x .reads, y .reads);
-      is = rw (← place, x .is, y .is);
-    }
-
 infixl 20 _⟩_
 pub _⟩_ : {a b : Layout} {s : List ℕ} {st q r : Step} {f : Fields a} {h : Fields b} → Gives a s st q f → Gives b s q r h → Gives (a ▸ b) s st r (f, h)
-x ⟩ y = record {
-  reads = then (y .reads) (x .reads);
-  found = λ bs at p e e′.
-      let m = between (y .reads) e′ in
-      found-then bs (x .found bs at (m .0) e (m .1)) (y .found bs (m .0) p (m .1) e′);
-}
+unfolding placed
+_⟩_ {a} {b} x y = of-shows (shows._&_ {a = a} {b = b} (to-shows x) (to-shows y))
 
 pub empty-gives : {s : List ℕ} {st : Step} → Gives empty s st st tt
 unfolding read placed
@@ -89,46 +57,6 @@ empty-gives {s} {st} = record {
 }
 
 -- ---- numbers
-
--- what is known where a number was read, and what it asks for
-pub record Numbered (o : Order) (w : ℕ) (test : Test) (s : List ℕ) (at n : ℕ) : Type 0 where
-  pub passed : passes test n ≡ true
-  pub number-is : readNumber o w s at ≡ got n (drop w s) (at + w)
-
-number-first : (o : Order) (w : ℕ) (s : List ℕ) (at : ℕ) → IfGot (λ n _ _. readNumber o w s at ≡ got n (drop w s) (at + w)) (readNumber o w s at)
-unfolding readNumber pick
-number-first o w s at = go (leb w (length s))
-  where
-    v : ℕ
-    v = undigits o (take w s)
-
-    go : (c : Bool) → IfGot {A = ℕ} (λ n _ _. pick c (got v (drop w s) (at + w)) (no too-short at) ≡ got n (drop w s) (at + w)) (pick c (got v (drop w s) (at + w)) (no too-short at))
-    go true = is-got refl
-    go false = is-no
-
-anything : {A : Type 0} (x : Got A) → IfGot (λ _ _ _. Unit {0}) x
-anything (got t r p) = is-got tt
-anything (no n p) = is-no
-
-numbered : (o : Order) (w : ℕ) (test : Test) (k : ℕ → Layout) (s : List ℕ) (at : ℕ)
-    → IfGot (λ t _ _. Numbered o w test s at (t .0)) (read (number o w test k) s at)
-unfolding read
-numbered o w test k s at =
-    bind-got (number-first o w s at)
-    (λ n r p e. pick-got (passes test n)
-    (λ t. bind-got (anything (read (k n) r p)) (λ u _ _ _. is-got (record { passed = t; number-is = e })))
-    (λ _. is-no))
-
--- the number of a reading
-module _ (o : Order) (w : ℕ) (test : Test) (s : List ℕ) (at : ℕ) where
-  numbered-of : (k : ℕ → Layout) (t : Tree (number o w test k)) (r : List ℕ) (p : ℕ)
-      → read (number o w test k) s at ≡ got t r p → Numbered o w test s at (t .0)
-  numbered-of k t r p e = of-got (subst (IfGot (λ t _ _. Numbered o w test s at (t .0))) e (numbered o w test k s at))
-
-  -- where it ends
-  numbered-end : (n : ℕ) → Numbered o w test s at n → read (number o w test (λ _. empty)) s at ≡ got (n, tt) (drop w s) (at + w)
-  unfolding read bind pick
-  numbered-end n x = rw (x .number-is, x .passed)
 
 -- of two numbers that it may be, it is the first where it is not the second
 pub first-of-two : {o : Order} {w a b : ℕ} {s : List ℕ} {at n : ℕ} → Numbered o w (one-of (a ∷ b ∷ [])) s at n → eqb n b ≡ false → n ≡ a
@@ -151,10 +79,6 @@ found-number {o} {w} {test} {s} {v = v} h k = record {
       record { tree = x .tree; reads = x .is; is = ap (λ (n : ℕ). (n, tt)) (k at (x .tree .0) e n) };
 }
 
-pub peeked : {o : Order} {w : ℕ} {test : Test} (s : List ℕ) {st : Step} (at : ℕ) {n v : ℕ} → Numbered o w test (drop at s) at n → st ≡ Next at → v ≡ peek o w s st → n ≡ v
-unfolding peek
-peeked s at x i e = sym (e ∙ rw (i, x .number-is))
-
 pub number-gives : {o : Order} {w : ℕ} {test : Test} {s : List ℕ} {st r : Step} {v : ℕ} → Reads (number o w test (λ _. empty)) s st r → v ≡ peek o w s st
     → Gives (number o w test (λ _. empty)) s st r (v, tt)
 number-gives {s = s} h e = found-number h (λ at n i x. peeked s at x i e)
@@ -169,6 +93,11 @@ one-bit zero h = refl
 one-bit (suc zero) h = refl
 one-bit (suc (suc n)) h = absurd (omega arith)
 
+-- a bool is 1 where it is true
+pub bit-of : (b : Bool) → eqb (bit b) 1 ≡ b
+bit-of true = refl
+bit-of false = refl
+
 -- a bool, which is 0 or 1
 pub bool-gives : {o : Order} {w : ℕ} {s : List ℕ} {st r : Step} {v : ℕ} → Reads (number o w a-bool (λ _. empty)) s st r → v ≡ peek o w s st
     → Gives (number o w a-bool (λ _. empty)) s st r (bit (eqb v 1), tt)
@@ -176,45 +105,13 @@ unfolding passes
 bool-gives {s = s} {v = v} h e =
     found-number h (λ at n i x. one-bit n (leb-true n 1 (x .passed)) ∙ ap (λ (m : ℕ). bit (eqb m 1)) (peeked s at x i e))
 
-found-switch : {o : Order} {w : ℕ} {test : Test} (k : ℕ → Layout) {s : List ℕ} {at p v : ℕ} {f : Fields (k v)}
-    → Numbered o w test (drop at s) at v → FoundFields (k v) s (at + w) p f → FoundFields (number o w test k) s at p (v, f)
-unfolding read bind pick placed
-found-switch {o} {w} {test} k {s} {at} {p} {v} x y = record {
-  tree = (v, y .tree);
-  reads = rw (x .number-is, x .passed, drop-drop, y .reads);
-  is = rw (y .is);
-}
-
 -- a number, which is n where it is read, and then what n asks for
-module _ {o : Order} {w : ℕ} {test : Test} (k : ℕ → Layout) {s : List ℕ} {st q : Step} {n : ℕ}
-    (known : (at m : ℕ) → st ≡ Next at → Numbered o w test (drop at s) at m → m ≡ n) (h : Reads (number o w test (λ _. empty)) s st q) where
-  -- where it ends, it is n
-  ended : (at m : ℕ) → st ≡ Next at → q ≡ Next m → Numbered o w test (drop at s) at n × (m ≡ at + w)
-  ended at m i j =
-      let x = tree-of h i j in
-      let y = numbered-of o w test (drop at s) at (λ _. empty) (x .tree) (drop m s) m (x .is) in
-      let z : Numbered o w test (drop at s) at n = rw (known at (x .tree .0) i y) at y in
-      let e₁ = numbered-end o w test (drop at s) at n z in
-      let e₂ = x .is in
-      (z, cc)
-
-  switch-reads : {r : Step} (q′ : Step) → q ≡ q′ → Reads (k n) s q r → Reads (k (peek o w s st)) s q r
-  unfolding chain
-  switch-reads (Refused a b) i y = record { is = y .is ∙ rw i }
-  switch-reads (Next m) i y =
-      let a = between h i in
-      let z = ended (a .0) m (a .1) i .0 in
-      let e : n ≡ peek o w s st = peeked s (a .0) z (a .1) refl in
-      rw (← e) y
-
-  pub switch-known : {r : Step} {f : Fields (k n)} → Gives (k n) s q r f → Gives (number o w test k) s st r (n, f)
-  switch-known y = record {
-    reads = switch-of {k = k} (switch-reads q refl (y .reads)) refl h;
-    found = λ bs at p i i′.
-        let m = between (y .reads) i′ in
-        let z = ended at (m .0) i (m .1) in
-        found-switch k (z .0) (y .found bs (at + w) p (m .1 ∙ ap Next (z .1)) i′);
-  }
+pub switch-known : {o : Order} {w : ℕ} {test : Test} (k : ℕ → Layout) {s : List ℕ} {st q r : Step} {n : ℕ} {f : Fields (k n)}
+    → ((at m : ℕ) → st ≡ Next at → Numbered o w test (drop at s) at m → m ≡ n) → Reads (number o w test (λ _. empty)) s st q
+    → Gives (k n) s q r f → Gives (number o w test k) s st r (n, f)
+unfolding placed
+switch-known k {n = n} {f = f} known h y =
+    of-shows (switch-shows k (λ m t at. (m, placed (k m) t at)) known h (shows-of (λ (f : Fields (k n)). (n, f)) (λ t at. refl) (to-shows y)))
 
 -- the same, where v is the number that comes next
 pub switch-gives : {o : Order} {w : ℕ} {test : Test} (k : ℕ → Layout) {s : List ℕ} {st q r : Step} {v : ℕ} {f : Fields (k v)}
@@ -241,9 +138,6 @@ refused-peek o w test s (Next at) r h n p e = go (readNumber o w (drop at s) at)
     go (got m a b) i true j =
         let k : Next b ≡ Refused n p = sym (read-it m a b i (rw i at j)) ∙ sym (h .is) ∙ e in
         absurd (let z : _≡_ {A = ℕ} 0 1 = cc in omega arith)
-
-never-next : {A : Type 0} {r : Step} {p n q : ℕ} → r ≡ Next p → r ≡ Refused n q → A
-never-next e f = absurd (let z : _≡_ {A = ℕ} 0 1 = cc in omega arith)
 
 -- what is refused has no fields
 pub refused-gives : {g : Layout} {s : List ℕ} {st r : Step} {f : Fields g} {n p : ℕ} → r ≡ Refused n p → Reads g s st r → Gives g s st r f
@@ -286,8 +180,8 @@ none-gives {a} {s} {st} = record {
       record { tree = []; reads = rw same; is = refl };
 }
 
-found-more : {a : Layout} {s : List ℕ} {n at m p : ℕ} {f : Fields a} {fs : List (Fields a)} → Bytes s → FoundFields a s at m f → FoundFields (times n a) s m p fs
-    → FoundFields (times (suc n) a) s at p (f ∷ fs)
+found-more : {a : Layout} {s : List ℕ} {n at m p : ℕ} {f : Fields a} {fs : List (Fields a)} → Bytes s → Found a (placed a) s at m f → Found (times n a) (placed (times n a)) s m p fs
+    → Found (times (suc n) a) (placed (times (suc n) a)) s at p (f ∷ fs)
 unfolding read readTimes bind placed placedAll
 found-more {a} {s} {n} {at} {m} {p} bs x y =
     let place : m ≡ at + length (spell a (x .tree)) = laws.sound a (drop at s) (drop-bytes at bs) at (x .tree) (drop m s) m (x .reads) .2 in
@@ -299,47 +193,49 @@ found-more {a} {s} {n} {at} {m} {p} bs x y =
 
 pub more-gives : {a : Layout} {s : List ℕ} {n : ℕ} {st q r : Step} {f : Fields a} {fs : List (Fields a)} → Gives a s st q f → Gives (times n a) s q r fs
     → Gives (times (suc n) a) s st r (f ∷ fs)
-more-gives {n = n} x y = record {
+more-gives {a} {n = n} x y = record {
   reads = times-more (suc n) (omega arith) (x .reads) (rw sub-one (y .reads));
   found = λ bs at p e e′.
       let m = between (y .reads) e′ in
-      found-more bs (x .found bs at (m .0) e (m .1)) (y .found bs (m .0) p (m .1) e′);
+      found-more {a = a} bs (x .found bs at (m .0) e (m .1)) (y .found bs (m .0) p (m .1) e′);
 }
 
 -- ---- names
-
--- the name that a counted part is
-abbrev pub nameAt : List ℕ → Span → Name
-nameAt s (Of b e) = record { place = b; length = length (bytes s (Of b e)) }
-nameAt s (span.Refused r p) = record { place = 0; length = 0 }
 
 bytes-length : (s : List ℕ) (b n : ℕ) → b + n ≤ length s → length (bytes s (Of b (b + n))) ≡ n
 unfolding bytes pick
 bytes-length s b n h =
     simp (le-leb b (b + n) (omega arith), le-leb (b + n) (length s) h, add-sub-cancel-left) (length-take-le n (drop b s) (omega (arith, length-drop b s)))
 
-named : (o : Order) (w : ℕ) → 0 < w → (s : List ℕ) (at : ℕ) (t r : List ℕ) (p : ℕ) → read (string o w any-bytes) (drop at s) at ≡ got t r p
+-- a string that was read suits, and is the part's bytes
+suited : (b : Bool) (x r : List ℕ) (p m q : ℕ) {y r′ : List ℕ} {p′ : ℕ} → pick b (got x r p) (no m q) ≡ got y r′ p′ → x ≡ y
+unfolding pick
+suited true x r p m q e = cc
+suited false x r p m q e = absurd (let z : _≡_ {A = ℕ} 0 1 = cc in omega arith)
+
+named : (o : Order) (w : ℕ) (c : Content) (s : List ℕ) (at : ℕ) (t r : List ℕ) (p : ℕ) → read (string o w c) (drop at s) at ≡ got t r p → 0 < w
     → nameAt s (part o w s (Next at)) ≡ record { place = at + w; length = length t }
-unfolding read bind part suits pick
-named o w pos s at t r p e = go (counted-view o w (drop at s) at) e
+unfolding read bind part
+named o w c s at t r p e pos = go (counted-view o w (drop at s) at) e
   where
-    go : {x : Got (List ℕ)} → Announced w (drop at s) at x → bind x (λ content rest at₁. got content rest (at₁ + length content)) ≡ got t r p
+    go : {x : Got (List ℕ)} → Announced w (drop at s) at x
+        → bind x (λ content rest at₁. pick (suits c content) (got content rest (at₁ + length content)) (no zero-byte at)) ≡ got t r p
         → nameAt s (spanOf x) ≡ record { place = at + w; length = length t }
     go (announced n l) i =
-        let t≡ : take n (drop w (drop at s)) ≡ t = cc in
+        let t≡ : take n (drop w (drop at s)) ≡ t = suited (suits c (take n (drop w (drop at s)))) _ _ _ _ _ i in
         let short : length (take n (drop w (drop at s))) ≡ n = announced-length w n (drop at s) l in
         rw (← t≡, bytes-length s (at + w) (length (take n (drop w (drop at s)))) (omega (arith, length-drop at s)))
     go too-few i = absurd (let z : _≡_ {A = ℕ} 0 1 = cc in omega arith)
 
-pub string-gives : {o : Order} {w : ℕ} {s : List ℕ} {st r : Step} {p : Span} {n : Name} → 0 < w → p ≡ part o w s st → r ≡ past any-bytes w s p
-    → n ≡ nameAt s p → Gives (string o w any-bytes) s st r (lent n)
+pub string-gives : {o : Order} {w : ℕ} {c : Content} {s : List ℕ} {st r : Step} {p : Span} {n : Name} → 0 < w → Reads (string o w c) s st r → p ≡ part o w s st
+    → n ≡ nameAt s p → Gives (string o w c) s st r (lent n)
 unfolding placed
-string-gives {o} {w} {s} {st} {r} {p} {n} h a b c = record {
-  reads = string-of b a;
-  found = λ bs at q e e′.
-      let x = tree-of (string-of {o = o} {w = w} b a) e e′ in
-      let i : p ≡ part o w s (Next at) = rw e at a in
-      record { tree = x .tree; reads = x .is; is = ap lent (sym (named o w h s at (x .tree) (drop q s) q (x .is)) ∙ sym (c ∙ rw i)) };
+string-gives {o} {w} {c} {s} {st} {r} {p} {n} h y a e = record {
+  reads = y;
+  found = λ bs at q i j.
+      let x = tree-of y i j in
+      let k : p ≡ part o w s (Next at) = rw i at a in
+      record { tree = x .tree; reads = x .is; is = ap lent (sym (named o w c s at (x .tree) (drop q s) q (x .is) h) ∙ sym (e ∙ rw k)) };
 }
 
 -- a value is a field

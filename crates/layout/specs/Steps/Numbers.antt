@@ -140,7 +140,7 @@ pub arm-of : {o : Order} {w : ℕ} {test : Test} {k : ℕ → Layout} {s : List 
 arm-of {test = test} {k = k} {v = v} e t h f g =
     switch-key {k = k} e h f (tested-of (free-field g) (verdict-passed test v (rw e t)) f)
 
-broken-refuses : (w c : ℕ) (s : List ℕ) (st : Step) → eqb c 0 ≡ false → Refuses (field w c s st)
+pub broken-refuses : (w c : ℕ) (s : List ℕ) (st : Step) → eqb c 0 ≡ false → Refuses (field w c s st)
 unfolding field pick
 broken-refuses w c s (Next at) e = go (readNumber little w (drop at s) at)
   where

@@ -90,13 +90,13 @@ module _ {bs : List ℕ} (d : MemberDerivation bs) where
       let start : length before + 4 ≡ cellsStart t = rw (length-append, body-start) in
       rw start at (after-count bs before n (all ++ final (d .ends)) (sym (d .spells) ∙ joined))
 
-  nodes-point : Pointing (Value (version (d .tree))) bs node-words name-place name-length (nodeRecords (d .tree)) (nodeNames (d .tree))
+  pub nodes-point : Pointing (Value (version (d .tree))) bs node-words name-place name-length (nodeRecords (d .tree)) (nodeNames (d .tree))
   nodes-point = dims-point (version (d .tree)) bs 0 0 (dimensionsAt (d .tree)) (dimensions (d .tree)) rest dimensions-there
 
-  dimensions-point : Pointing (Value (version (d .tree))) bs dimension-words 0 1 (dimensionEntries (d .tree)) (dimensionNames (d .tree))
+  pub dimensions-point : Pointing (Value (version (d .tree))) bs dimension-words 0 1 (dimensionEntries (d .tree)) (dimensionNames (d .tree))
   dimensions-point = entries-point (version (d .tree)) bs 0 (dimensionsAt (d .tree)) (dimensions (d .tree)) rest dimensions-there
 
-  values-point : Pointing (CellValue (version (d .tree))) bs cell-words 1 2 (cellRecords (d .tree)) (cellValues (d .tree))
+  pub values-point : Pointing (CellValue (version (d .tree))) bs cell-words 1 2 (cellRecords (d .tree)) (cellValues (d .tree))
   values-point = cells-point (version (d .tree)) bs (cellsStart (d .tree)) (cells (d .tree)) (final (d .ends)) cells-there
 
 -- ---- parts
@@ -113,7 +113,7 @@ part-there s place (x ∷ xs) r e =
     let l : length s - place ≡ suc (length xs) + length r = sym (length-drop place s) ∙ (ap length e ∙ length-append (x ∷ xs) r) in
     rw (le-leb (place + suc (length xs)) (length s) (omega arith), e) (take-at (x ∷ xs) r (suc (length xs)) refl)
 
-part-of : {g : Layout} {s : List ℕ} {place long : ℕ} {v : Tree g} → Points g s place long v → partOf s place long ≡ spell g v
+pub part-of : {g : Layout} {s : List ℕ} {place long : ℕ} {v : Tree g} → Points g s place long v → partOf s place long ≡ spell g v
 unfolding size
 part-of {g} {s} {place} {long} {v} p = rw (p .length-of) (part-there s place (spell g v) (p .rest) (p .there))
 

@@ -10,7 +10,7 @@ use Rattle.layout.specs.Steps.{reads}
 use Rattle.layout.specs.Steps.Chain.{then, Left, left-more, left-none, left-kept}
 use Rattle.value.specs.Value as grammar
 use Rattle.value.proofs.Cycle.{at, below}
-use Rattle.value.proofs.Forms.{too-deep, after-zeros, form-of, long-form, long-form-left-out, no-form}
+use Rattle.value.specs.Laws.Forms.{too-deep, after-zeros, form-of, long-form, long-form-left-out, no-form}
 use Rattle.value.proofs.argument.Reads as argument
 use Rattle.value.proofs.argument.Kinds as argument-kinds
 use Rattle.value.proofs.+argument+arguments+raw_value+template+value_in+values.Lts-argument as argument-lts

@@ -1,4 +1,4 @@
-use Rattle.value.proofs.Forms.{after-cell-zeros}
+use Rattle.value.specs.Laws.Forms.{after-cell-zeros}
 use Rattle.value.proofs.cell_value.Statement.{statement}
 use Rattle.value.proofs.cell_value.Tie as tie
 

@@ -2,7 +2,8 @@ use mathlib.Core.Path.{ap, _∙_}
 use Prim.Native.Nat.{ℕ}
 use lib.Dec.{eqb}
 use borrow.Author.Tests.{eqb-true}
-use Rattle.fields.specs.Laws.Gives.{first-of-two, peeked, switch-known, _⟩_}
+use Rattle.fields.specs.Laws.Shows.{peeked}
+use Rattle.fields.specs.Laws.Gives.{first-of-two, switch-known, _⟩_}
 use Rattle.look.specs.Look as grammar
 use Rattle.look.proofs.borders.separator.Statement.{statement}
 use Rattle.look.proofs.borders.separator.Tie as tie

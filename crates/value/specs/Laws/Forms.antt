@@ -6,8 +6,9 @@ use Prim.Native.Nat.{ℕ, zero, suc, _-_}
 use native.Mathlib.Numerals.{sub-one}
 use lib.Dec.{eqb}
 use borrow.Author.Tests.{ne-eqb}
+use Rattle.sizes.specs.Sizes.{below-value}
 use Rattle.layout.specs.declared.Step.{Step}
-use Rattle.layout.specs.Layout.{Layout, little, one-of-but, passes, among, pick}
+use Rattle.layout.specs.Layout.{Layout, little, Test, one-of-but, passes, among, pick}
 use Rattle.layout.specs.Conventions.{byte, choose, keys}
 use Rattle.layout.specs.Read.{refusal}
 use Rattle.layout.specs.Reads.{Reads, peek, skip, field, refused}
@@ -27,7 +28,7 @@ unfolding ValueIn RawValueOf begins
 after-zeros version zero n h f = absurd (n refl)
 after-zeros version (suc d) n h f = leading-of refl (simp sub-one at h) f
 
-pub after-cell-zeros : (version : ℕ) {s : List ℕ} {st q r : Step} {n : ℕ} → n ≡ cell-zeros version → Reads (RawValueOf version (ValueIn version 7)) s q r → q ≡ skip 0 n s st
+pub after-cell-zeros : (version : ℕ) {s : List ℕ} {st q r : Step} {n : ℕ} → n ≡ cell-zeros version → Reads (RawValueOf version (ValueIn version below-value)) s q r → q ≡ skip 0 n s st
     → Reads (CellValue version) s st r
 unfolding CellValue RawValueOf begins
 after-cell-zeros version e h f = leading-of refl h (rw e at f)
@@ -39,17 +40,29 @@ other-byte true n e = rw e
 other-byte false n e = refl
 
 module _ (version : ℕ) (v : Layout) where
+  -- the test of the first byte
+  abbrev pub first-byte : Test
+  first-byte = one-of-but (keys (forms version v)) (left-out version)
+
+  pub form-passes : (n : ℕ) → among n (keys (forms version v)) ≡ true → eqb n 0x31 ≡ false → passes first-byte n ≡ true
+  unfolding passes
+  form-passes n a b = rw (a, other-byte (without-long-form version) n b)
+
+  pub long-passes : without-long-form version ≡ false → passes first-byte 0x31 ≡ true
+  unfolding passes among pick
+  long-passes w = rw w
+
   -- a form by its first byte
   pub form-of : {s : List ℕ} {q p r : Step} {x n : ℕ} → x ≡ n → among n (keys (forms version v)) ≡ true → eqb n 0x31 ≡ false
       → Reads (choose (forms version v) n) s p r → x ≡ peek little 1 s q → Reads byte s q p → Reads (RawValueOf version v) s q r
-  unfolding RawValueOf passes
-  form-of {n = n} e a b h f g = arm-of {k = choose (forms version v)} e (rw (a, other-byte (without-long-form version) n b)) h f g
+  unfolding RawValueOf
+  form-of {n = n} e a b h f g = arm-of {k = choose (forms version v)} e (form-passes n a b) h f g
 
   -- the long form, where it is not left out
   pub long-form : {s : List ℕ} {q p r : Step} {x : ℕ} → x ≡ 0x31 → without-long-form version ≡ false → Reads (choose (forms version v) 0x31) s p r → x ≡ peek little 1 s q → Reads byte s q p
       → Reads (RawValueOf version v) s q r
-  unfolding RawValueOf passes among pick
-  long-form e w h f g = arm-of {k = choose (forms version v)} e (rw w) h f g
+  unfolding RawValueOf
+  long-form e w h f g = arm-of {k = choose (forms version v)} e (long-passes w) h f g
 
   -- and where it is
   pub long-form-left-out : {s : List ℕ} {q r : Step} {x : ℕ} → x ≡ 0x31 → without-long-form version ≡ true → x ≡ peek little 1 s q → r ≡ field 1 4 s q

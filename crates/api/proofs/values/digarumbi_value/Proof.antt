@@ -1,0 +1,15 @@
+use borrow.Author.Needs.{needs}
+use Rattle.api.proofs.ValueCalls.{with-value, without-value}
+use Rattle.api.proofs.values.digarumbi_value.Statement.{statement}
+use Rattle.api.proofs.values.digarumbi_value.Tie as tie
+
+pub digarumbi-value-spec : {M : Type 1} → statement M
+digarumbi-value-spec =
+    tie.close
+    (tie.spec
+    (λ _ _. tt) (λ _ _. tt) (λ c. search needs)
+    (λ c.
+    let w = c .before .before in
+    let m = w .before .before .before in
+    with-value _ _ _ _ (m .if1 .taken) (w .before .before .read-value .ensures) (w .value-words .ensures))
+    (λ c. without-value _ _ _ (c .if1 .left)))

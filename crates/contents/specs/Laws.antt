@@ -1,0 +1,3 @@
+-- The laws by which the contents of a Value are found.
+pub mod Forms
+pub mod Answers

@@ -1,0 +1,5 @@
+pub mod Contents
+pub mod Number
+pub mod Answers
+pub mod Laws
+pub mod Members

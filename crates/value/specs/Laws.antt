@@ -1,0 +1,2 @@
+-- The laws by which a Value is read.
+pub mod Forms
