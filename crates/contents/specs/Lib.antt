@@ -3,3 +3,4 @@ pub mod Number
 pub mod Answers
 pub mod Laws
 pub mod Members
+pub mod Examples

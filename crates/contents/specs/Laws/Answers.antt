@@ -7,7 +7,8 @@ use native.Mathlib.Nat.{zero-add}
 use native.Mathlib.Omega.{arith}
 use lib.ListN.{length, drop}
 use lib.Seq.{drop-drop}
-use lib.Dec.{ltb}
+use lib.Dec.{eqb, ltb}
+use borrow.Author.Tests.{eqb-true, eqb-false}
 use Rattle.layout.specs.declared.Step.{Step}
 use Rattle.layout.specs.declared.Step.the-variants.{Next, Refused}
 use Rattle.sizes.specs.Sizes.{below-value}
@@ -125,3 +126,33 @@ module _ (version : ℕ) where
       → x ≡ outcome argumentOf refusedArgument r v → ArgumentAnswers version s x
   unfolding grammar.ArgumentOf argumentContents
   argument-answers known bs h e is = answers-read argumentOf known bs (number-shows h e) (λ t. refl) is
+
+-- ---- the answer as a function of the bytes
+
+-- what a reading by the grammar says
+abbrev pub readingSays : {A : Type 0} {B : Type 0} → (A → B) → (ℕ → ℕ → B) → Got A → B
+readingSays says refused (got t r p) = says t
+readingSays says refused (no n p) = refused n p
+
+unfoldable pub answerOf : {A : Type 0} (version : ℕ) (g : Layout) → (Tree g → A) → (ℕ → ℕ → A) → List ℕ → A
+answerOf version g says refused s = pick (eqb (unread version s) 0) (readingSays says refused (read g s 0)) (refused (unread version s) 0)
+
+-- there is one answer
+pub answer-is : {A : Type 0} {version : ℕ} {g : Layout} {says : Tree g → A} {refused : ℕ → ℕ → A} {s : List ℕ} {x : A} → Bytes s → Answers version g says refused s x
+    → x ≡ answerOf version g says refused s
+unfolding answerOf pick
+answer-is {A} {version} {g} {says} {refused} {s} {x} bs a = go (eqb (unread version s) 0) refl
+  where
+    one : unread version s ≡ 0 → (y : Got (Tree g)) → read g s 0 ≡ y → x ≡ readingSays says refused y
+    one known (got t r p) e = let q = laws.sound g s bs 0 t r p e in a .derived known t r (record { valid = q .0; split = q .1 })
+    one known (no n p) e = a .fails known n p (laws.fails-exactly g s bs 0 n p .0 e)
+
+    go : (b : Bool) → eqb (unread version s) 0 ≡ b → x ≡ pick b (readingSays says refused (read g s 0)) (refused (unread version s) 0)
+    go true e = one (eqb-true (unread version s) 0 e) (read g s 0) refl
+    go false e = a .not-read (unread version s) refl (eqb-false (unread version s) 0 e)
+
+abbrev pub valueAnswer : ℕ → List ℕ → Contents
+valueAnswer version s = answerOf version (CellValue version) (contents version) refused s
+
+abbrev pub argumentAnswer : ℕ → List ℕ → Argument
+argumentAnswer version s = answerOf version (grammar.Argument version below-value) (argumentContents version) refusedArgument s
