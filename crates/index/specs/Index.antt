@@ -1,6 +1,6 @@
 -- The places of a table: how many there are, and which one the coordinates of a cell give.
 use mathlib.Core.List.{List, [], _∷_, map}
-use Prim.Native.Nat.{ℕ, zero, suc, _+_, _*_, _<_}
+use Prim.Native.Nat.{ℕ, zero, suc, _+_, _*_, _/_, _%_, _<_}
 use Rattle.sizes.specs.Sizes.{dimension-words, dimension-n}
 use Rattle.layout.specs.Layout.{All}
 use Rattle.once.specs.Once.{word}
@@ -34,3 +34,17 @@ shape ds = map (λ d. d .0) ds
 -- each coordinate is below its n
 abbrev pub Inside : List (ℕ × ℕ) → Type 0
 Inside ds = All (λ d. d .1 < d .0) ds
+
+-- ---- the coordinates of a cell
+
+-- the inverse of the index (document 02, T-01; `Laws`): the index k on each dimension, beside its n. The last dimension changes fastest, so
+-- one step on a dimension is as many places as the dimensions after it have
+unfoldable pub coordinates : List ℕ → ℕ → List (ℕ × ℕ)
+coordinates [] k = []
+coordinates (n ∷ ns) k = (n, k / product ns) ∷ coordinates ns (k % product ns)
+
+-- on dimension i alone
+unfoldable pub coordinate : List ℕ → ℕ → ℕ → ℕ
+coordinate [] i k = 0
+coordinate (n ∷ ns) zero k = k / product ns
+coordinate (n ∷ ns) (suc i) k = coordinate ns i (k % product ns)

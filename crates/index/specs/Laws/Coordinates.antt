@@ -1,12 +1,13 @@
--- The laws of a cell's index (003, Cells): coordinates below their n give an index below the product, and each index below the product has
--- exactly one set of coordinates.
+-- The laws of a cell's index (003, Cells) and of its coordinates: each is the inverse of the other, so coordinates below their n and indexes
+-- below the product correspond one to one.
 use mathlib.Core.Path.{_≡_, refl, sym, ap, _∙_}
 use mathlib.Core.List.{List, [], _∷_}
 use Prim.Native.Nat.{ℕ, zero, suc, _+_, _*_, _/_, _%_, _≤_, _<_}
-use native.Mathlib.Nat.{zero-mul, mul-comm, mul-one, one-mul, mul-assoc, mul-le-mul-left, mul-suc, mod-lt, div-add-mod, div-lt-iff-lt-mul, mul-add-div, mul-add-mod-self-left, mod-eq-of-lt, div-eq-of-lt, add-zero}
+use native.Mathlib.Nat.{zero-mul, mul-zero, mul-comm, mul-one, one-mul, mul-assoc, add-mul, mul-le-mul-left, mul-suc, mod-lt, div-add-mod', div-lt-iff-lt-mul, mul-add-div-right, mul-add-mod-self-right, mod-eq-of-lt, div-eq-of-lt, add-zero, zero-add, mod-mod-of-dvd, dvd-mul-right}
 use native.Mathlib.Omega.{arith}
+use lib.ListN.{length, drop, getD}
 use Rattle.layout.specs.Layout.{all-none, all-more}
-use Rattle.index.specs.Index.{product, index-from, index, shape, Inside}
+use Rattle.index.specs.Index.{product, index-from, index, shape, Inside, coordinates, coordinate}
 
 -- ---- below the product
 
@@ -29,80 +30,113 @@ from-below k p h (all-more {x = d} {xs = ds} l ls) =
 pub index-below : {ds : List (ℕ × ℕ)} → Inside ds → index ds < product (shape ds)
 index-below {ds} b = rw (one-mul (product (shape ds))) at (from-below 0 1 (omega arith) b)
 
--- ---- one set of coordinates
+-- ---- the index from its first coordinate
 
-quotient-of : (n b x : ℕ) → x < n → (n * b + x) / n ≡ b
-quotient-of n b x h = mul-add-div {m = n} (omega arith) b x ∙ rw (div-eq-of-lt h) (add-zero b)
+from-is : (k : ℕ) (ds : List (ℕ × ℕ)) → index-from k ds ≡ k * product (shape ds) + index ds
+unfolding product
+from-is k [] = omega (arith, mul-one k)
+from-is k (d ∷ ds) =
+    let p = product (shape ds) in
+    let a = from-is (d .0 * k + d .1) ds in
+    let b = from-is (d .0 * 0 + d .1) ds in
+    let c : (d .0 * k + d .1) * p ≡ d .0 * k * p + d .1 * p = add-mul (d .0 * k) (d .1) p in
+    let e : (d .0 * 0 + d .1) * p ≡ d .0 * 0 * p + d .1 * p = add-mul (d .0 * 0) (d .1) p in
+    let z : d .0 * 0 * p ≡ 0 = rw mul-zero (zero-mul p) in
+    let f = turned k (d .0) p in
+    omega (arith, a, b, c, e, z, f)
 
-remainder-of : (n b x : ℕ) → x < n → (n * b + x) % n ≡ x
-remainder-of n b x h = mul-add-mod-self-left n b x ∙ mod-eq-of-lt h
+index-first : (n x : ℕ) (ds : List (ℕ × ℕ)) → index ((n, x) ∷ ds) ≡ x * product (shape ds) + index ds
+index-first n x ds = rw (mul-zero n, zero-add x) (from-is x ds)
 
--- the number before, and the coordinate
-record Last (n k x l y : ℕ) : Type 0 where
-  before : k ≡ l
-  same : x ≡ y
+-- ---- each the other's inverse
 
-last-one : (n k x l y : ℕ) → x < n → y < n → n * k + x ≡ n * l + y → Last n k x l y
-last-one n k x l y h h′ e =
-    record {
-      before = sym (quotient-of n k x h) ∙ (ap (λ (m : ℕ). m / n) e ∙ quotient-of n l y h′);
-      same = sym (remainder-of n k x h) ∙ (ap (λ (m : ℕ). m % n) e ∙ remainder-of n l y h′);
-    }
+positive : (n p k : ℕ) → k < n * p → 0 < p
+positive n zero k h = absurd (let e : n * 0 ≡ 0 = mul-zero n in omega arith)
+positive n (suc p) k h = omega arith
 
-pair-one : (d e : ℕ × ℕ) → d .0 ≡ e .0 → d .1 ≡ e .1 → d ≡ e
-pair-one (n, x) (m, y) p q = rw (p, q)
+-- the first coordinate of an index below the product is below its n
+first-below : (n p k : ℕ) → k < n * p → k / p < n
+first-below n p k h = div-lt-iff-lt-mul {k = p} {x = k} {y = n} (positive n p k h) .1 h
 
-from-one : (k l : ℕ) {ds es : List (ℕ × ℕ)} → Inside ds → Inside es → shape ds ≡ shape es → index-from k ds ≡ index-from l es → (k ≡ l) × (ds ≡ es)
-from-one k l all-none all-none s i = (i, refl)
-from-one k l all-none (all-more {x = e} {xs = es} h hs) s i = absurd (let s′ : [] ≡ e .0 ∷ shape es = s in let z : _≡_ {A = ℕ} 0 1 = cc in omega arith)
-from-one k l (all-more {x = d} {xs = ds} h hs) all-none s i = absurd (let s′ : d .0 ∷ shape ds ≡ [] = s in let z : _≡_ {A = ℕ} 0 1 = cc in omega arith)
-from-one k l (all-more {x = d} {xs = ds} h hs) (all-more {x = e} {xs = es} h′ hs′) s i =
-    let s′ : d .0 ∷ shape ds ≡ e .0 ∷ shape es = s in
-    let same-n : d .0 ≡ e .0 = cc in
-    let others : shape ds ≡ shape es = cc in
-    let q = from-one (d .0 * k + d .1) (e .0 * l + e .1) hs hs′ others i in
-    let p = last-one (d .0) k (d .1) l (e .1) h (rw same-n h′) (q .0 ∙ rw same-n) in
-    (p .before, rw (pair-one d e same-n (p .same), q .1))
+pub coordinates-shape : (ns : List ℕ) (k : ℕ) → shape (coordinates ns k) ≡ ns
+unfolding coordinates
+coordinates-shape [] k = refl
+coordinates-shape (n ∷ ns) k = ap {B = List ℕ} (λ xs. n ∷ xs) (coordinates-shape ns (k % product ns))
+
+pub coordinates-inside : (ns : List ℕ) (k : ℕ) → k < product ns → Inside (coordinates ns k)
+unfolding coordinates product
+coordinates-inside [] k h = all-none
+coordinates-inside (n ∷ ns) k h =
+    all-more {x = (n, k / product ns)} (first-below n (product ns) k h) (coordinates-inside ns (k % product ns) (mod-lt k (positive n (product ns) k h)))
+
+-- the index of an index's coordinates is the index
+pub index-of-coordinates : (ns : List ℕ) (k : ℕ) → k < product ns → index (coordinates ns k) ≡ k
+unfolding coordinates product
+index-of-coordinates [] k h = omega arith
+index-of-coordinates (n ∷ ns) k h =
+    let p = product ns in
+    index-first n (k / p) (coordinates ns (k % p))
+    ∙ rw (coordinates-shape ns (k % p), index-of-coordinates ns (k % p) (mod-lt k (positive n p k h))) (div-add-mod' k p)
+
+-- the coordinates of coordinates' index are the coordinates
+pub coordinates-of-index : {ds : List (ℕ × ℕ)} → Inside ds → coordinates (shape ds) (index ds) ≡ ds
+unfolding coordinates
+coordinates-of-index all-none = refl
+coordinates-of-index (all-more {x = (n, x)} {xs = ds} l ls) =
+    let p = product (shape ds) in
+    let small : index ds < p = index-below ls in
+    let quotient : (x * p + index ds) / p ≡ x = mul-add-div-right {m = p} (omega arith) x (index ds) ∙ rw (div-eq-of-lt small) (add-zero x) in
+    let rest : (x * p + index ds) % p ≡ index ds = mul-add-mod-self-right x p (index ds) ∙ mod-eq-of-lt small in
+    rw (index-first n x ds, quotient, rest, coordinates-of-index ls)
 
 -- Different coordinates have different indexes
 pub index-one : {ds es : List (ℕ × ℕ)} → Inside ds → Inside es → shape ds ≡ shape es → index ds ≡ index es → ds ≡ es
-index-one b b′ e i = from-one 0 0 b b′ e i .1
-
--- ---- each index
-
-positive : (n p k : ℕ) → k < n * p → 0 < n
-positive zero p k h = absurd (let e : 0 * p ≡ 0 = zero-mul p in omega arith)
-positive (suc n) p k h = omega arith
-
--- coordinates that give k, from a number below p on
-record Made (p : ℕ) (ns : List ℕ) (k : ℕ) : Type 0 where
-  from : ℕ
-  small : from < p
-  coordinates : List (ℕ × ℕ)
-  of-these : shape coordinates ≡ ns
-  below : Inside coordinates
-  is : index-from from coordinates ≡ k
-
-made : (p : ℕ) (ns : List ℕ) (k : ℕ) → k < p * product ns → Made p ns k
-unfolding product
-made p [] k h = record { from = k; small = rw (mul-one p) at h; coordinates = []; of-these = refl; below = all-none; is = refl }
-made p (n ∷ ns) k h = one-more (made (n * p) ns k (rw (turned p n (product ns)) at h))
-  where
-    one-more : Made (n * p) ns k → Made p (n ∷ ns) k
-    one-more m =
-        let some : 0 < n = positive n p (m .from) (m .small) in
-        record {
-          from = m .from / n;
-          small = div-lt-iff-lt-mul {k = n} {x = m .from} {y = p} some .1 (rw (mul-comm p n) (m .small));
-          coordinates = (n, m .from % n) ∷ m .coordinates;
-          of-these = ap (λ (xs : List ℕ). n ∷ xs) (m .of-these);
-          below = all-more {x = (n, m .from % n)} (mod-lt (m .from) some) (m .below);
-          is = rw (div-add-mod (m .from) n) (m .is);
-        }
+index-one b b′ e i = sym (coordinates-of-index b) ∙ (rw (e, i) (coordinates-of-index b′))
 
 -- Each index below the product is that of coordinates
 pub each-index : (ns : List ℕ) (k : ℕ) → k < product ns → (ds : List (ℕ × ℕ)) × (shape ds ≡ ns) × Inside ds × (index ds ≡ k)
-each-index ns k h =
-    let m = made 1 ns k (rw (one-mul (product ns)) h) in
-    let first : m .from ≡ 0 = omega (arith, m .small) in
-    (m .coordinates, m .of-these, m .below, rw first at (m .is))
+each-index ns k h = (coordinates ns k, coordinates-shape ns k, coordinates-inside ns k h, index-of-coordinates ns k h)
+
+-- ---- one coordinate
+
+-- it is that of the list
+pub coordinate-of : (ns : List ℕ) (i k : ℕ) → coordinate ns i k ≡ getD (coordinates ns k) i (0, 0) .1
+unfolding coordinate coordinates
+coordinate-of [] i k = refl
+coordinate-of (n ∷ ns) zero k = refl
+coordinate-of (n ∷ ns) (suc i) k = coordinate-of ns i (k % product ns)
+
+-- it is below the n of its dimension
+pub coordinate-below : (ns : List ℕ) (i k : ℕ) → k < product ns → i < length ns → coordinate ns i k < getD ns i 0
+unfolding coordinate product
+coordinate-below [] i k h l = absurd (omega arith)
+coordinate-below (n ∷ ns) zero k h l = first-below n (product ns) k h
+coordinate-below (n ∷ ns) (suc i) k h l = coordinate-below ns i (k % product ns) (mod-lt k (positive n (product ns) k h)) (omega arith)
+
+-- the places of all are a multiple of those of the later dimensions
+later-factor : (i : ℕ) (ns : List ℕ) → (c : ℕ) × (product ns ≡ product (drop i ns) * c)
+unfolding product
+later-factor zero ns = (1, sym (mul-one (product ns)))
+later-factor (suc i) [] = (1, refl)
+later-factor (suc i) (n ∷ ns) =
+    let f = later-factor i ns in
+    let q = product (drop i ns) in
+    (n * f .0, rw (f .1) (turned n q (f .0) ∙ mul-assoc q n (f .0)))
+
+remainder-later : (i : ℕ) (ns : List ℕ) (k : ℕ) → k % product ns % product (drop i ns) ≡ k % product (drop i ns)
+remainder-later i ns k =
+    let f = later-factor i ns in
+    let q = product (drop i ns) in
+    rw (f .1) (mod-mod-of-dvd q k (dvd-mul-right q (f .0)))
+
+rest-below : (n : ℕ) (ns : List ℕ) (k : ℕ) → k < product (n ∷ ns) → k % product ns < product ns
+unfolding product
+rest-below n ns k h = mod-lt k (positive n (product ns) k h)
+
+-- it is found by the places of the dimensions from it on, and of those after it
+pub coordinate-is : (ns : List ℕ) (i k : ℕ) → k < product ns → i < length ns → coordinate ns i k ≡ k % product (drop i ns) / product (drop (suc i) ns)
+unfolding coordinate
+coordinate-is [] i k h l = absurd (omega arith)
+coordinate-is (n ∷ ns) zero k h l = rw (mod-eq-of-lt h)
+coordinate-is (n ∷ ns) (suc i) k h l =
+    coordinate-is ns i (k % product ns) (rest-below n ns k h) (omega arith) ∙ rw (remainder-later i ns k)

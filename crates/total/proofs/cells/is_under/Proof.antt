@@ -1,0 +1,11 @@
+use borrow.Author.Needs.{needs}
+use Rattle.total.specs.Laws.Words.{underBy}
+use Rattle.total.proofs.cells.is_under.Statement.{statement}
+use Rattle.total.proofs.cells.is_under.Tie as tie
+
+pub is-under-spec : {M : Type 1} → statement M
+unfolding underBy
+is-under-spec =
+    tie.close
+    (tie.spec
+    (λ _ _. tt) (λ _ _. tt) (λ c. rw (c .quotient .ensures, c .before .remainder .ensures)))

@@ -1,0 +1,11 @@
+use borrow.Author.Needs.{needs}
+use mathlib.Core.Path.{sym}
+use native.Mathlib.Nat.{mod-zero}
+use Rattle.total.proofs.cells.remainder.Statement.{statement}
+use Rattle.total.proofs.cells.remainder.Tie as tie
+
+pub remainder-spec : {M : Type 1} → statement M
+remainder-spec =
+    tie.close
+    (tie.spec
+    (λ c. search needs) (λ c. rw (c .if1 .taken) (sym (mod-zero _))) (λ c. search needs))

@@ -1,0 +1,3 @@
+-- The laws of totals.
+pub mod Sums
+pub mod Words

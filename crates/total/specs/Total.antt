@@ -1,0 +1,86 @@
+-- The total of the cells under a leaf (document 02, T-01).
+use mathlib.Core.Bool.{Bool, true, false}
+use mathlib.Core.List.{List, [], _∷_, map}
+use Prim.Native.Nat.{ℕ, _+_, min, max}
+use lib.Dec.{eqb, ltb}
+use Rattle.layout.specs.Layout.{pick, among, Tree, size}
+use Rattle.index.specs.Index.{coordinate}
+use Rattle.table.specs.Table.{Cell}
+use Rattle.table.specs.Records.{cellIndex, cellValue}
+use Rattle.member.specs.Member.{Member, version, cells, cellsStart, dimensions, nodes, ns}
+use Rattle.contents.specs.declared.Contents.{Contents}
+use Rattle.contents.specs.Contents.{contents}
+use Rattle.total.specs.declared.sums.Kind.{Kind}
+use Rattle.total.specs.declared.sums.Kind.the-variants.{Text, Missing, Number, Bad}
+use Rattle.total.specs.declared.sums.Sums.{Sums}
+use Rattle.total.specs.Count.{missing-bits, no-count, count}
+
+-- ---- a cell
+
+-- its index, the place of its Value (the first of its leading 00 bytes), and what the Value says
+pub record CellSays : Type 0 where
+  pub index : ℕ
+  pub place : ℕ
+  pub contents : Contents
+
+-- what it is here, by its form and the bits of its double: "Value forms 01 and 02 count; others are counted as text cells"; a double may be
+-- "missing, counted apart and no number here"; "Every other double there must be a whole number from 0 to 4,294,967,295"
+abbrev pub countKind : ℕ → Kind
+countKind n = pick (ltb n no-count) (Number n) Bad
+
+abbrev pub doubleKind : ℕ → Kind
+doubleKind bits = pick (eqb bits missing-bits) Missing (countKind (count bits))
+
+unfoldable pub kind : ℕ → ℕ → Kind
+kind form bits = pick (among form (1 ∷ 2 ∷ [])) (doubleKind bits) Text
+
+-- ---- sums over cells, in file order
+
+abbrev pub no-sums : Sums
+no-sums = record { bad = false; place = 0; total = 0; numbers = 0; texts = 0; missing = 0; smallest = 0; largest = 0 }
+
+-- one cell before others: the first bad one decides; the smallest of the first number is that number
+unfoldable pub add : Kind → ℕ → Sums → Sums
+add Text place s = record { bad = s .bad; place = s .place; total = s .total; numbers = s .numbers; texts = s .texts + 1; missing = s .missing; smallest = s .smallest; largest = s .largest }
+add Missing place s = record { bad = s .bad; place = s .place; total = s .total; numbers = s .numbers; texts = s .texts; missing = s .missing + 1; smallest = s .smallest; largest = s .largest }
+add (Number n) place s = record {
+  bad = s .bad;
+  place = s .place;
+  total = s .total + n;
+  numbers = s .numbers + 1;
+  texts = s .texts;
+  missing = s .missing;
+  smallest = pick (eqb (s .numbers) 0) n (min n (s .smallest));
+  largest = max n (s .largest);
+}
+add Bad place s = record { bad = true; place = place; total = s .total; numbers = s .numbers; texts = s .texts; missing = s .missing; smallest = s .smallest; largest = s .largest }
+
+-- of those cells whose index passes a test
+unfoldable pub withCell : (ℕ → Bool) → CellSays → Sums → Sums
+withCell test c s = pick (test (c .index)) (add (kind (c .contents .raw .form) (c .contents .raw .bits)) (c .place) s) s
+
+unfoldable pub sums : (ℕ → Bool) → List CellSays → Sums
+sums test [] = no-sums
+sums test (c ∷ cs) = withCell test c (sums test cs)
+
+-- ---- the cells of a derivation
+
+module _ (version : ℕ) where
+  -- the index of a cell takes eight bytes, and its Value follows
+  unfoldable pub cellsSay : ℕ → List (Tree (Cell version)) → List CellSays
+  cellsSay at [] = []
+  cellsSay at (c ∷ cs) = record { index = cellIndex version c; place = at + 8; contents = contents version (cellValue version c) } ∷ cellsSay (at + size (Cell version) c) cs
+
+abbrev pub memberCells : Tree Member → List CellSays
+memberCells t = cellsSay (version t) (cellsStart t) (cells t)
+
+-- "A cell is under the leaf when its coordinate in that dimension is the leaf index"
+abbrev pub under : Tree Member → ℕ → ℕ → ℕ → Bool
+under t dimension leaf index = eqb (coordinate (ns t) dimension index) leaf
+
+-- the sums under a leaf, and over the whole table
+abbrev pub leafSums : Tree Member → ℕ → ℕ → Sums
+leafSums t dimension leaf = sums (under t dimension leaf) (memberCells t)
+
+abbrev pub tableSums : Tree Member → Sums
+tableSums t = sums (λ _. true) (memberCells t)
