@@ -3,6 +3,7 @@
 
 pub mod axes;
 pub mod cells;
+pub mod contents;
 pub mod cursor;
 pub mod damage;
 pub mod dimensions;
