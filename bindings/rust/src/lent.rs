@@ -6,7 +6,7 @@
 //! with the length of its slice, and Rust's borrows keep a slice that is written from overlapping
 //! the others.
 //!
-//! The functions over members panic if the archive has another interface than these declarations.
+//! The functions over members and their records panic if the archive has another interface than these declarations.
 
 use std::iter::successors;
 
@@ -155,7 +155,6 @@ pub fn part(member: &[u8], place: usize, length: usize) -> usize {
 /// assert_eq!(value(3, b"", &mut answer[1..]), 0);
 /// ```
 pub fn value(version: u32, value: &[u8], answer: &mut [u32]) -> usize {
-    test_abi();
     unsafe {
         ffi::digarumbi_value(
             version,
@@ -181,7 +180,6 @@ pub fn value(version: u32, value: &[u8], answer: &mut [u32]) -> usize {
 /// assert_eq!(answer, [2, 0, 0, 0, 0]);
 /// ```
 pub fn argument(version: u32, argument: &[u8], answer: &mut [u32]) -> usize {
-    test_abi();
     unsafe {
         ffi::digarumbi_argument(
             version,
