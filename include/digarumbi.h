@@ -190,8 +190,8 @@ enum {
 /* Reads the Value at the start of the bytes; other bytes may follow it.
  *
  * Refusals: 1 at 0 if there are more than 1,048,576 bytes; then 4 at 0 if `version` is neither 1 nor 3; then those of reading a Value by
- * the grammar from place 0, up to 8 deep. After up to four 00 bytes in version 3, or five in version 1, whether it is a cell's or not.
- * Nothing is refused of the bytes that a record of an accepted member says, with the version of that member; the length is the record's.
+ * the grammar from place 0, nested up to 8 deep, after up to four 00 bytes in version 3 and five in version 1, be it a cell's or not.
+ * Nothing is refused of the bytes that a record of an accepted member says, by the version of that member; the length is the record's.
  *
  * Returns 22, the words of the answer. Returns 0 if `answer` has fewer: then nothing is read and nothing changes. Words of `answer`
  * beyond 22 stay. */
