@@ -50,8 +50,8 @@ pub struct ArgumentContents {
 
 /// The Value at the start of the bytes, of a member of this version.
 pub fn contents(version: u32, bytes: &[u8]) -> Result<Contents, Refusal> {
-    let (mut cursor, version) = start(version, bytes)?;
-    cursor.zero_run(version.cell_zeros());
+    let version = start(version, bytes)?;
+    let mut cursor = Cursor::after_zeros(bytes, version.cell_zeros());
     let zeros = cursor.place();
     let form = form(&mut cursor, version)?;
     Ok(Contents { length: cursor.place(), zeros, form })
@@ -59,7 +59,8 @@ pub fn contents(version: u32, bytes: &[u8]) -> Result<Contents, Refusal> {
 
 /// The Argument at the start of the bytes; it stands in a template that is not part of another.
 pub fn argument_contents(version: u32, bytes: &[u8]) -> Result<ArgumentContents, Refusal> {
-    let (mut cursor, version) = start(version, bytes)?;
+    let version = start(version, bytes)?;
+    let mut cursor = Cursor::new(bytes);
     let number = cursor.int32()?;
     if number > 0 {
         cursor.fixed_int32(0)?;
@@ -71,10 +72,10 @@ pub fn argument_contents(version: u32, bytes: &[u8]) -> Result<ArgumentContents,
     Ok(ArgumentContents { length: cursor.place(), values, first })
 }
 
-fn start(version: u32, bytes: &[u8]) -> Result<(Cursor<'_>, Version), Refusal> {
+/// The version with this number, where the bytes are not too many.
+fn start(version: u32, bytes: &[u8]) -> Result<Version, Refusal> {
     refuse_if(bytes.len() > MEMBER_BYTES, TOO_LONG, 0)?;
-    let version = Version::from_number(version).ok_or(Refusal::new(VERSION, 0))?;
-    Ok((Cursor::new(bytes), version))
+    Version::from_number(version).ok_or(Refusal::new(VERSION, 0))
 }
 
 fn form(cursor: &mut Cursor, version: Version) -> Result<Form, Refusal> {
