@@ -141,6 +141,94 @@ size_t digarumbi_node_after(const uint32_t *nodes, size_t node_words, size_t cou
 /* The length of the part of the member at `place`: `length`, or 0 if that part doesn't lie inside the member. */
 size_t digarumbi_part(const uint8_t *member, size_t member_length, size_t place, size_t length);
 
+/* ---- Values ---- */
+
+/* Names and cells are Values (003, Value): where a record says, with the length that it says. What such a Value says, digarumbi_value
+ * answers, by the version of the member:
+ *
+ *     digarumbi_value(version, member + place, length, answer, DIGARUMBI_VALUE_WORDS)
+ *
+ * Words of a Value's answer. Places are offsets in the bytes given. Words of fields that a form hasn't are 0; after a refusal all but the
+ * number and the place are. */
+enum {
+    DIGARUMBI_VALUE_REFUSAL = 0,      /* 0 if the bytes begin with a Value */
+    DIGARUMBI_VALUE_PLACE = 1,        /* place of the refusal */
+    DIGARUMBI_VALUE_LENGTH = 2,       /* bytes of the Value, its leading 00 bytes included */
+    DIGARUMBI_VALUE_ZEROS = 3,        /* how many 00 bytes lead: 0 to 4 in version 3, 0 to 5 in version 1 */
+    DIGARUMBI_VALUE_FORM = 4,         /* one of the forms below */
+    DIGARUMBI_VALUE_FORMAT = 5,       /* forms 1, 2 and 4 */
+    DIGARUMBI_VALUE_BITS_LOW = 6,     /* the double's bits, forms 1 and 2: see digarumbi_number */
+    DIGARUMBI_VALUE_BITS_HIGH = 7,
+    DIGARUMBI_VALUE_SHOW = 8,         /* forms 2, 4 and 5: 1 the value or name, 2 the label, 3 both, 0 the table's default */
+    DIGARUMBI_VALUE_FIXED = 9,        /* form 3: 0 or 1 */
+    DIGARUMBI_VALUE_TEXT = 10,        /* place of local (forms 3 and 6), s (form 4) or the template (form 7) */
+    DIGARUMBI_VALUE_TEXT_LENGTH = 11,
+    DIGARUMBI_VALUE_NAME = 12,        /* place of var-name (forms 2, 4 and 5) */
+    DIGARUMBI_VALUE_NAME_LENGTH = 13,
+    DIGARUMBI_VALUE_LABEL = 14,       /* place of value-label (forms 2 and 4) or var-label (form 5) */
+    DIGARUMBI_VALUE_LABEL_LENGTH = 15,
+    DIGARUMBI_VALUE_ID = 16,          /* place of id (forms 3 and 6) */
+    DIGARUMBI_VALUE_ID_LENGTH = 17,
+    DIGARUMBI_VALUE_C = 18,           /* place of c (forms 3 and 6) */
+    DIGARUMBI_VALUE_C_LENGTH = 19,
+    DIGARUMBI_VALUE_ARGUMENTS = 20,   /* number of arguments of a template, form 7 */
+    DIGARUMBI_VALUE_ARGUMENT = 21,    /* place where the first of them starts, or would */
+    DIGARUMBI_VALUE_WORDS = 22        /* words in all */
+};
+
+/* The forms of a Value, by its first byte after the 00 bytes. */
+enum {
+    DIGARUMBI_NUMBER = 1,          /* 01: a number */
+    DIGARUMBI_LABELLED_NUMBER = 2, /* 02: a number, with the variable that it is a value of, and its label */
+    DIGARUMBI_TEXT = 3,            /* 03: a text, fixed or from the user */
+    DIGARUMBI_STRING = 4,          /* 04: a string, with the variable that it is a value of, and its label */
+    DIGARUMBI_VARIABLE = 5,        /* 05: a variable, with its label */
+    DIGARUMBI_FIXED_TEXT = 6,      /* 06: a fixed text */
+    DIGARUMBI_TEMPLATE = 7         /* 31 or 58: a template with arguments */
+};
+
+/* Reads the Value at the start of the bytes; other bytes may follow it.
+ *
+ * Refusals: 1 at 0 if there are more than 1,048,576 bytes; then 4 at 0 if `version` is neither 1 nor 3; then those of reading a Value by
+ * the grammar from place 0, nested up to 8 deep, after up to four 00 bytes in version 3 and five in version 1, be it a cell's or not.
+ * Nothing is refused of the bytes that a record of an accepted member says, by the version of that member; the length is the record's.
+ *
+ * Returns 22, the words of the answer. Returns 0 if `answer` has fewer: then nothing is read and nothing changes. Words of `answer`
+ * beyond 22 stay. */
+size_t digarumbi_value(uint32_t version, const uint8_t *value, size_t value_length, uint32_t *answer, size_t answer_words);
+
+/* Words of an argument's answer (003, Argument); after a refusal all but the number and the place are 0. */
+enum {
+    DIGARUMBI_ARGUMENT_REFUSAL = 0, /* 0 if the bytes begin with an Argument */
+    DIGARUMBI_ARGUMENT_PLACE = 1,   /* place of the refusal */
+    DIGARUMBI_ARGUMENT_LENGTH = 2,  /* bytes of the Argument */
+    DIGARUMBI_ARGUMENT_VALUES = 3,  /* how many Values it has: x, or 1 where its first number is 0 */
+    DIGARUMBI_ARGUMENT_VALUE = 4,   /* place where the first of them starts: 4 or 8 */
+    DIGARUMBI_ARGUMENT_WORDS = 5    /* words in all */
+};
+
+/* Reads the Argument at the start of the bytes; other bytes may follow it. Its Values may be nested 7 deep, since the template that it
+ * stands in is one level. The order of refusals is that of digarumbi_value. The arguments of a template follow one another, and so do the
+ * Values of an argument:
+ *
+ *     place = answer[DIGARUMBI_VALUE_ARGUMENT];
+ *     for (i = 0; i < answer[DIGARUMBI_VALUE_ARGUMENTS]; i++) {
+ *         digarumbi_argument(version, value + place, value_length - place, argument, DIGARUMBI_ARGUMENT_WORDS);
+ *         its first Value is at place + argument[DIGARUMBI_ARGUMENT_VALUE]
+ *         place += argument[DIGARUMBI_ARGUMENT_LENGTH];
+ *     }
+ *
+ * Returns 5, the words of the answer. Returns 0 if `answer` has fewer: then nothing is read and nothing changes. Words of `answer` beyond
+ * 5 stay. */
+size_t digarumbi_argument(uint32_t version, const uint8_t *argument, size_t argument_length, uint32_t *answer, size_t answer_words);
+
+/* The double of these bits. Returns 1 and stores it; returns 0 and stores 0 if the bits are a NaN's. */
+uint32_t digarumbi_number(uint32_t low, uint32_t high, double *number);
+
+/* The bits of the double that stands for a missing value, minus the largest finite one (003, Value). */
+#define DIGARUMBI_MISSING_LOW UINT32_C(0xffffffff)
+#define DIGARUMBI_MISSING_HIGH UINT32_C(0xffefffff)
+
 /* ---- Looks ---- */
 
 /* Each class name that 002 quotes has its length before its letters, 16 bits, little-endian: PTTableLook 11, PVSeparatorStyle 16,

@@ -22,6 +22,12 @@ impl<'a> Cursor<'a> {
         Cursor { bytes, place: 0, end: bytes.len() }
     }
 
+    /// Behind the zero bytes at the start, `most` at most.
+    pub fn after_zeros(bytes: &'a [u8], most: usize) -> Cursor<'a> {
+        let place = bytes.iter().take(most).take_while(|&&byte| byte == 0).count();
+        Cursor { bytes, place, end: bytes.len() }
+    }
+
     pub fn place(&self) -> usize {
         self.place
     }

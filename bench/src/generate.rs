@@ -8,6 +8,7 @@ mod titles;
 mod value;
 
 pub use look::{look_bytes, look_to_write, LookToWrite};
+pub use value::{any_value, argument_of_value};
 
 use crate::member::Answer;
 use crate::random::Random;

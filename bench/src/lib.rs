@@ -3,6 +3,7 @@
 
 pub mod axes;
 pub mod cells;
+pub mod contents;
 pub mod cursor;
 pub mod damage;
 pub mod dimensions;
@@ -18,6 +19,7 @@ pub mod refusal;
 pub mod sections;
 pub mod seen;
 pub mod stored_looks;
+pub mod stored_values;
 pub mod titles;
 pub mod units;
 pub mod value;

@@ -18,7 +18,11 @@ pub fn cell_value(cursor: &mut Cursor, version: Version) -> Result<Span, Refusal
     value_after_zeros(cursor, version, version.cell_zeros(), 1)
 }
 
-fn value_at_depth(cursor: &mut Cursor, version: Version, depth: u32) -> Result<Span, Refusal> {
+pub(crate) fn value_at_depth(
+    cursor: &mut Cursor,
+    version: Version,
+    depth: u32,
+) -> Result<Span, Refusal> {
     refuse_if(depth > VALUE_DEPTH, LIMIT, cursor.place())?;
     value_after_zeros(cursor, version, ZEROS, depth)
 }
@@ -112,7 +116,7 @@ fn template(cursor: &mut Cursor, version: Version, depth: u32) -> Result<(), Ref
 }
 
 /// An argument of a template that stands at `depth`.
-fn argument(cursor: &mut Cursor, version: Version, depth: u32) -> Result<(), Refusal> {
+pub(crate) fn argument(cursor: &mut Cursor, version: Version, depth: u32) -> Result<(), Refusal> {
     let values = cursor.int32()?;
     if values == 0 {
         value_at_depth(cursor, version, depth + 1)?;
@@ -125,7 +129,7 @@ fn argument(cursor: &mut Cursor, version: Version, depth: u32) -> Result<(), Ref
     Ok(())
 }
 
-fn value_mod(cursor: &mut Cursor, version: Version) -> Result<(), Refusal> {
+pub(crate) fn value_mod(cursor: &mut Cursor, version: Version) -> Result<(), Refusal> {
     let place = cursor.place();
     if cursor.mark()? {
         long_value_mod(cursor, version, place)?;
@@ -134,7 +138,11 @@ fn value_mod(cursor: &mut Cursor, version: Version) -> Result<(), Refusal> {
 }
 
 /// A ValueMod after its first byte 31, which stands at `place`. Version 1 is without it.
-fn long_value_mod(cursor: &mut Cursor, version: Version, place: usize) -> Result<(), Refusal> {
+pub(crate) fn long_value_mod(
+    cursor: &mut Cursor,
+    version: Version,
+    place: usize,
+) -> Result<(), Refusal> {
     refuse_if(version == Version::One, VERSION, place)?;
     let references = cursor.int32()?;
     for _ in 0..references {

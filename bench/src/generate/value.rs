@@ -19,6 +19,19 @@ pub fn cell_value(random: &mut Random, version: Version) -> Vec<u8> {
     [zeros, raw_value(random, version, levels)].concat()
 }
 
+/// A Value of any form, of every depth more often than in a member.
+pub fn any_value(random: &mut Random, version: Version) -> Vec<u8> {
+    let zeros = zeros(random, version.cell_zeros());
+    let levels = if random.once_in(3) { 2 + random.size(VALUE_DEPTH as usize - 2) } else { 1 };
+    [zeros, raw_value(random, version, levels)].concat()
+}
+
+/// An argument of such a Value.
+pub fn argument_of_value(random: &mut Random, version: Version) -> Vec<u8> {
+    let levels = 2 + random.size(VALUE_DEPTH as usize - 2);
+    argument(random, version, levels)
+}
+
 fn levels(random: &mut Random) -> usize {
     if random.once_in(24) {
         1 + random.size(VALUE_DEPTH as usize - 1)

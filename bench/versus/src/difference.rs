@@ -17,6 +17,11 @@ impl Difference {
         Err(Difference(format!("{what}: expected {expected:?}, found {found:?}")))
     }
 
+    /// Something that should be there and is not.
+    pub fn missing(what: impl fmt::Display) -> Difference {
+        Difference(format!("{what} is missing"))
+    }
+
     /// Says where it was found.
     pub fn with(self, place: impl fmt::Display) -> Difference {
         Difference(format!("{place}: {}", self.0))

@@ -13,4 +13,5 @@ pub mod table_check;
 pub mod tally;
 pub mod timing;
 pub mod unit_check;
+pub mod value_check;
 pub mod words;

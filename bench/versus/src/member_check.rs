@@ -10,6 +10,7 @@ use crate::difference::Difference;
 use crate::inputs::Check;
 use crate::table_check::check_table;
 use crate::tally::Tally;
+use crate::value_check::ValueCheck;
 use crate::words;
 
 /// Every so many members are also read with the areas that always suffice.
@@ -77,6 +78,8 @@ pub struct MemberCheck {
     pub readings: Tally,
     /// What readings of members got whose version is 1, whole and damaged ones.
     pub version_1: Tally,
+    /// The names and cells of accepted members.
+    pub values: ValueCheck,
 }
 
 impl Check for MemberCheck {
@@ -92,6 +95,7 @@ impl Check for MemberCheck {
         self.members.count(answer.refusal);
         if answer.refusal == 0 {
             self.check_names(member, counts)?;
+            self.check_values(member, &answer)?;
             check_table(member, &answer, self.expected.nodes.lent(), self.expected.cells.lent())?;
         }
         self.check_parts(member)
@@ -113,6 +117,7 @@ impl MemberCheck {
             members: Tally::default(),
             readings: Tally::default(),
             version_1: Tally::default(),
+            values: ValueCheck::default(),
         }
     }
 
@@ -188,6 +193,21 @@ impl MemberCheck {
         let counts = [words.len() / NODE_RECORD, self.random.size(8), self.number(words.len())];
         (0..8).try_for_each(|i| {
             counts.iter().try_for_each(|&count| check_name(member, &words, count, i))
+        })
+    }
+
+    /// What the names and cells of an accepted member say.
+    fn check_values(&mut self, member: &[u8], answer: &Answer) -> Result<(), Difference> {
+        let version = u32::from(member[2]);
+        let dimensions = &answer.dimensions[..answer.dimension_count as usize];
+        let dimensions = dimensions.iter().map(|entry| (entry.name_place, entry.name_length));
+        let nodes = self.expected.nodes.lent().chunks(NODE_RECORD);
+        let cells = self.expected.cells.lent().chunks(CELL_RECORD);
+        let nodes = nodes.map(|record| (record[3], record[4]));
+        let cells = cells.map(|record| (record[1], record[2]));
+        let mut values = dimensions.chain(nodes).chain(cells);
+        values.try_for_each(|(place, length)| {
+            self.values.check_record(version, member, place, length)
         })
     }
 

@@ -1,6 +1,6 @@
 //! The table that the Rust bindings make of an accepted member.
 
-use digarumbi::{Axes, Cell, Dimension, Node, NodeKind, Table};
+use digarumbi::{Axes, Cell, Dimension, Node, NodeKind, Table, ValueBytes};
 use digarumbi_bench::cursor::Cursor;
 use digarumbi_bench::member::{Answer, CELL_WORDS, NODE_WORDS};
 use digarumbi_bench::titles::header;
@@ -14,26 +14,27 @@ pub fn check_table(
     nodes: &[u32],
     cells: &[u32],
 ) -> Result<(), Difference> {
-    let version = header(&mut Cursor::new(member)).expect("an accepted member");
+    let header = header(&mut Cursor::new(member)).expect("an accepted member");
+    let version = header.number();
     let expected = Table {
-        version: version.number(),
-        dimensions: dimensions(member, answer),
+        version,
+        dimensions: dimensions(version, member, answer),
         axes: axes(answer),
         nodes: nodes
             .chunks(NODE_WORDS)
             .zip(0..)
-            .map(|(record, i)| node(member, record, i))
+            .map(|(record, i)| node(version, member, record, i))
             .collect(),
-        cells: cells.chunks(CELL_WORDS).map(|record| cell(member, record)).collect(),
+        cells: cells.chunks(CELL_WORDS).map(|record| cell(version, member, record)).collect(),
     };
     Difference::compare("the bindings' table", &Ok(expected), &digarumbi::read_member(member))
 }
 
-fn span(member: &[u8], place: u32, length: u32) -> &[u8] {
-    &member[place as usize..][..length as usize]
+fn span(version: u32, member: &[u8], place: u32, length: u32) -> ValueBytes<'_> {
+    ValueBytes { version, bytes: &member[place as usize..][..length as usize] }
 }
 
-fn dimensions<'a>(member: &'a [u8], answer: &Answer) -> Vec<Dimension<'a>> {
+fn dimensions<'a>(version: u32, member: &'a [u8], answer: &Answer) -> Vec<Dimension<'a>> {
     let count = answer.dimension_count as usize;
     (0..count)
         .map(|i| {
@@ -41,7 +42,7 @@ fn dimensions<'a>(member: &'a [u8], answer: &Answer) -> Vec<Dimension<'a>> {
             let last = i + 1 == count;
             let end = if last { answer.node_count } else { answer.dimensions[i + 1].first_node };
             Dimension {
-                name: span(member, entry.name_place, entry.name_length),
+                name_bytes: span(version, member, entry.name_place, entry.name_length),
                 n: entry.leaves,
                 nodes: entry.first_node as usize..end as usize,
             }
@@ -59,14 +60,14 @@ fn axes(answer: &Answer) -> Axes {
     }
 }
 
-fn node<'a>(member: &'a [u8], record: &[u32], i: usize) -> Node<'a> {
+fn node<'a>(version: u32, member: &'a [u8], record: &[u32], i: usize) -> Node<'a> {
     let kind = if record[0] == 0 {
         NodeKind::Leaf { index: record[5] }
     } else {
         NodeKind::Group { children: record[5] }
     };
     Node {
-        name: span(member, record[3], record[4]),
+        name_bytes: span(version, member, record[3], record[4]),
         kind,
         dimension: record[1] as usize,
         parent: (record[2] != u32::MAX).then_some(record[2] as usize),
@@ -74,6 +75,6 @@ fn node<'a>(member: &'a [u8], record: &[u32], i: usize) -> Node<'a> {
     }
 }
 
-fn cell<'a>(member: &'a [u8], record: &[u32]) -> Cell<'a> {
-    Cell { index: record[0], value: span(member, record[1], record[2]) }
+fn cell<'a>(version: u32, member: &'a [u8], record: &[u32]) -> Cell<'a> {
+    Cell { index: record[0], value_bytes: span(version, member, record[1], record[2]) }
 }

@@ -1,5 +1,7 @@
 //! The answers of the independent readers, as the words that include/digarumbi.h describes.
 
+use digarumbi_bench::contents::{ArgumentContents, Contents, Form, Number, Text};
+use digarumbi_bench::cursor::Span;
 use digarumbi_bench::look::{AreaColor, AreaStyle, Look, Name, Separator};
 use digarumbi_bench::member::Answer;
 use digarumbi_bench::refusal::Refusal;
@@ -35,6 +37,73 @@ pub fn rewrite_answer(result: &Result<usize, Refusal>) -> Vec<u32> {
     match result {
         Ok(length) => vec![0, 0, *length as u32],
         Err(refusal) => [refusal_words(refusal), vec![0]].concat(),
+    }
+}
+
+/// The words of a Value's answer; those of its contents are 0 after a refusal.
+pub fn value_answer(result: &Result<Contents, Refusal>) -> [u32; 22] {
+    let mut words = [0; 22];
+    let contents = match result {
+        Ok(contents) => contents,
+        Err(refusal) => {
+            words[..2].copy_from_slice(&refusal_words(refusal));
+            return words;
+        }
+    };
+    words[2] = contents.length as u32;
+    words[3] = contents.zeros as u32;
+    let (form, fields) = value_fields(&contents.form);
+    words[4] = form;
+    for (first, field) in fields {
+        words[first..][..2].copy_from_slice(&field);
+    }
+    match contents.form {
+        Form::Number(number) | Form::LabelledNumber { number, .. } => words[5] = number.format,
+        Form::String { format, .. } => words[5] = format,
+        _ => {}
+    }
+    match contents.form {
+        Form::LabelledNumber { show, .. }
+        | Form::String { show, .. }
+        | Form::Variable { show, .. } => words[8] = show.into(),
+        Form::Text { fixed, .. } => words[9] = fixed.into(),
+        _ => {}
+    }
+    words
+}
+
+/// The number of a form, and its fields of two words with the number of the first.
+fn value_fields(form: &Form) -> (u32, Vec<(usize, [u32; 2])>) {
+    let bits = |number: Number| (6, [number.bits as u32, (number.bits >> 32) as u32]);
+    let text = |text: Text| vec![(10, span(text.local)), (16, span(text.id)), (18, span(text.c))];
+    match *form {
+        Form::Number(number) => (1, vec![bits(number)]),
+        Form::LabelledNumber { number, var_name, value_label, .. } => {
+            (2, vec![bits(number), (12, span(var_name)), (14, span(value_label))])
+        }
+        Form::Text { text: strings, .. } => (3, text(strings)),
+        Form::String { s, var_name, value_label, .. } => {
+            (4, vec![(10, span(s)), (12, span(var_name)), (14, span(value_label))])
+        }
+        Form::Variable { var_name, var_label, .. } => {
+            (5, vec![(12, span(var_name)), (14, span(var_label))])
+        }
+        Form::FixedText(strings) => (6, text(strings)),
+        Form::Template { template, arguments, first } => {
+            (7, vec![(10, span(template)), (20, [arguments, first as u32])])
+        }
+    }
+}
+
+fn span(span: Span) -> [u32; 2] {
+    [span.place as u32, span.length as u32]
+}
+
+/// The words of an argument's answer; all but the refusal are 0 after one.
+pub fn argument_answer(result: &Result<ArgumentContents, Refusal>) -> [u32; 5] {
+    match result {
+        Ok(argument) => [0, 0, argument.length as u32, argument.values, argument.first as u32],
+        Err(refusal) => [refusal.number, refusal.place as u32, 0, 0, 0],
     }
 }
 

@@ -41,6 +41,24 @@ extern "C" {
         length: usize,
     ) -> usize;
 
+    pub fn digarumbi_value(
+        version: u32,
+        value: *const u8,
+        value_length: usize,
+        answer: *mut u32,
+        answer_words: usize,
+    ) -> usize;
+
+    pub fn digarumbi_argument(
+        version: u32,
+        argument: *const u8,
+        argument_length: usize,
+        answer: *mut u32,
+        answer_words: usize,
+    ) -> usize;
+
+    pub fn digarumbi_number(low: u32, high: u32, number: *mut f64) -> u32;
+
     pub fn digarumbi_read_look(
         file: *const u8,
         file_length: usize,

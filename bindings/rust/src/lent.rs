@@ -6,7 +6,7 @@
 //! with the length of its slice, and Rust's borrows keep a slice that is written from overlapping
 //! the others.
 //!
-//! The functions over members panic if the archive has another interface than these declarations.
+//! The functions over members and their records panic if the archive has another interface than these declarations.
 
 use std::iter::successors;
 
@@ -17,6 +17,10 @@ pub const ABI: u32 = 2;
 
 /// Words of a member's answer.
 pub const MEMBER_ANSWER: usize = 88;
+/// Words of a Value's answer.
+pub const VALUE_WORDS: usize = 22;
+/// Words of an argument's answer.
+pub const ARGUMENT_WORDS: usize = 5;
 /// Words of a look's answer.
 pub const LOOK_ANSWER: usize = 264;
 /// Words of the answer of [`rewrite_look`].
@@ -135,6 +139,69 @@ pub fn children(nodes: &[u32], count: usize, i: usize) -> impl Iterator<Item = u
 /// The length of the part of the member at `place`: `length`, or 0 if it does not lie inside.
 pub fn part(member: &[u8], place: usize, length: usize) -> usize {
     unsafe { ffi::digarumbi_part(member.as_ptr(), member.len(), place, length) }
+}
+
+/// Reads the Value at the start of the bytes, by the version of its member. Returns
+/// [`VALUE_WORDS`], or 0 if `answer` has fewer words.
+///
+/// ```
+/// use digarumbi::lent::{value, VALUE_WORDS};
+/// let mut answer = [7; VALUE_WORDS];
+/// assert_eq!(value(3, b"\0\x58\x02\0\0\0^1\0\0\0\0, and more", &mut answer), VALUE_WORDS);
+/// // no refusal, 12 bytes, one of them 00, a template
+/// assert_eq!(answer[..5], [0, 0, 12, 1, 7]);
+/// // its text, no arguments
+/// assert_eq!((&answer[10..12], &answer[20..]), (&[6, 2][..], &[0, 12][..]));
+/// assert_eq!(value(3, b"", &mut answer[1..]), 0);
+/// ```
+pub fn value(version: u32, value: &[u8], answer: &mut [u32]) -> usize {
+    unsafe {
+        ffi::digarumbi_value(
+            version,
+            value.as_ptr(),
+            value.len(),
+            answer.as_mut_ptr(),
+            answer.len(),
+        )
+    }
+}
+
+/// Reads the Argument at the start of the bytes, by the version of its member. Returns
+/// [`ARGUMENT_WORDS`], or 0 if `answer` has fewer words.
+///
+/// ```
+/// use digarumbi::lent::{argument, ARGUMENT_WORDS};
+/// let mut answer = [7; ARGUMENT_WORDS];
+/// let one = b"\0\0\0\0\x58\0\0\0\0\0\0\0\0";
+/// assert_eq!(argument(3, one, &mut answer), ARGUMENT_WORDS);
+/// // no refusal, 13 bytes, one Value, which starts at 4
+/// assert_eq!(answer, [0, 0, 13, 1, 4]);
+/// argument(3, &one[..3], &mut answer);
+/// assert_eq!(answer, [2, 0, 0, 0, 0]);
+/// ```
+pub fn argument(version: u32, argument: &[u8], answer: &mut [u32]) -> usize {
+    unsafe {
+        ffi::digarumbi_argument(
+            version,
+            argument.as_ptr(),
+            argument.len(),
+            answer.as_mut_ptr(),
+            answer.len(),
+        )
+    }
+}
+
+/// 1 and the double of these bits, or 0 and 0 where they are a NaN's.
+///
+/// ```
+/// use digarumbi::lent::number;
+/// assert_eq!(number(0, 0x4004_0000), (1, 2.5));
+/// assert_eq!(number(0, 0x7ff8_0000), (0, 0.0));
+/// ```
+pub fn number(low: u32, high: u32) -> (u32, f64) {
+    let mut number = 0.0;
+    let given = unsafe { ffi::digarumbi_number(low, high, &mut number) };
+    (given, number)
 }
 
 /// Reads a look. Returns [`LOOK_ANSWER`], or 0 if `answer` has fewer words.

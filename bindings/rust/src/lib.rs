@@ -2,8 +2,9 @@
 //!
 //! The work is done by a library in which every function is proved to meet its contract. This
 //! crate declares its functions ([`ffi`]), calls them on slices ([`lent`]), and turns their
-//! answers into Rust types ([`read_member`], [`Look`]). Nothing checks these declarations against
-//! the library; `bench/versus` compares what comes back with an independent reader.
+//! answers into Rust types ([`read_member`], [`Value`], [`Look`]). Nothing checks these
+//! declarations against the library; `bench/versus` compares what comes back with an independent
+//! reader.
 
 pub mod ffi;
 pub mod lent;
@@ -11,9 +12,10 @@ mod look;
 mod refusal;
 mod table;
 mod units;
-pub mod value_text;
+mod value;
 
 pub use look::{rewrite_look, Area, Frame, Look, Separator, Separators, V2Styles};
 pub use refusal::Refusal;
 pub use table::{part, read_member, Axes, Cell, Dimension, Node, NodeKind, Table};
 pub use units::{font_height, Pt, Px};
+pub use value::{Arguments, Value, ValueBytes, Values};

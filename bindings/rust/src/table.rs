@@ -4,7 +4,7 @@ use std::iter::successors;
 use std::ops::Range;
 
 use crate::lent::{self, CELL_AREA, CELL_RECORD, MEMBER_ANSWER, NODE_AREA, NODE_RECORD};
-use crate::Refusal;
+use crate::{Refusal, Value, ValueBytes};
 
 /// First word of the dimensions in an answer, and the words of each.
 const DIMENSIONS: usize = 8;
@@ -16,8 +16,8 @@ const VERSION: Range<usize> = 2..6;
 /// What stands for the parent of a node that has none.
 const NO_PARENT: u32 = u32::MAX;
 
-/// What an accepted member holds. Names and cell values are Values of source document 003, as
-/// they stand in the member; `value_text` makes a text of most.
+/// What an accepted member holds. Names and cells are Values of source document 003, kept as they
+/// stand in the member; what one says is read when it is asked for.
 #[derive(Clone, Debug, PartialEq, Eq)]
 pub struct Table<'a> {
     /// The version of the member, 1 or 3. No word of the library's answer has it: it is read from
@@ -33,7 +33,8 @@ pub struct Table<'a> {
 
 #[derive(Clone, Debug, PartialEq, Eq)]
 pub struct Dimension<'a> {
-    pub name: &'a [u8],
+    /// The bytes of its name; [`Dimension::name`] says what it is.
+    pub name_bytes: ValueBytes<'a>,
     /// Number of leaf categories at any depth.
     pub n: u32,
     /// Its nodes, by their numbers in the table.
@@ -43,7 +44,8 @@ pub struct Dimension<'a> {
 /// A leaf category, or a group of categories.
 #[derive(Clone, Debug, PartialEq, Eq)]
 pub struct Node<'a> {
-    pub name: &'a [u8],
+    /// The bytes of its name; [`Node::name`] says what it is.
+    pub name_bytes: ValueBytes<'a>,
     pub kind: NodeKind,
     /// Number of its dimension.
     pub dimension: usize,
@@ -67,7 +69,44 @@ pub enum NodeKind {
 #[derive(Clone, Debug, PartialEq, Eq)]
 pub struct Cell<'a> {
     pub index: u32,
-    pub value: &'a [u8],
+    /// The bytes of its Value; [`Cell::value`] says what it is.
+    pub value_bytes: ValueBytes<'a>,
+}
+
+impl<'a> Dimension<'a> {
+    /// Its name. Nothing is refused of a dimension that [`read_member`] gave.
+    pub fn name(&self) -> Result<Value<'a>, Refusal> {
+        self.name_bytes.value()
+    }
+}
+
+impl<'a> Node<'a> {
+    /// Its name. Nothing is refused of a node that [`read_member`] gave.
+    ///
+    /// ```
+    /// let member = std::fs::read("../../examples/spine_18.bin")?;
+    /// let table = digarumbi::read_member(&member)?;
+    /// assert_eq!(table.nodes[2].name()?.to_string(), "Std. Error");
+    /// # Ok::<(), Box<dyn std::error::Error>>(())
+    /// ```
+    pub fn name(&self) -> Result<Value<'a>, Refusal> {
+        self.name_bytes.value()
+    }
+}
+
+impl<'a> Cell<'a> {
+    /// Its Value. Nothing is refused of a cell that [`read_member`] gave.
+    ///
+    /// ```
+    /// let member = std::fs::read("../../examples/spine_18.bin")?;
+    /// let table = digarumbi::read_member(&member)?;
+    /// let value = table.cells[9].value()?;
+    /// assert_eq!(value.number(), Some(0.0));
+    /// # Ok::<(), Box<dyn std::error::Error>>(())
+    /// ```
+    pub fn value(&self) -> Result<Value<'a>, Refusal> {
+        self.value_bytes.value()
+    }
 }
 
 /// The dimensions on each axis, inner ones first.
@@ -100,13 +139,28 @@ pub fn read_member(member: &[u8]) -> Result<Table<'_>, Refusal> {
         return Err(Refusal { number, place, nodes: node_count, cells: cell_count });
     }
     cells.truncate(CELL_RECORD * cell_count as usize);
+    let member = Member { bytes: member, version: version(member) };
     Ok(Table {
-        version: version(member),
+        version: member.version,
         dimensions: dimensions(member, &answer, dimension_count as usize, node_count as usize),
         axes: axes(&answer),
         nodes: node_records(member, &nodes, node_count as usize),
         cells: cells.chunks(CELL_RECORD).map(|record| cell(member, record)).collect(),
     })
+}
+
+/// An accepted member, with its version.
+#[derive(Clone, Copy)]
+struct Member<'a> {
+    bytes: &'a [u8],
+    version: u32,
+}
+
+impl<'a> Member<'a> {
+    /// The Value at a place of a record.
+    fn value(self, place: usize, length: usize) -> ValueBytes<'a> {
+        ValueBytes { version: self.version, bytes: part(self.bytes, place, length) }
+    }
 }
 
 /// The version of an accepted member.
@@ -128,7 +182,7 @@ pub fn part(member: &[u8], place: usize, length: usize) -> &[u8] {
 }
 
 fn dimensions<'a>(
-    member: &'a [u8],
+    member: Member<'a>,
     answer: &[u32; MEMBER_ANSWER],
     count: usize,
     node_count: usize,
@@ -139,7 +193,7 @@ fn dimensions<'a>(
     let ends = first_nodes.clone().skip(1).chain([node_count]);
     let ranges = first_nodes.zip(ends).map(|(first, end)| first..end);
     let dimension = |(record, nodes): (&&[u32], _)| Dimension {
-        name: part(member, record[0] as usize, record[1] as usize),
+        name_bytes: member.value(record[0] as usize, record[1] as usize),
         n: record[2],
         nodes,
     };
@@ -152,31 +206,31 @@ fn axes(answer: &[u32; MEMBER_ANSWER]) -> Axes {
     Axes { layers: axis(answer[5]), rows: axis(answer[6]), columns: axis(answer[7]) }
 }
 
-fn node_records<'a>(member: &'a [u8], nodes: &[u32], count: usize) -> Vec<Node<'a>> {
+fn node_records<'a>(member: Member<'a>, nodes: &[u32], count: usize) -> Vec<Node<'a>> {
     nodes
         .chunks(NODE_RECORD)
         .take(count)
         .enumerate()
         .map(|(i, record)| {
-            let (place, length) = lent::node_name(member, nodes, count, i);
+            let (place, length) = lent::node_name(member.bytes, nodes, count, i);
             let below = i + 1..lent::node_after(nodes, count, i);
-            node(&member[place..place + length], record, below)
+            node(member.value(place, length), record, below)
         })
         .collect()
 }
 
-fn node<'a>(name: &'a [u8], record: &[u32], below: Range<usize>) -> Node<'a> {
+fn node<'a>(name_bytes: ValueBytes<'a>, record: &[u32], below: Range<usize>) -> Node<'a> {
     let kind = match record[0] {
         0 => NodeKind::Leaf { index: record[5] },
         _ => NodeKind::Group { children: record[5] },
     };
     let parent = Some(record[2]).filter(|&parent| parent != NO_PARENT);
     let parent = parent.map(|parent| parent as usize);
-    Node { name, kind, dimension: record[1] as usize, parent, below }
+    Node { name_bytes, kind, dimension: record[1] as usize, parent, below }
 }
 
-fn cell<'a>(member: &'a [u8], record: &[u32]) -> Cell<'a> {
-    Cell { index: record[0], value: part(member, record[1] as usize, record[2] as usize) }
+fn cell<'a>(member: Member<'a>, record: &[u32]) -> Cell<'a> {
+    Cell { index: record[0], value_bytes: member.value(record[1] as usize, record[2] as usize) }
 }
 
 impl<'a> Table<'a> {

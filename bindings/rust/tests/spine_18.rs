@@ -1,7 +1,6 @@
 //! A real member, examples/spine_18.bin: coefficients of a regression.
 
-use digarumbi::value_text::value_text;
-use digarumbi::{lent, part, read_member, Axes, NodeKind, Table};
+use digarumbi::{lent, part, read_member, Axes, NodeKind, Refusal, Table, Value};
 
 const MEMBER: &[u8] = include_bytes!("../../../examples/spine_18.bin");
 
@@ -9,11 +8,15 @@ fn table() -> Table<'static> {
     read_member(MEMBER).expect("an accepted member")
 }
 
+fn text(value: Result<Value, Refusal>) -> String {
+    value.expect("a Value of an accepted member").to_string()
+}
+
 #[test]
 fn dimensions_and_axes() {
     let table = table();
     let dimensions: Vec<_> =
-        table.dimensions.iter().map(|d| (value_text(d.name), d.n, d.nodes.clone())).collect();
+        table.dimensions.iter().map(|d| (text(d.name()), d.n, d.nodes.clone())).collect();
     let expected = [("Statistics".to_string(), 5, 0..7), ("Variables".to_string(), 2, 7..9)];
     assert_eq!(dimensions, expected);
     assert_eq!(table.axes, Axes { layers: vec![], rows: vec![1], columns: vec![0] });
@@ -26,7 +29,7 @@ fn categories_in_file_order() {
     let nodes: Vec<_> = table
         .categories(0)
         .iter()
-        .map(|node| (table.depth(node), value_text(node.name), node.kind, node.parent))
+        .map(|node| (table.depth(node), text(node.name()), node.kind, node.parent))
         .collect();
     let leaf = |index| NodeKind::Leaf { index };
     let group = |children| NodeKind::Group { children };
@@ -74,7 +77,7 @@ fn cells_and_their_coordinates() {
     let indexes: Vec<u32> = table.cells.iter().map(|cell| cell.index).collect();
     assert_eq!(indexes, [2, 5, 9, 6, 7, 0, 8, 1, 3, 4]);
     assert_eq!(table.coordinates(&table.cells[2]), [4, 1]);
-    assert_eq!(value_text(table.cells[9].value), "0");
+    assert_eq!(text(table.cells[9].value()), "0");
     for cell in &table.cells {
         let k = table
             .coordinates(cell)

@@ -1,7 +1,6 @@
 //! Members of version 1, made by hand: `bench/src/vectors/version_1.rs`.
 
-use digarumbi::value_text::value_text;
-use digarumbi::{read_member, Axes, NodeKind, Refusal};
+use digarumbi::{read_member, Axes, NodeKind, Refusal, Value};
 
 /// Two dimensions with two leaves each, one of them in a group, and two cells.
 const ALL: &[u8] = include_bytes!("../../../crates/corpus_main/data/v320_v1_all.bin");
@@ -9,6 +8,10 @@ const SHORTEST: &[u8] = include_bytes!("../../../crates/corpus_main/data/v317_v1
 
 fn refusal(member: &[u8]) -> String {
     read_member(member).map_err(|refusal: Refusal| refusal.to_string()).unwrap_err()
+}
+
+fn text(value: Result<Value, Refusal>) -> String {
+    value.expect("a Value of an accepted member").to_string()
 }
 
 #[test]
@@ -24,7 +27,7 @@ fn dimensions_and_nodes() {
     let table = read_member(ALL).expect("an accepted member");
     let dimensions: Vec<_> = table.dimensions.iter().map(|d| (d.n, d.nodes.clone())).collect();
     assert_eq!(dimensions, [(2, 0..3), (2, 3..5)]);
-    assert_eq!(value_text(table.dimensions[0].name), "Vertebra");
+    assert_eq!(text(table.dimensions[0].name()), "Vertebra");
     assert_eq!(table.axes, Axes { layers: vec![], rows: vec![0, 1], columns: vec![] });
     let kinds: Vec<_> = table.nodes.iter().map(|node| node.kind).collect();
     let leaf = |index| NodeKind::Leaf { index };
@@ -38,10 +41,10 @@ fn cells_with_five_zero_bytes() {
     let table = read_member(ALL).expect("an accepted member");
     let indexes: Vec<u32> = table.cells.iter().map(|cell| cell.index).collect();
     assert_eq!(indexes, [3, 0]);
-    let value = table.cells[0].value;
+    let value = table.cells[0].value_bytes.bytes;
     assert_eq!((value.len(), &value[..7]), (19, &[0, 0, 0, 0, 0, 1, 0x58][..]));
-    assert_eq!(value_text(value), "3");
-    assert_eq!(table.cells[1].value.len(), 9);
+    assert_eq!(text(table.cells[0].value()), "3");
+    assert_eq!(table.cells[1].value_bytes.bytes.len(), 9);
 }
 
 #[test]

@@ -5,8 +5,10 @@ use std::fs;
 use std::hint::black_box;
 
 use digarumbi::lent::{
-    self, CELL_AREA, LONGEST_LOOK, LOOK_ANSWER, MEMBER_ANSWER, NODE_AREA, REWRITE_ANSWER,
+    self, CELL_AREA, CELL_RECORD, LONGEST_LOOK, LOOK_ANSWER, MEMBER_ANSWER, NODE_AREA, NODE_RECORD,
+    REWRITE_ANSWER, VALUE_WORDS,
 };
+use digarumbi_bench::contents::contents;
 use digarumbi_bench::generate::look_bytes;
 use digarumbi_bench::limits::MEMBER_BYTES;
 use digarumbi_bench::look::{read_look, write_look};
@@ -28,6 +30,7 @@ fn main() {
     large_members();
     growth_with_bytes();
     growth_with_cells();
+    values();
     looks();
 }
 
@@ -152,6 +155,78 @@ fn growth_with_cells() {
         );
     }
     println!();
+}
+
+/// Values of members, each with its version and its bytes.
+type Values<'a> = Vec<(u32, &'a [u8])>;
+
+/// The names of all nodes and the cells of these members, by their records.
+fn names_and_cells<'a>(members: &[&'a [u8]]) -> (Values<'a>, Values<'a>) {
+    let (mut names, mut values) = (Vec::new(), Vec::new());
+    let (mut nodes, mut cells) = (vec![0; NODE_AREA], vec![0; CELL_AREA]);
+    for &member in members {
+        let answer = read_member(member, &mut nodes, &mut cells);
+        let version = u32::from(member[2]);
+        let part = |place, length| (version, &member[place as usize..][..length as usize]);
+        let nodes = nodes.chunks(NODE_RECORD).take(answer.node_count as usize);
+        let cells = cells.chunks(CELL_RECORD).take(answer.cell_count as usize);
+        names.extend(nodes.map(|record| part(record[3], record[4])));
+        values.extend(cells.map(|record| part(record[1], record[2])));
+    }
+    (names, values)
+}
+
+/// What names and cells say, beside reading the members that they stand in.
+fn values() {
+    println!("### What names and cells say\n");
+    println!("| Values | number | Rattle, µs | Rust, µs | Rattle : Rust | Rattle : reading |");
+    println!("|---|---:|---:|---:|---:|---:|");
+    let members = stored::real_members();
+    let members: Vec<&[u8]> = members.iter().map(|member| &member.bytes[..]).collect();
+    let (names, cells) = names_and_cells(&members);
+    value_row("cells of the real members", &members, &cells);
+    value_row("names of their nodes", &members, &names);
+    let large = member_with_cells(&shuffled(4_096));
+    let (_, cells) = names_and_cells(&[&large]);
+    value_row("4,096 cells, shuffled", &[&large], &cells);
+    println!();
+}
+
+/// A row for these Values; the last column is the time of the library for them to the one that it
+/// takes to read their members, measured in turn.
+fn value_row(name: &str, members: &[&[u8]], values: &Values) {
+    let mut areas = (vec![0; MEMBER_ANSWER], vec![0; NODE_AREA], vec![0; CELL_AREA]);
+    let rattle = |answer: &mut [u32]| {
+        for &(version, bytes) in values {
+            black_box(lent::value(version, black_box(bytes), &mut answer[..VALUE_WORDS]));
+        }
+    };
+    let times = measure(
+        &mut areas,
+        |(answer, ..)| rattle(answer),
+        |_| {
+            for &(version, bytes) in values {
+                let _ = black_box(contents(version, black_box(bytes)));
+            }
+        },
+    );
+    let beside = measure(
+        &mut areas,
+        |(answer, ..)| rattle(answer),
+        |(answer, nodes, cells)| {
+            for member in members {
+                black_box(lent::read_member(black_box(member), answer, nodes, cells));
+            }
+        },
+    );
+    println!(
+        "| {name} | {} | {:.2} | {:.2} | {:.2} | {:.2} |",
+        values.len(),
+        times.rattle / 1e3,
+        times.rust / 1e3,
+        times.ratio(),
+        beside.ratio()
+    );
 }
 
 fn looks() {

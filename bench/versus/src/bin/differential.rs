@@ -6,9 +6,11 @@
 use std::env;
 use std::process::ExitCode;
 
-use digarumbi_bench::generate::{look_bytes, member};
+use digarumbi_bench::generate::{any_value, argument_of_value, look_bytes, member};
 use digarumbi_bench::limits::MEMBER_BYTES;
+use digarumbi_bench::random::Random;
 use digarumbi_bench::vectors;
+use digarumbi_bench::version::Version;
 use digarumbi_versus::difference::Difference;
 use digarumbi_versus::inputs::Inputs;
 use digarumbi_versus::large::{
@@ -20,15 +22,25 @@ use digarumbi_versus::member_check::MemberCheck;
 use digarumbi_versus::repeats::{members_with_repeats, CUT_BYTES};
 use digarumbi_versus::stored;
 use digarumbi_versus::unit_check;
+use digarumbi_versus::value_check::{check_numbers, ValueCheck};
 
+/// Where the title stands in a member.
+const HEADER_BYTES: usize = 39;
 const GENERATED_MEMBERS: u64 = 70_000;
 const GENERATED_LOOKS: u64 = 25_000;
+const GENERATED_VALUES: u64 = 60_000;
+const GENERATED_ARGUMENTS: u64 = 20_000;
 
 /// The refusal numbers that these functions can give. 16 is not among them: it is the writer's
 /// for looks that no file gives.
 const MEMBER_NUMBERS: [u32; 14] = [1, 2, 3, 4, 5, 6, 7, 8, 9, 10, 11, 12, 13, 18];
 /// Those that a member can get whose version is 1; 4 is then that of a modifier that begins 31.
 const VERSION_1_NUMBERS: [u32; 15] = [0, 1, 2, 3, 4, 5, 6, 7, 8, 9, 10, 11, 12, 13, 18];
+/// Those of a Value and of an Argument. Without a count of nodes, cells or dimensions no other limit
+/// than that of depth can be passed.
+const VALUE_NUMBERS: [u32; 9] = [0, 1, 2, 3, 4, 5, 6, 7, 18];
+/// Version 1 is without the modifiers in which 6 can be given.
+const VALUE_NUMBERS_VERSION_1: [u32; 8] = [0, 1, 2, 3, 4, 5, 7, 18];
 const LOOK_NUMBERS: [u32; 8] = [2, 3, 4, 5, 7, 11, 14, 15];
 
 fn main() -> ExitCode {
@@ -47,12 +59,28 @@ fn run(seed: u64) -> Result<(), Difference> {
     println!("{} members: {}", members.members.total(), members.members);
     println!("{} readings of them: {}", members.readings.total(), members.readings);
     println!("{} of these with version 1: {}", members.version_1.total(), members.version_1);
+    println!(
+        "{} names and cells of accepted ones, {} Values inside them",
+        members.values.accepted() - members.values.inside,
+        members.values.inside
+    );
+    let values = values(seed)?;
+    println!("{} Values alone, by six versions: {}", values.values.total(), values.values);
+    println!("{} of these by version 1: {}", values.version_1.total(), values.version_1);
+    println!("{} Values inside them", values.inside);
+    println!("the same bytes as Arguments: {}", values.arguments);
+    println!("{} bits as numbers", check_numbers(seed)?);
     let looks = looks(seed)?;
     println!("{} looks: {}", looks.looks.total(), looks.looks);
     println!("{} rewritings of them: {}", looks.rewritten.total(), looks.rewritten);
     println!("{} numbers as points, pixels and font sizes", unit_check::check(seed)?);
     members.readings.all_seen(&MEMBER_NUMBERS)?;
     members.version_1.all_seen(&VERSION_1_NUMBERS)?;
+    members.values.all_forms_seen()?;
+    values.values.all_seen(&VALUE_NUMBERS)?;
+    values.version_1.all_seen(&VALUE_NUMBERS_VERSION_1)?;
+    values.arguments.all_seen(&VALUE_NUMBERS)?;
+    values.all_forms_seen()?;
     looks.rewritten.all_seen(&LOOK_NUMBERS)?;
     println!("no difference");
     Ok(())
@@ -96,6 +124,28 @@ fn large_members() -> Vec<(&'static str, Vec<u8>)> {
         ("version 1, the longest member", version_1_with_free_bytes(MEMBER_BYTES)),
         ("version 1, one byte too long", version_1_with_free_bytes(MEMBER_BYTES + 1)),
     ]
+}
+
+/// Values and Arguments that stand alone, those of every stored and hand-chosen title among them.
+fn values(seed: u64) -> Result<ValueCheck, Difference> {
+    let mut inputs = Inputs::new(ValueCheck::default(), seed);
+    for bytes in [MEMBER_BYTES + 1, MEMBER_BYTES].map(|length| vec![0; length]) {
+        inputs.whole("zeros", &bytes)?;
+    }
+    // The title is the Value after the Header.
+    for case in vectors::cases() {
+        inputs.whole(&case.name, case.bytes.get(HEADER_BYTES..).unwrap_or_default())?;
+    }
+    let version = |random: &mut Random| random.pick(&[Version::One, Version::Three]);
+    inputs.generated(GENERATED_VALUES, |random| {
+        let version = version(random);
+        any_value(random, version)
+    })?;
+    inputs.generated(GENERATED_ARGUMENTS, |random| {
+        let version = version(random);
+        argument_of_value(random, version)
+    })?;
+    Ok(inputs.check)
 }
 
 fn looks(seed: u64) -> Result<LookCheck, Difference> {

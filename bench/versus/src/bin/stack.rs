@@ -1,4 +1,4 @@
-//! The smallest stack of a thread in which the library reads members, and looks.
+//! The smallest stack of a thread in which the library reads members, Values alone, and looks.
 //!
 //! Usage: stack; it runs itself as `stack WORK KIB`, which ends without a result where a stack of
 //! that size is too small.
@@ -7,7 +7,10 @@ use std::env;
 use std::process::{Command, Stdio};
 use std::thread;
 
-use digarumbi::lent::{self, CELL_AREA, LONGEST_LOOK, LOOK_ANSWER, MEMBER_ANSWER, NODE_AREA};
+use digarumbi::lent::{
+    self, ARGUMENT_WORDS, CELL_AREA, LONGEST_LOOK, LOOK_ANSWER, MEMBER_ANSWER, NODE_AREA,
+    VALUE_WORDS,
+};
 use digarumbi_bench::limits::MEMBER_BYTES;
 use digarumbi_versus::large::{
     deepest_member, large_unordered, member_of_strings, member_with_cells,
@@ -20,7 +23,7 @@ const LEAST: usize = 16;
 const MOST: usize = 8_192;
 const STEP: usize = 4;
 
-const WORK: [&str; 3] = ["nothing", "members", "looks"];
+const WORK: [&str; 4] = ["nothing", "members", "values", "looks"];
 
 fn main() {
     let arguments: Vec<String> = env::args().skip(1).collect();
@@ -57,10 +60,15 @@ fn run(work: &str, kib: usize) {
     // The inputs are made outside the small stack.
     let inputs = match work {
         "members" => members(),
+        "values" => values(),
         "looks" => stored::looks().into_iter().map(|look| look.bytes).collect(),
         _ => Vec::new(),
     };
-    let read = if work == "members" { read_members } else { read_looks };
+    let read = match work {
+        "members" => read_members,
+        "values" => read_values,
+        _ => read_looks,
+    };
     let thread = thread::Builder::new().stack_size(1_024 * kib).spawn(move || read(&inputs));
     thread.expect("a thread").join().expect("a thread that ends");
 }
@@ -74,6 +82,28 @@ fn members() -> Vec<Vec<u8>> {
     members.push(member_with_nested_categories(4_096));
     members.push(member_of_strings(MEMBER_BYTES));
     members
+}
+
+/// A number, templates nested 8 deep, and an argument with templates nested 7 deep, which is also a
+/// Value after four zero bytes.
+fn values() -> Vec<Vec<u8>> {
+    let number = [&[1, 0x58][..], &[0; 12]].concat();
+    let level = [&[0x58, 0, 0, 0, 0, 1, 0, 0, 0][..], &[0; 4]].concat();
+    let nested = |levels: usize| [level.repeat(levels - 1), vec![0x58], vec![0; 8]].concat();
+    let argument = [vec![0; 4], nested(7)].concat();
+    vec![number, nested(8), argument]
+}
+
+fn read_values(values: &[Vec<u8>]) {
+    let mut answer = vec![0; VALUE_WORDS];
+    for value in values {
+        lent::value(3, value, &mut answer);
+        assert_eq!(answer[0], 0, "a Value");
+    }
+    if let Some(argument) = values.last() {
+        lent::argument(3, argument, &mut answer[..ARGUMENT_WORDS]);
+        assert_eq!(answer[0], 0, "an Argument");
+    }
 }
 
 fn read_members(members: &[Vec<u8>]) {
