@@ -35,10 +35,10 @@ refused n p = record { refusal = n; place = p; length = 0; zeros = 0; raw = raw 
 abbrev pub refusedArgument : ℕ → ℕ → ArgumentContents
 refusedArgument n p = record { refusal = n; place = p; length = 0; values = 0; first = 0 }
 
--- a Value with all the bytes 00 that a cell may have before it: names of nodes and dimensions are read so too (`Laws.MemberValues`)
+-- a Value with all the bytes 00 that a cell may have before it: names of nodes and dimensions are read so too (`Members`)
 abbrev pub ValueAnswers : ℕ → List ℕ → Contents → Type 0
 ValueAnswers version s x = Answers version (CellValue version) (contents version) refused s x
 
--- an Argument of the outermost Value
+-- an Argument of the outermost Value; those inside are read so too (`Nested`)
 abbrev pub ArgumentAnswers : ℕ → List ℕ → ArgumentContents → Type 0
 ArgumentAnswers version s x = Answers version (Argument version below-value) (argumentContents version) refusedArgument s x

@@ -1,3 +1,4 @@
 -- The laws by which the contents of a Value are found.
 pub mod Forms
 pub mod Answers
+pub mod Wider

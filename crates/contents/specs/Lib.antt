@@ -3,4 +3,5 @@ pub mod Number
 pub mod Answers
 pub mod Laws
 pub mod Members
+pub mod Nested
 pub mod Examples

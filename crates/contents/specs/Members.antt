@@ -51,7 +51,7 @@ more-zeros version k xs l h = record { short = go (eqb version 1); some-byte = l
     go true = omega (arith, l .short)
     go false = l .short
 
-valid-as-cell : (version : ℕ) (t : Tree (Value version)) → Valid (Value version) t → Valid (CellValue version) (asCell version t)
+pub valid-as-cell : (version : ℕ) (t : Tree (Value version)) → Valid (Value version) t → Valid (CellValue version) (asCell version t)
 unfolding Value ValueIn CellValue
 valid-as-cell version t h =
     (more-zeros version (t .0) (spell (RawValueOf version (ValueIn version below-value)) (t .1)) (h .0) (no-zero-first version (ValueIn version below-value) (t .1) (h .1)), h .1)
