@@ -1,3 +1,4 @@
 -- The laws of totals.
 pub mod Sums
 pub mod Words
+pub mod MemberCells
