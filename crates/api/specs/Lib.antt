@@ -1,2 +1,3 @@
 pub mod Api
+pub mod Encodings
 pub mod Laws
