@@ -13,27 +13,29 @@ fn high(x: u8) -> u8
     x / 128
 }
 
-// How many of four bytes are 128 or more.
-fn high_four(input: &[u8], i: usize) -> u8
-    requires { ⌜ i + 4 ≤ length (now input) ⌝ }
-    ensures { λ r. ⌜ (r ≤ 4) × (r ≡ 0 → Ascii (now (input .entry)) i 4) ⌝ }
+// How many of the 32 bytes from i on are 128 or more.
+fn high_count(input: &[u8], i: usize) -> u8
+    requires { ⌜ i + 32 ≤ length (now input) ⌝ }
+    ensures { λ r. ⌜ (r ≡ 0 → Ascii (now (input .entry)) i 32) ⌝ }
 {
-    high(input[i]) + high(input[i + 1]) + high(input[i + 2]) + high(input[i + 3])
+    let mut n: u8 = 0;
+    let mut j: usize = 0;
+    while j < 32 {
+        n += high(input[i + j]);
+        j += 1;
+    }
+    n
 }
 
-// Whether sixteen bytes from i on are there and under 128.
-fn sixteen(input: &[u8], i: usize) -> bool
+// Whether 32 bytes from i on are there and under 128.
+fn block(input: &[u8], i: usize) -> bool
     requires { ⌜ i ≤ length (now input) ⌝ }
-    ensures { λ r. ⌜ (r ≡ true → (i + 16 ≤ length (now (input .entry))) × Ascii (now (input .entry)) i 16) ⌝ }
+    ensures { λ r. ⌜ (r ≡ true → (i + 32 ≤ length (now (input .entry))) × Ascii (now (input .entry)) i 32) ⌝ }
 {
-    if input.len() - i < 16 {
+    if input.len() - i < 32 {
         return false;
     }
-    high_four(input, i)
-        + high_four(input, i + 4)
-        + high_four(input, i + 8)
-        + high_four(input, i + 12)
-        == 0
+    high_count(input, i) == 0
 }
 
 // Whether a byte is there and under 128.
@@ -51,12 +53,15 @@ fn one(input: &[u8], i: usize) -> bool
 pub fn run_end(input: &[u8], start: usize) -> usize
     ensures { λ r. ⌜ Run (now (input .entry)) start r ⌝ }
 {
-    if input.len() < start {
+    if input.len() <= start {
+        return start;
+    }
+    if 128 <= input[start] {
         return start;
     }
     let mut i = start;
-    while sixteen(input, i) {
-        i += 16;
+    while block(input, i) {
+        i += 32;
     }
     while one(input, i) {
         i += 1;

@@ -5,6 +5,7 @@ mod utf8; // the rows of UTF-8
 
 ghost use mathlib.Core.Path.{_≡_};
 ghost use Prim.Native.Nat.{_+_, _-_, _≤_, _<_};
+ghost use mathlib.Core.Bool.{true};
 ghost use mathlib.Core.List.{_++_};
 ghost use lib.ListN.{getD, length, take, drop};
 ghost use lib.Seq.{sets};
@@ -20,6 +21,7 @@ use crate::tables::PLACES;
 use crate::utf8::NO_CODE_POINT;
 use crate::utf8::THREE_BYTES;
 use crate::utf8::TWO_BYTES;
+use crate::utf8::lead_size;
 use crate::utf8::row_three;
 use crate::utf8::row_two;
 use crate::utf8::size;
@@ -80,15 +82,27 @@ fn convert(back: bool, page: u32, input: &[u8], out: &mut [u8]) -> Answer
     }
     let k = (page - FIRST_PAGE) as usize;
     let t = PAGES;
-    let p = PLACES;
-    let m = measure(&t, &p, k, back, input, out.len());
+    if back {
+        let p = PLACES;
+        return in_page(&t, &p, k, back, input, out);
+    }
+    in_page(&t, b"", k, back, input, out)
+}
+
+// The same, for a page that is known. Only the way back needs the places.
+fn in_page(t: &[u16; 384], p: &[u8], k: usize, back: bool, input: &[u8], out: &mut [u8]) -> Answer
+    requires { ⌜ (k < pages.page-count) × (now t ≡ entries) × (back ≡ true → now p ≡ places) ⌝ }
+    ensures { λ r. ⌜ r ≡ spec.answer (spec.outcome (spec.way back k) (length (now (out .entry))) (now (input .entry))) ⌝ }
+    ensures { λ _. ⌜ now (out .exit) ≡ spec.after (spec.outcome (spec.way back k) (length (now (out .entry))) (now (input .entry))) (now (out .entry)) ⌝ }
+{
+    let m = measure(t, p, k, back, input, out.len());
     if m.place < input.len() {
         return refuse(NO_CHARACTER, m.place);
     }
     if out.len() < m.length {
         return refuse(OUTPUT_SHORT, 0);
     }
-    write(&t, &p, k, back, input, out);
+    write(t, p, k, back, input, out);
     Answer {
         refusal: 0,
         place: 0,
@@ -114,15 +128,8 @@ struct Measured {
     length: usize,
 }
 
-fn measure(
-    t: &[u16; 384],
-    p: &[u8; 1536],
-    k: usize,
-    back: bool,
-    input: &[u8],
-    room: usize,
-) -> Measured
-    requires { ⌜ (k < pages.page-count) × (room < half) × (now t ≡ entries) × (now p ≡ places) ⌝ }
+fn measure(t: &[u16; 384], p: &[u8], k: usize, back: bool, input: &[u8], room: usize) -> Measured
+    requires { ⌜ (k < pages.page-count) × (room < half) × (now t ≡ entries) × (back ≡ true → now p ≡ places) ⌝ }
     ensures { λ r. ⌜ (r .place ≡ spec.valid-up-to (spec.way back k) 0 0 (now (input .entry))) × Counts room (r .length) (length (spec.output (spec.way back k) 0 (now (input .entry)))) ⌝ }
 {
     let mut i: usize = 0;
@@ -159,8 +166,8 @@ struct Taken {
 }
 
 // A run of bytes under 128, or one character.
-fn find(t: &[u16; 384], p: &[u8; 1536], k: usize, back: bool, input: &[u8], i: usize) -> Taken
-    requires { ⌜ (k < pages.page-count) × (i < length (now input)) × (now t ≡ entries) × (now p ≡ places) ⌝ }
+fn find(t: &[u16; 384], p: &[u8], k: usize, back: bool, input: &[u8], i: usize) -> Taken
+    requires { ⌜ (k < pages.page-count) × (i < length (now input)) × (now t ≡ entries) × (back ≡ true → now p ≡ places) ⌝ }
     ensures { λ r. ⌜ Found (spec.way back k) (now (input .entry)) i (r .taken) (r .made) ⌝ }
 {
     let b = input[i];
@@ -181,24 +188,24 @@ fn find(t: &[u16; 384], p: &[u8; 1536], k: usize, back: bool, input: &[u8], i: u
     }
 }
 
-fn find_back(t: &[u16; 384], p: &[u8; 1536], k: usize, input: &[u8], i: usize) -> Taken
+fn find_back(t: &[u16; 384], p: &[u8], k: usize, input: &[u8], i: usize) -> Taken
     requires { ⌜ (k < pages.page-count) × (i < length (now input)) × (now t ≡ entries) × (now p ≡ places) ⌝ }
     ensures { λ r. ⌜ Found (spec.from k) (now (input .entry)) i (r .taken) (r .made) ⌝ }
 {
     let c = character(t, p, k, input, i);
-    if NO_BYTE <= c.byte {
+    if NO_BYTE <= c {
         return Taken { taken: 0, made: 0 };
     }
     Taken {
-        taken: c.size,
+        taken: lead_size(input[i]),
         made: 1,
     }
 }
 
 // ---- the second pass
 
-fn write(t: &[u16; 384], p: &[u8; 1536], k: usize, back: bool, input: &[u8], out: &mut [u8])
-    requires { ⌜ (k < pages.page-count) × (spec.valid-up-to (spec.way back k) 0 0 (now input) ≡ length (now input)) × (length (spec.output (spec.way back k) 0 (now input)) ≤ length (now out)) × (now t ≡ entries) × (now p ≡ places) ⌝ }
+fn write(t: &[u16; 384], p: &[u8], k: usize, back: bool, input: &[u8], out: &mut [u8])
+    requires { ⌜ (k < pages.page-count) × (spec.valid-up-to (spec.way back k) 0 0 (now input) ≡ length (now input)) × (length (spec.output (spec.way back k) 0 (now input)) ≤ length (now out)) × (now t ≡ entries) × (back ≡ true → now p ≡ places) ⌝ }
     ensures { λ _. ⌜ now (out .exit) ≡ spec.output (spec.way back k) 0 (now (input .entry)) ++ drop (length (spec.output (spec.way back k) 0 (now (input .entry)))) (now (out .entry)) ⌝ }
 {
     let mut i: usize = 0;
@@ -213,7 +220,7 @@ fn write(t: &[u16; 384], p: &[u8; 1536], k: usize, back: bool, input: &[u8], out
 // Stores what `find` finds.
 fn store(
     t: &[u16; 384],
-    p: &[u8; 1536],
+    p: &[u8],
     k: usize,
     back: bool,
     input: &[u8],
@@ -221,7 +228,7 @@ fn store(
     out: &mut [u8],
     w: usize,
 ) -> Taken
-    requires { ⌜ (k < pages.page-count) × (i < length (now input)) × (now t ≡ entries) × (now p ≡ places) × Ready (spec.way back k) (now input) i (now out) w ⌝ }
+    requires { ⌜ (k < pages.page-count) × (i < length (now input)) × (now t ≡ entries) × (back ≡ true → now p ≡ places) × Ready (spec.way back k) (now input) i (now out) w ⌝ }
     ensures { λ r. ⌜ Wrote (spec.way back k) (now (input .entry)) i (now (out .entry)) w (r .taken) (r .made) (now (out .exit)) ⌝ }
 {
     let b = input[i];
@@ -241,7 +248,7 @@ fn store(
 
 fn store_back(
     t: &[u16; 384],
-    p: &[u8; 1536],
+    p: &[u8],
     k: usize,
     input: &[u8],
     i: usize,
@@ -252,9 +259,9 @@ fn store_back(
     ensures { λ r. ⌜ Wrote (spec.from k) (now (input .entry)) i (now (out .entry)) w (r .taken) (r .made) (now (out .exit)) ⌝ }
 {
     let c = character(t, p, k, input, i);
-    out[w] = c.byte as u8;
+    out[w] = c as u8;
     Taken {
-        taken: c.size,
+        taken: lead_size(input[i]),
         made: 1,
     }
 }
@@ -289,43 +296,27 @@ fn put(out: &mut [u8], w: usize, c: u32) -> usize
 
 // ---- a character
 
-// The byte of the character at a place, NO_BYTE if it is refused, and how many bytes it has then.
-struct Mapped {
-    byte: u32,
-    size: usize,
-}
-
-// No page has a character of four bytes, so the bytes of that row are not read.
-fn character(t: &[u16; 384], p: &[u8; 1536], k: usize, input: &[u8], i: usize) -> Mapped
+// The byte of the character at a place, NO_BYTE if it is refused. No page has a character of four bytes, so the bytes of that row are not read.
+fn character(t: &[u16; 384], p: &[u8], k: usize, input: &[u8], i: usize) -> u32
     requires { ⌜ (k < pages.page-count) × (i < length (now input)) × (now t ≡ entries) × (now p ≡ places) ⌝ }
-    ensures { λ r. ⌜ r .byte ≡ pages.byte k (utf8_spec.decode (drop i (now (input .entry)))) ⌝ }
-    ensures { λ r. ⌜ (r .byte < pages.no-byte → r .size ≡ length (utf8_spec.encode (utf8_spec.decode (drop i (now (input .entry)))))) ⌝ }
+    ensures { λ r. ⌜ r ≡ pages.byte k (utf8_spec.decode (drop i (now (input .entry)))) ⌝ }
 {
     let a = input[i];
     if a < 128 {
-        return Mapped {
-            byte: a as u32,
-            size: 1,
-        };
+        return a as u32;
     }
     if a < 224 {
-        let c = row_two(a, byte_at(input, i + 1));
-        return Mapped {
-            byte: byte(t, p, k, c),
-            size: size(c),
-        };
+        return byte(t, p, k, row_two(a, byte_at(input, i + 1)));
     }
     if a < 240 {
-        let c = row_three(a, byte_at(input, i + 1), byte_at(input, i + 2));
-        return Mapped {
-            byte: byte(t, p, k, c),
-            size: size(c),
-        };
+        return byte(
+            t,
+            p,
+            k,
+            row_three(a, byte_at(input, i + 1), byte_at(input, i + 2)),
+        );
     }
-    Mapped {
-        byte: NO_BYTE,
-        size: 0,
-    }
+    NO_BYTE
 }
 
 // The byte at a place, 0 past the end.
@@ -361,7 +352,7 @@ fn code_point(t: &[u16; 384], k: usize, b: u8) -> u32
 }
 
 // The place by a slot.
-fn place(p: &[u8; 1536], i: usize) -> u8
+fn place(p: &[u8], i: usize) -> u8
     requires { ⌜ (i < 1536) × (now p ≡ places) ⌝ }
     ensures { λ r. ⌜ r ≡ getD places i 0 ⌝ }
 {
@@ -369,7 +360,7 @@ fn place(p: &[u8; 1536], i: usize) -> u8
 }
 
 // The byte of a code point; NO_BYTE if it has none.
-fn byte(t: &[u16; 384], p: &[u8; 1536], k: usize, c: u32) -> u32
+fn byte(t: &[u16; 384], p: &[u8], k: usize, c: u32) -> u32
     requires { ⌜ (k < pages.page-count) × (now t ≡ entries) × (now p ≡ places) ⌝ }
     ensures { λ r. ⌜ r ≡ pages.byte k c ⌝ }
 {

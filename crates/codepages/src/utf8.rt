@@ -3,6 +3,7 @@ ghost use mathlib.Core.Path.{_≡_};
 ghost use Prim.Native.Nat.{_-_};
 ghost use lib.ListN.{length};
 ghost use Rattle.codepages.specs.Utf8 as utf8;
+ghost use Rattle.codepages.specs.Laws.Branches.{leadSize};
 
 pub const NO_CODE_POINT: u32 = 1114112;
 
@@ -80,6 +81,19 @@ pub fn row_three(a: u8, b: u8, d: u8) -> u32
         return NO_CODE_POINT;
     }
     NO_CODE_POINT
+}
+
+// How many bytes a character of up to three has, by its first one.
+pub fn lead_size(a: u8) -> usize
+    ensures { λ r. ⌜ r ≡ leadSize a ⌝ }
+{
+    if a < 128 {
+        return 1;
+    }
+    if a < 224 {
+        return 2;
+    }
+    3
 }
 
 // How many bytes a code point has.

@@ -1,5 +1,5 @@
-//! Reads many members and looks by the proved library and by the independent readers, and compares
-//! everything that both answer and store. Stops at the first difference and prints the input.
+//! Reads many members and looks and converts many texts by the proved library and by the independent
+//! readers, and compares everything that both answer and store. Stops at the first difference and prints the input.
 //!
 //! Usage: differential [SEED]; the same seed gives the same inputs.
 
@@ -19,6 +19,7 @@ use digarumbi_versus::look_check::LookCheck;
 use digarumbi_versus::member_check::MemberCheck;
 use digarumbi_versus::repeats::{members_with_repeats, CUT_BYTES};
 use digarumbi_versus::stored;
+use digarumbi_versus::text_check;
 use digarumbi_versus::unit_check;
 
 const GENERATED_MEMBERS: u64 = 70_000;
@@ -30,6 +31,7 @@ const MEMBER_NUMBERS: [u32; 14] = [1, 2, 3, 4, 5, 6, 7, 8, 9, 10, 11, 12, 13, 18
 /// Those that a member can get whose version is 1; 4 is then that of a modifier that begins 31.
 const VERSION_1_NUMBERS: [u32; 15] = [0, 1, 2, 3, 4, 5, 6, 7, 8, 9, 10, 11, 12, 13, 18];
 const LOOK_NUMBERS: [u32; 8] = [2, 3, 4, 5, 7, 11, 14, 15];
+const TEXT_NUMBERS: [u32; 4] = [0, 15, 24, 25];
 
 fn main() -> ExitCode {
     let seed = env::args().nth(1).map_or(Ok(1), |seed| seed.parse());
@@ -51,9 +53,14 @@ fn run(seed: u64) -> Result<(), Difference> {
     println!("{} looks: {}", looks.looks.total(), looks.looks);
     println!("{} rewritings of them: {}", looks.rewritten.total(), looks.rewritten);
     println!("{} numbers as points, pixels and font sizes", unit_check::check(seed)?);
+    let texts = text_check::check(seed)?;
+    println!("{} texts to UTF-8: {}", texts.to.total(), texts.to);
+    println!("{} texts from UTF-8: {}", texts.from.total(), texts.from);
     members.readings.all_seen(&MEMBER_NUMBERS)?;
     members.version_1.all_seen(&VERSION_1_NUMBERS)?;
     looks.rewritten.all_seen(&LOOK_NUMBERS)?;
+    texts.to.all_seen(&TEXT_NUMBERS)?;
+    texts.from.all_seen(&TEXT_NUMBERS)?;
     println!("no difference");
     Ok(())
 }

@@ -46,3 +46,7 @@ pub answers-written : (s : Outcome) (o o′ v : List ℕ) (n : ℕ) → s ≡ wr
     → (_≡_ {A = Answer} (record { refusal = 0; place = 0; length = n }) (answer s)) × (o′ ≡ after s o)
 unfolding answer after
 answers-written s o o′ v n e g h = rw (e, g) (refl, h)
+
+-- the answer for an outcome that is the same
+pub answers-same : (s t : Outcome) (o o′ : List ℕ) (a : Answer) → s ≡ t → (a ≡ answer t) × (o′ ≡ after t o) → (a ≡ answer s) × (o′ ≡ after s o)
+answers-same s t o o′ a e g = rw e g

@@ -111,6 +111,22 @@ size-three c l h = rw (encode-three c l h)
 pub size-four : (c : ℕ) → four-bytes ≤ c → 4 ≡ length (encode c)
 size-four c l = rw (encode-four c l)
 
+-- by the first byte
+unfoldable pub leadSize : ℕ → ℕ
+leadSize a = pick (ltb a 128) 1 (pick (ltb a 224) 2 3)
+
+pub lead-one : (a : ℕ) → a < 128 → 1 ≡ leadSize a
+unfolding leadSize pick
+lead-one a h = rw (lt-ltb a 128 h)
+
+pub lead-two : (a : ℕ) → 128 ≤ a → a < 224 → 2 ≡ leadSize a
+unfolding leadSize pick
+lead-two a l h = rw (le-ltb a 128 l, lt-ltb a 224 h)
+
+pub lead-three : (a : ℕ) → 224 ≤ a → 3 ≡ leadSize a
+unfolding leadSize pick
+lead-three a l = let k : 128 ≤ a = omega arith in rw (le-ltb a 128 k, le-ltb a 224 l)
+
 -- ---- a character is stored
 
 pub put-one : (o : List ℕ) (w c : ℕ) → c < two-bytes → (set o w c ≡ sets o w (encode c)) × (1 ≡ length (encode c))
@@ -132,11 +148,11 @@ module _ (k : ℕ) (u : List ℕ) (i a : ℕ) (ea : a ≡ getD u i 0) where
   lead : getD (drop i u) 0 0 ≡ a
   lead = getD-front u i ∙ sym ea
 
-  pub decode-one : a < 128 → (a ≡ byte k (decode (drop i u))) × (1 ≡ length (encode (decode (drop i u))))
+  pub decode-one : a < 128 → a ≡ byte k (decode (drop i u))
   unfolding decode
   decode-one h =
       let e : decode (drop i u) ≡ a = rw lead (row-one-is a _ _ _ h) in
-      rw e (sym (byte-low k a h), size-one a h)
+      rw e (sym (byte-low k a h))
 
   pub decode-two : (b r : ℕ) → 128 ≤ a → a < 224 → b ≡ getD u (i + 1) 0 → r ≡ row-two a b → r ≡ decode (drop i u)
   unfolding decode
@@ -159,6 +175,19 @@ module _ (k : ℕ) (u : List ℕ) (i a : ℕ) (ea : a ≡ getD u i 0) where
 
       value : decode (drop i u) < no-code-point → byte k (decode (drop i u)) ≡ no-byte
       value l = by (decode (drop i u)) (decoded-by (getD (drop i u) 0 0) (getD (drop i u) 1 0) (getD (drop i u) 2 0) (getD (drop i u) 3 0) (decode (drop i u)) l refl)
+
+  -- a character of a page has as many bytes as its first one says
+  pub lead-size : k < page-count → byte k (decode (drop i u)) < no-byte → leadSize a ≡ length (encode (decode (drop i u)))
+  unfolding decode
+  lead-size hk h =
+      let below = byte-below k (byte k (decode (drop i u))) (decode (drop i u)) hk refl h in
+      by (decode (drop i u)) below (decoded-by (getD (drop i u) 0 0) (getD (drop i u) 1 0) (getD (drop i u) 2 0) (getD (drop i u) 3 0) (decode (drop i u)) (omega arith) refl)
+    where
+      by : (c : ℕ) → c < surrogates → Decoded (getD (drop i u) 0 0) (getD (drop i u) 1 0) (getD (drop i u) 2 0) (getD (drop i u) 3 0) c → leadSize a ≡ length (encode c)
+      by c b (from-one l e) = sym (lead-one a (omega (arith, lead))) ∙ size-one c (omega (arith, lead))
+      by c b (from-two l lb hb s) = sym (lead-two a (omega (arith, lead, s .is, s .above)) (omega (arith, lead))) ∙ size-two c (s .above) (omega (arith, s .is))
+      by c b (from-three l h _ _ _ _ s) = sym (lead-three a (omega (arith, lead))) ∙ size-three c (s .above) (omega arith)
+      by c b (from-four _ _ _ _ _ _ _ s) = absurd (omega (arith, s .above))
 
 -- ---- what is found at a place
 
@@ -209,11 +238,14 @@ module _ (k : ℕ) (u : List ℕ) (i c : ℕ) (e : c ≡ code-point k (getD u i 
       good m = (omega (arith, point-byte k (getD u i 0) c hk (sym e) m .below), to-at m l)
 
 -- and back
-module _ (k : ℕ) (u : List ℕ) (i b s : ℕ) (hk : k < page-count) (l : i < length u) (e : b ≡ byte k (decode (drop i u))) (size : b < no-byte → s ≡ length (encode (decode (drop i u)))) where
+module _ (k : ℕ) (u : List ℕ) (i b s : ℕ) (hk : k < page-count) (l : i < length u) (e : b ≡ byte k (decode (drop i u))) (size : s ≡ leadSize (getD u i 0)) where
+  size-of : b < no-byte → s ≡ length (encode (decode (drop i u)))
+  size-of h = size ∙ lead-size k u i (getD u i 0) refl hk (rw (← e) h)
+
   pub from-at : b < no-byte → Passes (from k) u i s (b ∷ [])
   from-at h =
       let c = decode (drop i u) in
-      let q = size h in
+      let q = size-of h in
       let below = byte-below k b c hk (sym e) h in
       let d = length-drop i u in
       let t = encode-decode (drop i u) c (omega (arith, d)) refl (omega (arith, below)) in
@@ -222,7 +254,7 @@ module _ (k : ℕ) (u : List ℕ) (i b s : ℕ) (hk : k < page-count) (l : i < l
       rw z at (passes-one {f = from k} {u = u} {i = i} (s - 1) (b ∷ []) step (omega (arith, z, q, t .inside, d)))
 
   pub from-some : b < no-byte → 0 < s
-  from-some h = omega (arith, size h, encode-length (decode (drop i u)) .0)
+  from-some h = omega (arith, size-of h, encode-length (decode (drop i u)) .0)
 
   pub from-none : no-byte ≤ b → from k (drop i u) ≡ invalid
   from-none h = from-invalid k (drop i u) (decode (drop i u)) b refl (sym e) h

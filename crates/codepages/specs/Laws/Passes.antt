@@ -52,16 +52,6 @@ ascii-none u i = record { under = λ j h. absurd (omega arith) }
 pub ascii-one : (u : List ℕ) (i : ℕ) → getD u i 0 < ascii → Ascii u i 1
 ascii-one u i h = record { under = λ j l. let z : i + j ≡ i = omega arith in rw z h }
 
-pub ascii-four : (u : List ℕ) (i : ℕ) → getD u i 0 < ascii → getD u (i + 1) 0 < ascii → getD u (i + 2) 0 < ascii → getD u (i + 3) 0 < ascii → Ascii u i 4
-ascii-four u i a b d e = record { under = by }
-  where
-    by : (j : ℕ) → j < 4 → getD u (i + j) 0 < ascii
-    by zero h = let z : i + 0 ≡ i = omega arith in rw z a
-    by (suc zero) h = b
-    by (suc (suc zero)) h = d
-    by (suc (suc (suc zero))) h = e
-    by (suc (suc (suc (suc j)))) h = absurd (omega arith)
-
 pub ascii-more : (u : List ℕ) (i n m : ℕ) → Ascii u i n → Ascii u (i + n) m → Ascii u i (n + m)
 ascii-more u i n m a b = record {
   under = λ j h. ⊎-elim (λ (l : j < n). a .under j l) (λ (l : n ≤ j). let z : i + j ≡ i + n + (j - n) = omega arith in rw z (b .under (j - n) (omega arith))) (side j n);
@@ -76,12 +66,6 @@ ascii-on u start i n h a b =
 
 pub ascii-start : (u : List ℕ) (i : ℕ) → Ascii u i (i - i)
 ascii-start u i = let z : i - i ≡ 0 = omega arith in rw z (ascii-none u i)
-
-pub ascii-sixteen : (u : List ℕ) (i : ℕ) → Ascii u i 4 → Ascii u (i + 4) 4 → Ascii u (i + 8) 4 → Ascii u (i + 12) 4 → Ascii u i 16
-ascii-sixteen u i a b d e =
-    let x : i + 8 ≡ i + 4 + 4 = omega arith in
-    let y : i + 12 ≡ i + 4 + 8 = omega arith in
-    ascii-more u i 4 12 a (ascii-more u (i + 4) 4 8 b (ascii-more u (i + 4 + 4) 4 4 (rw x at d) (let z : i + 4 + 4 + 4 ≡ i + 12 = omega arith in rw z e)))
 
 -- in either direction such a byte stands for itself
 pub plain : (back : Bool) (k a : ℕ) (u : List ℕ) → a < ascii → way back k (a ∷ u) ≡ converts 0 (a ∷ [])

@@ -1,3 +1,4 @@
+use borrow.Author.Needs.{needs}
 use native.Mathlib.Omega.{arith}
 use mathlib.Core.Path.{_≡_}
 use Prim.Native.Nat.{ℕ, _-_, _≤_}
@@ -20,21 +21,23 @@ abbrev μ-loop2 : tie.MeasureT-loop2
 
 pub run-end-spec : {M : Type 1} → statement M
 run-end-spec = tie.close (tie.spec Inv-loop μ-loop Inv-loop2 μ-loop2
-    (λ c. record { onward = omega arith; inside = λ h. absurd (omega arith); all = ascii-start _ _ })
+    (λ c. record { onward = omega arith; inside = λ h. omega arith; all = ascii-start _ _ })
+    (λ c. search needs)
+    (λ c. record { onward = omega arith; inside = λ h. omega arith; all = ascii-start _ _ })
     (λ c. (omega arith, omega arith, ascii-start _ _))
     (λ c κs. omega arith)
-    (λ c. omega (arith, c .before .sixteen .ensures (c .if2 .taken)))
-    (λ c. omega (arith, c .before .sixteen .ensures (c .if2 .taken)))
+    (λ c. omega (arith, c .before .block .ensures (c .if3 .taken)))
+    (λ c. omega (arith, c .before .block .ensures (c .if3 .taken)))
     (λ c.
-    let s = c .before .sixteen .ensures (c .if2 .taken) in
+    let s = c .before .block .ensures (c .if3 .taken) in
     let l = c .before .before .loop in
-    (omega arith, omega arith, ascii-on _ _ (l .i) 16 (omega arith) (l .inv .2) (s .1)))
+    (omega arith, omega arith, ascii-on _ _ (l .i) 32 (omega arith) (l .inv .2) (s .1)))
     (λ c. c .before .before .loop .inv)
     (λ c κs. tt)
-    (λ c. omega (arith, c .before .one .ensures (c .if3 .taken)))
-    (λ c. omega (arith, c .before .one .ensures (c .if3 .taken)))
+    (λ c. omega (arith, c .before .one .ensures (c .if4 .taken)))
+    (λ c. omega (arith, c .before .one .ensures (c .if4 .taken)))
     (λ c.
-    let s = c .before .one .ensures (c .if3 .taken) in
+    let s = c .before .one .ensures (c .if4 .taken) in
     let l = c .before .before .loop2 in
     (omega arith, omega arith, ascii-on _ _ (l .i) 1 (omega arith) (l .inv .2) (s .1)))
     (λ c. let l = c .before .before .loop2 in record { onward = omega arith; inside = λ h. omega arith; all = l .inv .2 }))
