@@ -6,33 +6,39 @@ ghost use lib.ListN.{length};
 ghost use Rattle.codepages.specs.Pages.{ascii};
 ghost use Rattle.codepages.specs.Laws.Passes.{Ascii, Run};
 
+// the bytes and code points under it stand for themselves
+pub const ASCII: u8 = 128;
+
+// bytes that are tested together
+const BLOCK: usize = 32;
+
 // 1 for a byte that is 128 or more, 0 for another.
 fn high(x: u8) -> u8
     ensures { λ r. ⌜ (r ≤ 1) × (r ≡ 0 → x < ascii) ⌝ }
 {
-    x / 128
+    x / ASCII
 }
 
-// How many of the 32 bytes from i on are 128 or more.
+// How many bytes of the block from i on are 128 or more.
 fn high_count(input: &[u8], i: usize) -> u8
     requires { ⌜ i + 32 ≤ length (now input) ⌝ }
     ensures { λ r. ⌜ (r ≡ 0 → Ascii (now (input .entry)) i 32) ⌝ }
 {
     let mut n: u8 = 0;
     let mut j: usize = 0;
-    while j < 32 {
+    while j < BLOCK {
         n += high(input[i + j]);
         j += 1;
     }
     n
 }
 
-// Whether 32 bytes from i on are there and under 128.
+// Whether the bytes of the block from i on are there and under 128.
 fn block(input: &[u8], i: usize) -> bool
     requires { ⌜ i ≤ length (now input) ⌝ }
     ensures { λ r. ⌜ (r ≡ true → (i + 32 ≤ length (now (input .entry))) × Ascii (now (input .entry)) i 32) ⌝ }
 {
-    if input.len() - i < 32 {
+    if input.len() - i < BLOCK {
         return false;
     }
     high_count(input, i) == 0
@@ -43,25 +49,26 @@ fn one(input: &[u8], i: usize) -> bool
     ensures { λ r. ⌜ (r ≡ true → (i + 1 ≤ length (now (input .entry))) × Ascii (now (input .entry)) i 1) ⌝ }
 {
     if i < input.len() {
-        input[i] < 128
+        input[i] < ASCII
     } else {
         false
     }
 }
 
-// A place up to which all bytes from `start` on are under 128: the first of another kind, or the end. `start` if that lies past the end.
+// A place up to which all bytes from `start` on are under 128. (The first of another kind, or the end; but any such place serves, so the
+// contract says no more.)
 pub fn run_end(input: &[u8], start: usize) -> usize
     ensures { λ r. ⌜ Run (now (input .entry)) start r ⌝ }
 {
     if input.len() <= start {
         return start;
     }
-    if 128 <= input[start] {
+    if ASCII <= input[start] {
         return start;
     }
     let mut i = start;
     while block(input, i) {
-        i += 32;
+        i += BLOCK;
     }
     while one(input, i) {
         i += 1;

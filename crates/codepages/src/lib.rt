@@ -15,7 +15,9 @@ ghost use Rattle.codepages.specs.Utf8 as utf8_spec;
 ghost use Rattle.codepages.specs.Convert as spec;
 ghost use Rattle.codepages.specs.Laws.Places.{places};
 ghost use Rattle.codepages.specs.Laws.Passes.{half, Found, Grown, Counts, Ready, Wrote};
+use crate::ascii::ASCII;
 use crate::ascii::run_end;
+use crate::tables::ENTRIES;
 use crate::tables::PAGES;
 use crate::tables::PLACES;
 use crate::utf8::NO_CODE_POINT;
@@ -33,8 +35,6 @@ const FIRST_PAGE: u32 = 1250;
 const PAGE_COUNT: u32 = 3;
 
 const PAGE_ENTRIES: usize = 128;
-
-const ASCII: u8 = 128;
 
 const NO_BYTE: u32 = 256;
 
@@ -90,7 +90,14 @@ fn convert(back: bool, page: u32, input: &[u8], out: &mut [u8]) -> Answer
 }
 
 // The same, for a page that is known. Only the way back needs the places.
-fn in_page(t: &[u16; 384], p: &[u8], k: usize, back: bool, input: &[u8], out: &mut [u8]) -> Answer
+fn in_page(
+    t: &[u16; ENTRIES],
+    p: &[u8],
+    k: usize,
+    back: bool,
+    input: &[u8],
+    out: &mut [u8],
+) -> Answer
     requires { ⌜ (k < pages.page-count) × (now t ≡ entries) × (back ≡ true → now p ≡ places) ⌝ }
     ensures { λ r. ⌜ r ≡ spec.answer (spec.outcome (spec.way back k) (length (now (out .entry))) (now (input .entry))) ⌝ }
     ensures { λ _. ⌜ now (out .exit) ≡ spec.after (spec.outcome (spec.way back k) (length (now (out .entry))) (now (input .entry))) (now (out .entry)) ⌝ }
@@ -128,7 +135,14 @@ struct Measured {
     length: usize,
 }
 
-fn measure(t: &[u16; 384], p: &[u8], k: usize, back: bool, input: &[u8], room: usize) -> Measured
+fn measure(
+    t: &[u16; ENTRIES],
+    p: &[u8],
+    k: usize,
+    back: bool,
+    input: &[u8],
+    room: usize,
+) -> Measured
     requires { ⌜ (k < pages.page-count) × (room < half) × (now t ≡ entries) × (back ≡ true → now p ≡ places) ⌝ }
     ensures { λ r. ⌜ (r .place ≡ spec.valid-up-to (spec.way back k) 0 0 (now (input .entry))) × Counts room (r .length) (length (spec.output (spec.way back k) 0 (now (input .entry)))) ⌝ }
 {
@@ -166,7 +180,7 @@ struct Taken {
 }
 
 // A run of bytes under 128, or one character.
-fn find(t: &[u16; 384], p: &[u8], k: usize, back: bool, input: &[u8], i: usize) -> Taken
+fn find(t: &[u16; ENTRIES], p: &[u8], k: usize, back: bool, input: &[u8], i: usize) -> Taken
     requires { ⌜ (k < pages.page-count) × (i < length (now input)) × (now t ≡ entries) × (back ≡ true → now p ≡ places) ⌝ }
     ensures { λ r. ⌜ Found (spec.way back k) (now (input .entry)) i (r .taken) (r .made) ⌝ }
 {
@@ -188,7 +202,7 @@ fn find(t: &[u16; 384], p: &[u8], k: usize, back: bool, input: &[u8], i: usize) 
     }
 }
 
-fn find_back(t: &[u16; 384], p: &[u8], k: usize, input: &[u8], i: usize) -> Taken
+fn find_back(t: &[u16; ENTRIES], p: &[u8], k: usize, input: &[u8], i: usize) -> Taken
     requires { ⌜ (k < pages.page-count) × (i < length (now input)) × (now t ≡ entries) × (now p ≡ places) ⌝ }
     ensures { λ r. ⌜ Found (spec.from k) (now (input .entry)) i (r .taken) (r .made) ⌝ }
 {
@@ -204,7 +218,7 @@ fn find_back(t: &[u16; 384], p: &[u8], k: usize, input: &[u8], i: usize) -> Take
 
 // ---- the second pass
 
-fn write(t: &[u16; 384], p: &[u8], k: usize, back: bool, input: &[u8], out: &mut [u8])
+fn write(t: &[u16; ENTRIES], p: &[u8], k: usize, back: bool, input: &[u8], out: &mut [u8])
     requires { ⌜ (k < pages.page-count) × (spec.valid-up-to (spec.way back k) 0 0 (now input) ≡ length (now input)) × (length (spec.output (spec.way back k) 0 (now input)) ≤ length (now out)) × (now t ≡ entries) × (back ≡ true → now p ≡ places) ⌝ }
     ensures { λ _. ⌜ now (out .exit) ≡ spec.output (spec.way back k) 0 (now (input .entry)) ++ drop (length (spec.output (spec.way back k) 0 (now (input .entry)))) (now (out .entry)) ⌝ }
 {
@@ -219,7 +233,7 @@ fn write(t: &[u16; 384], p: &[u8], k: usize, back: bool, input: &[u8], out: &mut
 
 // Stores what `find` finds.
 fn store(
-    t: &[u16; 384],
+    t: &[u16; ENTRIES],
     p: &[u8],
     k: usize,
     back: bool,
@@ -247,7 +261,7 @@ fn store(
 }
 
 fn store_back(
-    t: &[u16; 384],
+    t: &[u16; ENTRIES],
     p: &[u8],
     k: usize,
     input: &[u8],
@@ -297,12 +311,12 @@ fn put(out: &mut [u8], w: usize, c: u32) -> usize
 // ---- a character
 
 // The byte of the character at a place, NO_BYTE if it is refused. No page has a character of four bytes, so the bytes of that row are not read.
-fn character(t: &[u16; 384], p: &[u8], k: usize, input: &[u8], i: usize) -> u32
+fn character(t: &[u16; ENTRIES], p: &[u8], k: usize, input: &[u8], i: usize) -> u32
     requires { ⌜ (k < pages.page-count) × (i < length (now input)) × (now t ≡ entries) × (now p ≡ places) ⌝ }
     ensures { λ r. ⌜ r ≡ pages.byte k (utf8_spec.decode (drop i (now (input .entry)))) ⌝ }
 {
     let a = input[i];
-    if a < 128 {
+    if a < ASCII {
         return a as u32;
     }
     if a < 224 {
@@ -329,7 +343,7 @@ fn byte_at(input: &[u8], i: usize) -> u8
 // ---- a page
 
 // The entry at a place of the table.
-fn entry(t: &[u16; 384], i: usize) -> u16
+fn entry(t: &[u16; ENTRIES], i: usize) -> u16
     requires { ⌜ (i < 384) × (now t ≡ entries) ⌝ }
     ensures { λ r. ⌜ r ≡ getD entries i 0 ⌝ }
 {
@@ -337,7 +351,7 @@ fn entry(t: &[u16; 384], i: usize) -> u16
 }
 
 // The code point of a byte; NO_CODE_POINT if it has none.
-fn code_point(t: &[u16; 384], k: usize, b: u8) -> u32
+fn code_point(t: &[u16; ENTRIES], k: usize, b: u8) -> u32
     requires { ⌜ (k < pages.page-count) × (now t ≡ entries) ⌝ }
     ensures { λ r. ⌜ r ≡ pages.code-point k b ⌝ }
 {
@@ -360,7 +374,7 @@ fn place(p: &[u8], i: usize) -> u8
 }
 
 // The byte of a code point; NO_BYTE if it has none.
-fn byte(t: &[u16; 384], p: &[u8], k: usize, c: u32) -> u32
+fn byte(t: &[u16; ENTRIES], p: &[u8], k: usize, c: u32) -> u32
     requires { ⌜ (k < pages.page-count) × (now t ≡ entries) × (now p ≡ places) ⌝ }
     ensures { λ r. ⌜ r ≡ pages.byte k c ⌝ }
 {

@@ -1,7 +1,10 @@
 // The constant tables. Code lends one local copy of each: an index into a constant copies it at each call.
 
+// the entries of three pages
+pub const ENTRIES: usize = 384;
+
 // The upper halves of windows-1250, 1251 and 1252: `specs/Table.antt` has the same numbers, and their source. 0: the byte has no entry.
-pub const PAGES: [u16; 384] = [
+pub const PAGES: [u16; ENTRIES] = [
     8364,
     0,
     8218,
