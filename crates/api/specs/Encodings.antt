@@ -10,7 +10,7 @@ use Rattle.layout.specs.Words.{word32}
 use Rattle.store.specs.Puts.{AtFront}
 use Rattle.codepages.specs.Convert.{Outcome, refused, written, after}
 
--- "answer of 3 words: refusal, place, length" (issue 21); of a place and a length the lowest 32 bits, which is all of them for a text and an output
+-- three words, as of a look that is written (our rule): the refusal, 0 if there is none, its place, and the length; of a place and a length the lowest 32 bits, which is all of them for a text and an output
 -- of less than 4 GiB (`place-kept` and `length-kept` in Laws/Encodings.antt)
 unfoldable pub outcomeWords : Outcome → List ℕ
 outcomeWords (refused n p) = n ∷ word32 p ∷ 0 ∷ []

@@ -74,7 +74,7 @@ pub data Outcome : Type 0 where
   refused : ℕ → ℕ → Outcome
   written : List ℕ → Outcome
 
--- "25 is looked for over the whole input before 15" (issue 21)
+-- "Refusals, in this order": 25 is looked for over the whole text before 15
 unfoldable pub outcome : (List ℕ → Step) → ℕ → List ℕ → Outcome
 outcome f room u =
     pick (ltb (valid-up-to f 0 0 u) (length u)) (refused no-character (valid-up-to f 0 0 u))

@@ -37,7 +37,7 @@ no-byte = 256
 unfoldable pub page : ℕ → List ℕ
 page k = take page-entries (drop (page-entries * k) entries)
 
--- what an entry gives; "there is no fallback to control characters" (issue 21)
+-- what an entry gives: nothing where there is none, and no control character in its place (our rule)
 unfoldable pub listed : ℕ → ℕ
 listed e = pick (eqb e 0) no-code-point e
 

@@ -162,7 +162,7 @@ to-exactly k room v u = (
   (λ s. writes-whole (to k) room v u (to-whole (s .0)) (s .1)),
 )
 
--- and from it: "the decoder accepts exactly the well-formed shortest-form UTF-8 of characters in the page" (issue 21)
+-- and from it: so the decoder accepts exactly the well-formed shortest-form UTF-8 of characters in the page
 pub from-exactly : (k : ℕ) → k < page-count → (room : ℕ) (u v : List ℕ) → outcome (from k) room u ≡ written v ↔ SameText k v u × (length v ≤ room)
 from-exactly k hk room u v = (
   (λ e. let w = wrote (from k) room u v e in (stops-whole v (from-stops k hk (length u) u (omega arith)) (w .0) (w .1), w .2)),
