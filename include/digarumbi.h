@@ -1,4 +1,4 @@
-/* Digarumbi: reads light detail members, version 1 and 3, and binary table looks (.tlo).
+/* Digarumbi: reads light detail members, version 1 and 3, and binary table looks (.tlo), and converts names in old code pages.
  *
  * "01", "02", "002" and "003" below are the papers that the library follows: document 01 (the rules), document 02 (changes to them), source
  * document 002 (looks) and source document 003 (members).
@@ -51,16 +51,20 @@ uint32_t digarumbi_abi(void);
  *   12   node area shorter than 7 words a node                                    0
  *   13   cell area shorter than 3 words a cell                                    0
  *   14   look: a color's high byte not 0                                          the color
- *   15   look writer: output too short                                            0
+ *   15   look writer, text: output too short                                      0
  *   16   look writer: version 00 with V2 data not all zero, undrawn and with an   where V2 would stand
  *        empty continuation
  *   18   a zero byte inside a string of a member                                  its first length byte
+ *   24   text: an unknown page                                                    0
+ *   25   text: a byte without an entry in the page; a character that has none,    that byte / first byte of that
+ *        or isn't UTF-8 in its shortest form                                      character
  *
  * Number 7 stands at the count for dimensions, footnotes and cells; at the first byte of the 4,097th category; at the first byte of a
  * Value or category that is too deep; for the product of all n at the first axis count; at a look's shading byte above 10; at 0 for
  * points, pixels and font sizes.
  *
- * Order: 1, then the file from front to back, then 11, 12, 13; for looks from front to back, then 11, then 15.
+ * Order: 1, then the file from front to back, then 11, 12, 13; for looks from front to back, then 11, then 15; for text 24, then 25 over
+ * the whole input, then 15.
  * After a refusal every lent area but `answer` holds what it held before.
  *
  * Sizes accepted: member at most 1,048,576 bytes; dimensions 16; footnotes 256; category nodes 4,096 in the whole member; cells 4,096;
@@ -285,6 +289,38 @@ size_t digarumbi_read_look(const uint8_t *file, size_t file_length, uint32_t *an
  * 3 stay. */
 size_t digarumbi_rewrite_look(const uint8_t *file, size_t file_length, uint8_t *out, size_t out_length, uint32_t *answer,
                               size_t answer_words);
+
+/* ---- Text in old code pages ---- */
+
+/* The strings of members and looks are bytes. These two functions convert text between windows-1250, 1251 or 1252 and UTF-8, by the mapping
+ * files that Unicode publishes (CP1250.TXT to CP1252.TXT). Bytes under 128, 00 too, stand for themselves. Some bytes have no entry, and
+ * there is no fallback to control characters: 81, 83, 88, 90, 98 in windows-1250; 98 in windows-1251; 81, 8D, 8F, 90, 9D in windows-1252. What
+ * one function writes the other turns back, page by page. */
+enum {
+    DIGARUMBI_WINDOWS_1250 = 1250,
+    DIGARUMBI_WINDOWS_1251 = 1251,
+    DIGARUMBI_WINDOWS_1252 = 1252,
+
+    DIGARUMBI_UNKNOWN_PAGE = 24, /* refusals of text */
+    DIGARUMBI_NO_CHARACTER = 25,
+    DIGARUMBI_OUTPUT_SHORT = 15,
+
+    DIGARUMBI_TEXT_ANSWER = 3, /* words of the answer */
+    DIGARUMBI_TEXT_LENGTH = 2  /* the word that is the length written; 0 and 1 are DIGARUMBI_REFUSAL and DIGARUMBI_PLACE */
+};
+
+/* Text in `page` to UTF-8, in `out`. Three times `in_length` bytes of output always suffice.
+ *
+ * The answer has 3 words: refusal, place, and the length written, 0 after a refusal. Returns 3; returns 0 if `answer` has fewer: then nothing
+ * is read and nothing changes. Nothing is written after a refusal. Bytes of `out` beyond the length and words of `answer` beyond 3 stay.
+ * Of a place and a length the answer has the lowest 32 bits: all of them where `in_length` and `out_length` are below 4,294,967,296. */
+size_t digarumbi_to_utf8(uint32_t page, const uint8_t *in, size_t in_length, uint8_t *out, size_t out_length, uint32_t *answer,
+                         size_t answer_words);
+
+/* UTF-8 to text in `page`, in `out`, likewise. `in_length` bytes of output always suffice. Truncated and overlong forms, surrogates, code points
+ * above 10FFFF and stray continuation bytes are number 25 at the first byte of the character: `41 C4 41` is 25 at 1. */
+size_t digarumbi_from_utf8(uint32_t page, const uint8_t *in, size_t in_length, uint8_t *out, size_t out_length, uint32_t *answer,
+                           size_t answer_words);
 
 /* ---- Points, pixels and font heights ---- */
 

@@ -1,8 +1,10 @@
 //! Reference readers for light detail members, version 1 and 3, and binary table
-//! looks, with generators of inputs for them.
+//! looks, with generators of inputs for them, and a converter of text in old code
+//! pages.
 
 pub mod axes;
 pub mod cells;
+pub mod codepages;
 pub mod contents;
 pub mod cursor;
 pub mod damage;

@@ -19,6 +19,8 @@ pub const COLOR: u32 = 14;
 pub const OUTPUT_TOO_SHORT: u32 = 15;
 pub const V2_DATA: u32 = 16;
 pub const ZERO_BYTE: u32 = 18;
+pub const UNKNOWN_PAGE: u32 = 24;
+pub const NO_CHARACTER: u32 = 25;
 
 #[derive(Clone, Copy, Debug, PartialEq, Eq)]
 pub struct Refusal {

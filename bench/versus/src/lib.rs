@@ -11,6 +11,8 @@ pub mod repeats;
 pub mod stored;
 pub mod table_check;
 pub mod tally;
+pub mod text_check;
+pub mod texts;
 pub mod timing;
 pub mod unit_check;
 pub mod value_check;

@@ -75,6 +75,26 @@ extern "C" {
         answer_words: usize,
     ) -> usize;
 
+    pub fn digarumbi_to_utf8(
+        page: u32,
+        input: *const u8,
+        in_length: usize,
+        out: *mut u8,
+        out_length: usize,
+        answer: *mut u32,
+        answer_words: usize,
+    ) -> usize;
+
+    pub fn digarumbi_from_utf8(
+        page: u32,
+        input: *const u8,
+        in_length: usize,
+        out: *mut u8,
+        out_length: usize,
+        answer: *mut u32,
+        answer_words: usize,
+    ) -> usize;
+
     pub fn digarumbi_pt_to_px(points: u32, pixels: *mut u32) -> u32;
 
     pub fn digarumbi_px_to_pt(pixels: u32, points: *mut u32) -> u32;

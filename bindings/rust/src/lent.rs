@@ -26,6 +26,9 @@ pub const LOOK_ANSWER: usize = 264;
 /// Words of the answer of [`rewrite_look`].
 pub const REWRITE_ANSWER: usize = 3;
 
+/// Words of the answer of [`to_utf8`] and [`from_utf8`].
+pub const TEXT_ANSWER: usize = 3;
+
 /// Words of a node record.
 pub const NODE_RECORD: usize = 7;
 /// Words of a cell record.
@@ -218,6 +221,36 @@ pub fn rewrite_look(file: &[u8], out: &mut [u8], answer: &mut [u32]) -> usize {
         ffi::digarumbi_rewrite_look(
             file.as_ptr(),
             file.len(),
+            out.as_mut_ptr(),
+            out.len(),
+            answer.as_mut_ptr(),
+            answer.len(),
+        )
+    }
+}
+
+/// Converts text in a code page to UTF-8, in `out`. Returns [`TEXT_ANSWER`], or 0 if `answer` has fewer words.
+pub fn to_utf8(page: u32, input: &[u8], out: &mut [u8], answer: &mut [u32]) -> usize {
+    unsafe {
+        ffi::digarumbi_to_utf8(
+            page,
+            input.as_ptr(),
+            input.len(),
+            out.as_mut_ptr(),
+            out.len(),
+            answer.as_mut_ptr(),
+            answer.len(),
+        )
+    }
+}
+
+/// Converts UTF-8 to text in a code page, in `out`. Returns [`TEXT_ANSWER`], or 0 if `answer` has fewer words.
+pub fn from_utf8(page: u32, input: &[u8], out: &mut [u8], answer: &mut [u32]) -> usize {
+    unsafe {
+        ffi::digarumbi_from_utf8(
+            page,
+            input.as_ptr(),
+            input.len(),
             out.as_mut_ptr(),
             out.len(),
             answer.as_mut_ptr(),

@@ -1,4 +1,5 @@
-//! Reads light detail members, version 1 and 3, and binary table looks (.tlo).
+//! Reads light detail members, version 1 and 3, and binary table looks (.tlo), and converts text in
+//! old code pages ([`codepage`]).
 //!
 //! The work is done by a library in which every function is proved to meet its contract. This
 //! crate declares its functions ([`ffi`]), calls them on slices ([`lent`]), and turns their
@@ -6,6 +7,7 @@
 //! declarations against the library; `bench/versus` compares what comes back with an independent
 //! reader.
 
+pub mod codepage;
 pub mod ffi;
 pub mod lent;
 mod look;

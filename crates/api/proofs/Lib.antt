@@ -1,3 +1,4 @@
+mod Convert
 mod Names
 mod Read
 mod Rewrite

@@ -1,2 +1,3 @@
 -- The laws of the functions for other languages.
 pub mod Theorems
+pub mod Encodings

@@ -1,3 +1,4 @@
 pub mod Api
 pub mod Values
+pub mod Encodings
 pub mod Laws

@@ -6,8 +6,9 @@ use std::hint::black_box;
 
 use digarumbi::lent::{
     self, CELL_AREA, CELL_RECORD, LONGEST_LOOK, LOOK_ANSWER, MEMBER_ANSWER, NODE_AREA, NODE_RECORD,
-    REWRITE_ANSWER, VALUE_WORDS,
+    REWRITE_ANSWER, TEXT_ANSWER, VALUE_WORDS,
 };
+use digarumbi_bench::codepages::{from_utf8, to_utf8};
 use digarumbi_bench::contents::contents;
 use digarumbi_bench::generate::look_bytes;
 use digarumbi_bench::limits::MEMBER_BYTES;
@@ -19,6 +20,7 @@ use digarumbi_versus::large::{
     member_with_large_indexes, member_with_nested_categories, shuffled,
 };
 use digarumbi_versus::stored;
+use digarumbi_versus::texts::{entries, in_utf8, mixed, russian};
 use digarumbi_versus::timing::{measure, Times};
 
 const SIZES_IN_BYTES: [usize; 5] = [65_536, 131_072, 262_144, 524_288, MEMBER_BYTES];
@@ -32,6 +34,7 @@ fn main() {
     growth_with_cells();
     values();
     looks();
+    texts();
 }
 
 fn conditions() -> String {
@@ -245,6 +248,74 @@ fn looks() {
         row(&format!("{name}, read | {}", file.len()), file.len(), look_times(file));
         row(&format!("{name}, rewritten | {}", file.len()), file.len(), rewrite_times(file));
     }
+}
+
+const TEXT_BYTES: usize = 65_536;
+
+fn texts() {
+    println!("\n### Text in old code pages\n");
+    println!(
+        "| text | bytes | Rattle, µs | Rust, µs | Rattle, MB/s | Rust, MB/s | Rattle : Rust |"
+    );
+    println!("|---|---:|---:|---:|---:|---:|---:|");
+    let mut random = Random::new(1);
+    let last = entries(1250, 0xe0);
+    for (name, page, text) in [
+        ("ASCII", 1252, mixed(TEXT_BYTES, u64::MAX, b" ", &mut random)),
+        ("one byte in 64 not ASCII", 1250, mixed(TEXT_BYTES, 64, &last, &mut random)),
+        ("one byte in 8 not ASCII", 1250, mixed(TEXT_BYTES, 8, &last, &mut random)),
+        ("Russian", 1251, russian(TEXT_BYTES, &mut random)),
+        ("the last entries of windows-1250", 1250, mixed(TEXT_BYTES, 1, &last, &mut random)),
+        ("a Russian name of 20 bytes", 1251, russian(20, &mut random)),
+        ("a Polish name of 20 bytes", 1250, mixed(20, 6, &last, &mut random)),
+    ] {
+        let utf8 = in_utf8(page, &text);
+        let (length, times) = (text.len(), to_utf8_times(page, &text));
+        row(&format!("{name}, to UTF-8 | {length}"), length, times);
+        let (length, times) = (utf8.len(), from_utf8_times(page, &utf8));
+        row(&format!("{name}, from UTF-8 | {length}"), length, times);
+    }
+    let text = mixed(TEXT_BYTES, u64::MAX, b" ", &mut random);
+    row(&format!("ASCII to UTF-8; as Rust a copy | {TEXT_BYTES}"), TEXT_BYTES, copy_times(&text));
+}
+
+/// Times with an output that always suffices.
+fn to_utf8_times(page: u32, text: &[u8]) -> Times {
+    measure(
+        &mut (vec![0; 3 * text.len()], vec![0; TEXT_ANSWER]),
+        |(out, answer)| {
+            black_box(lent::to_utf8(page, black_box(text), out, answer));
+        },
+        |(out, _)| {
+            let _ = black_box(to_utf8(page, black_box(text), out));
+        },
+    )
+}
+
+fn from_utf8_times(page: u32, text: &[u8]) -> Times {
+    measure(
+        &mut (vec![0; text.len()], vec![0; TEXT_ANSWER]),
+        |(out, answer)| {
+            black_box(lent::from_utf8(page, black_box(text), out, answer));
+        },
+        |(out, _)| {
+            let _ = black_box(from_utf8(page, black_box(text), out));
+        },
+    )
+}
+
+/// The library's time beside that of copying the bytes.
+fn copy_times(text: &[u8]) -> Times {
+    measure(
+        &mut (vec![0; text.len()], vec![0; TEXT_ANSWER]),
+        |(out, answer)| {
+            black_box(lent::to_utf8(1252, black_box(text), out, answer));
+        },
+        |(out, _)| {
+            out.copy_from_slice(black_box(text));
+            black_box(out);
+        },
+    )
 }
 
 fn look_times(file: &[u8]) -> Times {

@@ -1,5 +1,5 @@
-//! Reads many members and looks by the proved library and by the independent readers, and compares
-//! everything that both answer and store. Stops at the first difference and prints the input.
+//! Reads many members and looks and converts many texts by the proved library and by the independent
+//! readers, and compares everything that both answer and store. Stops at the first difference and prints the input.
 //!
 //! Usage: differential [SEED]; the same seed gives the same inputs.
 
@@ -21,6 +21,7 @@ use digarumbi_versus::look_check::LookCheck;
 use digarumbi_versus::member_check::MemberCheck;
 use digarumbi_versus::repeats::{members_with_repeats, CUT_BYTES};
 use digarumbi_versus::stored;
+use digarumbi_versus::text_check;
 use digarumbi_versus::unit_check;
 use digarumbi_versus::value_check::{check_numbers, ValueCheck};
 
@@ -42,6 +43,7 @@ const VALUE_NUMBERS: [u32; 9] = [0, 1, 2, 3, 4, 5, 6, 7, 18];
 /// Version 1 is without the modifiers in which 6 can be given.
 const VALUE_NUMBERS_VERSION_1: [u32; 8] = [0, 1, 2, 3, 4, 5, 7, 18];
 const LOOK_NUMBERS: [u32; 8] = [2, 3, 4, 5, 7, 11, 14, 15];
+const TEXT_NUMBERS: [u32; 4] = [0, 15, 24, 25];
 
 fn main() -> ExitCode {
     let seed = env::args().nth(1).map_or(Ok(1), |seed| seed.parse());
@@ -74,6 +76,9 @@ fn run(seed: u64) -> Result<(), Difference> {
     println!("{} looks: {}", looks.looks.total(), looks.looks);
     println!("{} rewritings of them: {}", looks.rewritten.total(), looks.rewritten);
     println!("{} numbers as points, pixels and font sizes", unit_check::check(seed)?);
+    let texts = text_check::check(seed)?;
+    println!("{} texts to UTF-8: {}", texts.to.total(), texts.to);
+    println!("{} texts from UTF-8: {}", texts.from.total(), texts.from);
     members.readings.all_seen(&MEMBER_NUMBERS)?;
     members.version_1.all_seen(&VERSION_1_NUMBERS)?;
     members.values.all_forms_seen()?;
@@ -82,6 +87,8 @@ fn run(seed: u64) -> Result<(), Difference> {
     values.arguments.all_seen(&VALUE_NUMBERS)?;
     values.all_forms_seen()?;
     looks.rewritten.all_seen(&LOOK_NUMBERS)?;
+    texts.to.all_seen(&TEXT_NUMBERS)?;
+    texts.from.all_seen(&TEXT_NUMBERS)?;
     println!("no difference");
     Ok(())
 }

@@ -1,0 +1,266 @@
+-- What the code answers on each of its branches, in the specification's terms.
+use mathlib.Core.Path.{_≡_, refl, sym, ap, _∙_}
+use mathlib.Core.Bool.{Bool, true, false}
+use mathlib.Core.List.{List, [], _∷_, _++_}
+use mathlib.Core.Logic.{⊎-elim}
+use Prim.Native.Nat.{ℕ, suc, _+_, _-_, _*_, _/_, _%_, _≤_, _<_}
+use native.Mathlib.Numerals.{add-one}
+use native.Mathlib.Omega.{arith}
+use lib.Dec.{ltb}
+use lib.ListN.{length, getD, take, drop, set, length-drop, List·getD-eq-default}
+use lib.Seq.{getD-take, getD-drop, sets, length-take-le}
+use borrow.Author.Tests.{lt-ltb, le-ltb, ne-eqb}
+use Rattle.layout.specs.Layout.{pick}
+use Rattle.codepages.specs.Table.{entries}
+use Rattle.codepages.specs.Pages.{page-count, page-entries, ascii, no-code-point, no-byte, page, listed, code-point, byte}
+use Rattle.codepages.specs.Utf8.{two-bytes, three-bytes, four-bytes, surrogates, after-surrogates, scalar, encode, continuation, shortest, row-two, row-three, row, decode}
+use Rattle.codepages.specs.Convert.{Step, invalid, converts, to, from, way}
+use Rattle.codepages.specs.Laws.Pages.{side, point-low, point-high, point-byte, byte-low, byte-below, byte-none}
+use Rattle.codepages.specs.Laws.Utf8.{encode-one, encode-two, encode-three, encode-four, encode-length, row-one-is, row-two-is, row-three-is, decoded-by, Decoded, from-one, from-two, from-three, from-four, encode-decode}
+use Rattle.codepages.specs.Laws.Steps.{to-converts, to-invalid, from-converts, from-invalid}
+use Rattle.codepages.specs.Laws.Passes.{half, Ascii, ascii-one, ascii-more, passes-ascii, Passes, passes-one, Skips, skips, Found, found-none, found-some, Ready, not-refused, fits, Wrote, wrote}
+
+pub past : (u : List ℕ) (i : ℕ) → length u ≤ i → 0 ≡ getD u i 0
+past u i h = sym (List·getD-eq-default u 0 {n = i} h)
+
+-- ---- a page
+
+entry-page : (k j e : ℕ) → j < page-entries → e ≡ getD entries (page-entries * k + j) 0 → getD (page k) j 0 ≡ e
+unfolding page
+entry-page k j e h q = getD-take page-entries (drop (page-entries * k) entries) j 0 h ∙ getD-drop (page-entries * k) entries j 0 ∙ sym q
+
+pub point-none : (k b e : ℕ) → ascii ≤ b → b < no-byte → e ≡ getD entries (page-entries * k + (b - ascii)) 0 → e ≡ 0 → no-code-point ≡ code-point k b
+unfolding listed pick
+point-none k b e l h q z = sym (point-high k b l ∙ rw (entry-page k (b - ascii) e (omega arith) q, z))
+
+pub point-entry : (k b e : ℕ) → ascii ≤ b → b < no-byte → e ≡ getD entries (page-entries * k + (b - ascii)) 0 → (e ≡ 0 → ⊥) → e ≡ code-point k b
+unfolding listed pick
+point-entry k b e l h q z = sym (point-high k b l ∙ rw (entry-page k (b - ascii) e (omega arith) q, ne-eqb e 0 z))
+
+-- ---- UTF-8
+
+pub continuation-low : (x : ℕ) → x < 128 → false ≡ continuation x
+unfolding continuation pick
+continuation-low x h = rw (lt-ltb x 128 h)
+
+pub continuation-high : (x : ℕ) → 128 ≤ x → ltb x 192 ≡ continuation x
+unfolding continuation pick
+continuation-high x h = rw (le-ltb x 128 h)
+
+pub scalar-low : (c : ℕ) → c < surrogates → true ≡ scalar c
+unfolding scalar pick
+scalar-low c h = rw (lt-ltb c surrogates h)
+
+pub scalar-surrogate : (c : ℕ) → surrogates ≤ c → c < after-surrogates → false ≡ scalar c
+unfolding scalar pick
+scalar-surrogate c l h = rw (le-ltb c surrogates l, lt-ltb c after-surrogates h)
+
+pub scalar-high : (c : ℕ) → after-surrogates ≤ c → ltb c no-code-point ≡ scalar c
+unfolding scalar pick
+scalar-high c l = let k : surrogates ≤ c = omega arith in rw (le-ltb c surrogates k, le-ltb c after-surrogates l)
+
+pub shortest-below : (least c : ℕ) → c < least → no-code-point ≡ shortest least c
+unfolding shortest pick
+shortest-below least c h = rw (lt-ltb c least h)
+
+pub shortest-value : (least c : ℕ) (t : Bool) → least ≤ c → t ≡ scalar c → t ≡ true → c ≡ shortest least c
+unfolding shortest pick
+shortest-value least c t h q e = let s : scalar c ≡ true = sym q ∙ e in rw (le-ltb c least h, s)
+
+pub shortest-other : (least c : ℕ) (t : Bool) → least ≤ c → t ≡ scalar c → t ≡ false → no-code-point ≡ shortest least c
+unfolding shortest pick
+shortest-other least c t h q e = let s : scalar c ≡ false = sym q ∙ e in rw (le-ltb c least h, s)
+
+module _ (a b x y r : ℕ) (ea : x ≡ a - 192) (eb : y ≡ b - 128) (t : Bool) (q : t ≡ continuation b) where
+  pub two-good : t ≡ true → r ≡ shortest two-bytes (x * 64 + y) → r ≡ row-two a b
+  unfolding row-two pick
+  two-good e z = let s : continuation b ≡ true = sym q ∙ e in rw (s, ← ea, ← eb) z
+
+pub two-bad : (a b : ℕ) (t : Bool) → t ≡ continuation b → t ≡ false → no-code-point ≡ row-two a b
+unfolding row-two pick
+two-bad a b t q e = let s : continuation b ≡ false = sym q ∙ e in rw s
+
+module _ (a b d : ℕ) (t s : Bool) (q : t ≡ continuation b) (e : t ≡ true) (q′ : s ≡ continuation d) where
+  pub three-good : (x y z r : ℕ) → x ≡ a - 224 → y ≡ b - 128 → z ≡ d - 128 → s ≡ true → r ≡ shortest three-bytes (x * 4096 + y * 64 + z) → r ≡ row-three a b d
+  unfolding row-three pick
+  three-good x y z r ea eb ed e′ i =
+      let p : continuation b ≡ true = sym q ∙ e in
+      let p′ : continuation d ≡ true = sym q′ ∙ e′ in
+      rw (p, p′, ← ea, ← eb, ← ed) i
+
+  pub three-bad : s ≡ false → no-code-point ≡ row-three a b d
+  unfolding row-three pick
+  three-bad e′ =
+      let p : continuation b ≡ true = sym q ∙ e in
+      let p′ : continuation d ≡ false = sym q′ ∙ e′ in
+      rw (p, p′)
+
+pub three-worse : (a b d : ℕ) (t : Bool) → t ≡ continuation b → t ≡ false → no-code-point ≡ row-three a b d
+unfolding row-three pick
+three-worse a b d t q e = let p : continuation b ≡ false = sym q ∙ e in rw p
+
+pub size-one : (c : ℕ) → c < two-bytes → 1 ≡ length (encode c)
+size-one c h = rw (encode-one c h)
+
+pub size-two : (c : ℕ) → two-bytes ≤ c → c < three-bytes → 2 ≡ length (encode c)
+size-two c l h = rw (encode-two c l h)
+
+pub size-three : (c : ℕ) → three-bytes ≤ c → c < four-bytes → 3 ≡ length (encode c)
+size-three c l h = rw (encode-three c l h)
+
+pub size-four : (c : ℕ) → four-bytes ≤ c → 4 ≡ length (encode c)
+size-four c l = rw (encode-four c l)
+
+-- by the first byte
+unfoldable pub leadSize : ℕ → ℕ
+leadSize a = pick (ltb a 128) 1 (pick (ltb a 224) 2 3)
+
+pub lead-one : (a : ℕ) → a < 128 → 1 ≡ leadSize a
+unfolding leadSize pick
+lead-one a h = rw (lt-ltb a 128 h)
+
+pub lead-two : (a : ℕ) → 128 ≤ a → a < 224 → 2 ≡ leadSize a
+unfolding leadSize pick
+lead-two a l h = rw (le-ltb a 128 l, lt-ltb a 224 h)
+
+pub lead-three : (a : ℕ) → 224 ≤ a → 3 ≡ leadSize a
+unfolding leadSize pick
+lead-three a l = let k : 128 ≤ a = omega arith in rw (le-ltb a 128 k, le-ltb a 224 l)
+
+-- ---- a character is stored
+
+pub put-one : (o : List ℕ) (w c : ℕ) → c < two-bytes → (set o w c ≡ sets o w (encode c)) × (1 ≡ length (encode c))
+put-one o w c h = rw (encode-one c h) (refl, refl)
+
+pub put-two : (o : List ℕ) (w c : ℕ) → two-bytes ≤ c → c < three-bytes → (set (set o w (192 + c / 64)) (w + 1) (128 + c % 64) ≡ sets o w (encode c)) × (2 ≡ length (encode c))
+put-two o w c l h = rw (encode-two c l h, add-one w) (refl, refl)
+
+pub put-three : (o : List ℕ) (w c : ℕ) → three-bytes ≤ c → c < four-bytes
+    → (set (set (set o w (224 + c / 4096)) (w + 1) (128 + c / 64 % 64)) (w + 2) (128 + c % 64) ≡ sets o w (encode c)) × (3 ≡ length (encode c))
+put-three o w c l h = let e : w + 2 ≡ suc (suc w) = omega arith in rw (encode-three c l h, add-one w, e) (refl, refl)
+
+-- ---- the character at a place
+
+getD-front : (u : List ℕ) (i : ℕ) → getD (drop i u) 0 0 ≡ getD u i 0
+getD-front u i = let e : i + 0 ≡ i = omega arith in rw e at (getD-drop i u 0 0)
+
+module _ (k : ℕ) (u : List ℕ) (i a : ℕ) (ea : a ≡ getD u i 0) where
+  lead : getD (drop i u) 0 0 ≡ a
+  lead = getD-front u i ∙ sym ea
+
+  pub decode-one : a < 128 → a ≡ byte k (decode (drop i u))
+  unfolding decode
+  decode-one h =
+      let e : decode (drop i u) ≡ a = rw lead (row-one-is a _ _ _ h) in
+      rw e (sym (byte-low k a h))
+
+  pub decode-two : (b r : ℕ) → 128 ≤ a → a < 224 → b ≡ getD u (i + 1) 0 → r ≡ row-two a b → r ≡ decode (drop i u)
+  unfolding decode
+  decode-two b r l h eb q = q ∙ sym (rw (lead, getD-drop i u 1 0, ← eb) (row-two-is a b _ _ l h))
+
+  pub decode-three : (b d r : ℕ) → 224 ≤ a → a < 240 → b ≡ getD u (i + 1) 0 → d ≡ getD u (i + 2) 0 → r ≡ row-three a b d → r ≡ decode (drop i u)
+  unfolding decode
+  decode-three b d r l h eb ed q = q ∙ sym (rw (lead, getD-drop i u 1 0, getD-drop i u 2 0, ← eb, ← ed) (row-three-is a b d _ l h))
+
+  -- a character of four bytes stands in no page
+  pub decode-four : k < page-count → 240 ≤ a → no-byte ≡ byte k (decode (drop i u))
+  unfolding decode
+  decode-four hk h = sym (⊎-elim value (λ (l : no-code-point ≤ decode (drop i u)). byte-none k (decode (drop i u)) hk (omega arith)) (side (decode (drop i u)) no-code-point))
+    where
+      by : (c : ℕ) → Decoded (getD (drop i u) 0 0) (getD (drop i u) 1 0) (getD (drop i u) 2 0) (getD (drop i u) 3 0) c → byte k c ≡ no-byte
+      by c (from-one l e) = absurd (omega (arith, lead))
+      by c (from-two l _ _ _) = absurd (omega (arith, lead))
+      by c (from-three _ l _ _ _ _ _) = absurd (omega (arith, lead))
+      by c (from-four _ _ _ _ _ _ _ s) = byte-none k c hk (omega (arith, s .above))
+
+      value : decode (drop i u) < no-code-point → byte k (decode (drop i u)) ≡ no-byte
+      value l = by (decode (drop i u)) (decoded-by (getD (drop i u) 0 0) (getD (drop i u) 1 0) (getD (drop i u) 2 0) (getD (drop i u) 3 0) (decode (drop i u)) l refl)
+
+  -- a character of a page has as many bytes as its first one says
+  pub lead-size : k < page-count → byte k (decode (drop i u)) < no-byte → leadSize a ≡ length (encode (decode (drop i u)))
+  unfolding decode
+  lead-size hk h =
+      let below = byte-below k (byte k (decode (drop i u))) (decode (drop i u)) hk refl h in
+      by (decode (drop i u)) below (decoded-by (getD (drop i u) 0 0) (getD (drop i u) 1 0) (getD (drop i u) 2 0) (getD (drop i u) 3 0) (decode (drop i u)) (omega arith) refl)
+    where
+      by : (c : ℕ) → c < surrogates → Decoded (getD (drop i u) 0 0) (getD (drop i u) 1 0) (getD (drop i u) 2 0) (getD (drop i u) 3 0) c → leadSize a ≡ length (encode c)
+      by c b (from-one l e) = sym (lead-one a (omega (arith, lead))) ∙ size-one c (omega (arith, lead))
+      by c b (from-two l lb hb s) = sym (lead-two a (omega (arith, lead, s .is, s .above)) (omega (arith, lead))) ∙ size-two c (s .above) (omega (arith, s .is))
+      by c b (from-three l h _ _ _ _ s) = sym (lead-three a (omega (arith, lead))) ∙ size-three c (s .above) (omega arith)
+      by c b (from-four _ _ _ _ _ _ _ s) = absurd (omega (arith, s .above))
+
+-- ---- what is found at a place
+
+pub way-from : (back : Bool) (k : ℕ) → back ≡ true → way back k ≡ from k
+unfolding way
+way-from back k e = rw e
+
+pub way-to : (back : Bool) (k : ℕ) → back ≡ false → way back k ≡ to k
+unfolding way
+way-to back k e = rw e
+
+-- a run of bytes under 128, from i to r
+module _ (back : Bool) (k : ℕ) (u : List ℕ) (i r : ℕ) (a : getD u i 0 < ascii) (l : i + 1 ≤ r) (m : r ≤ length u) (run : Ascii u (i + 1) (r - (i + 1))) where
+  whole-run : Ascii u i (r - i)
+  whole-run = let z : r - i ≡ 1 + (r - (i + 1)) = omega arith in rw z (ascii-more u i 1 (r - (i + 1)) (ascii-one u i a) run)
+
+  run-passes : Passes (way back k) u i (r - i) (take (r - i) (drop i u))
+  run-passes = passes-ascii back k u i (r - i) (omega arith) whole-run
+
+  run-length : length (take (r - i) (drop i u)) ≡ r - i
+  run-length = length-take-le (r - i) (drop i u) (omega (arith, length-drop i u))
+
+  pub run-found : length u < half → Found (way back k) u i (r - i) (r - i)
+  run-found h = found-some (omega arith) (rw run-length at (skips run-passes)) (omega arith)
+
+  pub run-fits : {o : List ℕ} {w : ℕ} → Ready (way back k) u i o w → w + (r - i) ≤ length o
+  run-fits t = rw run-length at (fits t run-passes)
+
+  pub run-wrote : {o : List ℕ} {w : ℕ} {o′ : List ℕ} → o′ ≡ sets o w (take (r - i) (drop i u)) → Wrote (way back k) u i o w (r - i) (r - i) o′
+  run-wrote {o} {w} {o′} e = rw run-length at (wrote {o = o} {w = w} {o′ = o′} run-passes (omega arith) e)
+
+-- to UTF-8
+module _ (k : ℕ) (u : List ℕ) (i c : ℕ) (e : c ≡ code-point k (getD u i 0)) where
+  pub to-at : c < no-code-point → i < length u → Passes (to k) u i 1 (encode c)
+  to-at h l = passes-one 0 (encode c) (to-converts k (drop i u) c (rw (getD-front u i) (sym e)) h) (omega arith)
+
+  pub to-none : no-code-point ≤ c → to k (drop i u) ≡ invalid
+  to-none h = to-invalid k (drop i u) c (rw (getD-front u i) (sym e)) h
+
+  pub to-found : c < no-code-point → i < length u → (n : ℕ) → n ≡ length (encode c) → Found (to k) u i 1 n
+  to-found h l n q = rw q (found-some (omega arith) (skips (to-at h l)) (omega (arith, encode-length c)))
+
+  -- a code point of a page has at most three bytes
+  pub to-ready : {o : List ℕ} {w : ℕ} → k < page-count → i < length u → Ready (to k) u i o w → (c < four-bytes) × Passes (to k) u i 1 (encode c)
+  to-ready hk l t = ⊎-elim good (λ (m : no-code-point ≤ c). absurd (not-refused t l (to-none m))) (side c no-code-point)
+    where
+      good : c < no-code-point → (c < four-bytes) × Passes (to k) u i 1 (encode c)
+      good m = (omega (arith, point-byte k (getD u i 0) c hk (sym e) m .below), to-at m l)
+
+-- and back
+module _ (k : ℕ) (u : List ℕ) (i b s : ℕ) (hk : k < page-count) (l : i < length u) (e : b ≡ byte k (decode (drop i u))) (size : s ≡ leadSize (getD u i 0)) where
+  size-of : b < no-byte → s ≡ length (encode (decode (drop i u)))
+  size-of h = size ∙ lead-size k u i (getD u i 0) refl hk (rw (← e) h)
+
+  pub from-at : b < no-byte → Passes (from k) u i s (b ∷ [])
+  from-at h =
+      let c = decode (drop i u) in
+      let q = size-of h in
+      let below = byte-below k b c hk (sym e) h in
+      let d = length-drop i u in
+      let t = encode-decode (drop i u) c (omega (arith, d)) refl (omega (arith, below)) in
+      let z : suc (s - 1) ≡ s = omega (arith, q, encode-length c .0) in
+      let step : from k (drop i u) ≡ converts (s - 1) (b ∷ []) = rw q (from-converts k (drop i u) c b refl (sym e) h) in
+      rw z at (passes-one {f = from k} {u = u} {i = i} (s - 1) (b ∷ []) step (omega (arith, z, q, t .inside, d)))
+
+  pub from-some : b < no-byte → 0 < s
+  from-some h = omega (arith, size-of h, encode-length (decode (drop i u)) .0)
+
+  pub from-none : no-byte ≤ b → from k (drop i u) ≡ invalid
+  from-none h = from-invalid k (drop i u) (decode (drop i u)) b refl (sym e) h
+
+  pub from-found : b < no-byte → Found (from k) u i s 1
+  from-found h = found-some (from-some h) (skips (from-at h)) (omega arith)
+
+  pub from-ready : {o : List ℕ} {w : ℕ} → Ready (from k) u i o w → b < no-byte
+  from-ready t = ⊎-elim (λ (h : b < no-byte). h) (λ (h : no-byte ≤ b). absurd (not-refused t l (from-none h))) (side b no-byte)
