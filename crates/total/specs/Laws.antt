@@ -2,3 +2,4 @@
 pub mod Sums
 pub mod Words
 pub mod MemberCells
+pub mod Leaves
