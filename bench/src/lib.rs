@@ -2,6 +2,7 @@
 //! looks, with generators of inputs for them.
 
 pub mod axes;
+pub mod cases;
 pub mod cells;
 pub mod cursor;
 pub mod damage;
