@@ -2,12 +2,12 @@
 use mathlib.Core.Path.{_≡_}
 use mathlib.Core.Bool.{Bool, true, false}
 use mathlib.Core.List.{List, [], _∷_, _++_}
-use Prim.Native.Nat.{ℕ, zero, suc, _+_, _-_, _*_, _/_, _^_, _≤_, _<_}
-use lib.Dec.{ltb}
+use Prim.Native.Nat.{ℕ, zero, suc, _+_, _-_, _*_, _/_, _%_, _^_, _≤_, _<_}
+use lib.Dec.{eqb, leb, ltb}
 use lib.ListN.{length, drop, getD}
 use lib.Seq.{sets}
 use Rattle.layout.specs.Layout.{le, pick}
-use Rattle.case_stream.specs.Stream.{Element, Says, skip, finish, block, wrong, gives}
+use Rattle.case_stream.specs.Stream.{Element, limit, block-code, Says, skip, finish, block, wrong, gives}
 use Rattle.case_stream.specs.Machine.{fits, less, Step, halts, goes, moves, out, put, feed}
 use Rattle.case_stream.specs.Laws.Steps.{μ}
 use Rattle.cases.specs.declared.Cursor.{Cursor}
@@ -79,6 +79,18 @@ pub record Strides (kind count bias : ℕ) (c : Cursor) (s : List ℕ) (m : Move
   pub leads : m .goes ≡ true → (kinds : List ℕ) → length kinds ≡ count → getD kinds (c .at) 0 ≡ kind
       → (r : ℕ) → feed kinds bias (view c) s (fits (suc r)) ≡ put (wrote m) (feed kinds bias (view (m .cursor)) (drop (m .takes) s) (less (fits (suc r)) (wrote m)))
   pub falls : m .goes ≡ true → (kinds : List ℕ) → length kinds ≡ count → getD kinds (c .at) 0 ≡ kind → μ (view (m .cursor)) (drop (m .takes) s) < μ (view c) s
+
+-- eight bytes of a list from a place on
+unfoldable pub eight-at : List ℕ → ℕ → List ℕ
+eight-at s i = getD s i 0 ∷ getD s (i + 1) 0 ∷ getD s (i + 2) 0 ∷ getD s (i + 3) 0 ∷ getD s (i + 4) 0 ∷ getD s (i + 5) 0 ∷ getD s (i + 6) 0 ∷ getD s (i + 7) 0 ∷ []
+
+-- whether a group or a block begins here
+unfoldable pub begins : Cursor → Bool
+begins c = pick (eqb (c .phase) 0) (eqb (c .left) 0) (pick (eqb (c .phase) 1) (pick (eqb (c .codes % 256) block-code) (eqb (c .filled) 0) false) false)
+
+-- whether its eight bytes are among those that are there
+unfoldable pub whole : Cursor → ℕ → Bool
+whole c rest = pick (leb 8 rest) (pick (leb (c .taken) (limit - 8)) (begins c) false) false
 
 -- ---- 3. a call
 

@@ -2,27 +2,12 @@
 ghost use mathlib.Core.Path.{_≡_};
 ghost use Prim.Native.Nat.{_+_, _*_, _/_, _≤_, _<_};
 ghost use lib.ListN.{length};
-ghost use lib.Seq.{sets};
-ghost use Rattle.layout.specs.Layout.{le};
 ghost use Rattle.cases.specs.Cursor.{Good};
 ghost use Rattle.cases.specs.Steps as spec;
 use crate::Cursor;
 use crate::Fed;
+use crate::bytes::put;
 use crate::steps::stride;
-
-// Eight bytes, the lowest first.
-fn put(output: &mut [u8], at: usize, x: u64)
-    requires { ⌜ at + 8 ≤ length (now output) ⌝ }
-    ensures { λ _. ⌜ now (output .exit) ≡ sets (now (output .entry)) at (le 8 x) ⌝ }
-{
-    let mut v = x;
-    let mut i: usize = 0;
-    while i < 8 {
-        output[at + i] = (v % 256) as u8;
-        v = v / 256;
-        i += 1;
-    }
-}
 
 // An element is written, if there is one; how many there are then.
 fn emit(output: &mut [u8], w: usize, writes: bool, x: u64) -> usize

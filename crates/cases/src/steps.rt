@@ -17,6 +17,8 @@ use crate::LIMIT;
 use crate::Moved;
 use crate::TOO_MANY;
 use crate::Verdict;
+use crate::bytes::byte_at;
+use crate::bytes::eight_bytes;
 use crate::codes::judge;
 use crate::cursors::acting;
 use crate::cursors::blocked;
@@ -25,9 +27,7 @@ use crate::cursors::gathered;
 use crate::cursors::passed;
 use crate::cursors::power;
 use crate::cursors::stopped;
-use layout::Step;
 use layout::number::left;
-use layout::number::peek;
 
 // No step.
 fn halting(c: Cursor) -> Moved
@@ -146,13 +146,6 @@ fn advance(kind: u8, count: usize, bias: u8, c: Cursor, more: bool, b: u8) -> Mo
     halting(c)
 }
 
-// A byte of the input; 0 where there is none.
-fn byte_at(input: &[u8], i: usize) -> u8
-    ensures { λ r. ⌜ r ≡ getD (now (input .entry)) i 0 ⌝ }
-{
-    if i < input.len() { input[i] } else { 0 }
-}
-
 // One step, with the input from i on.
 fn single(kind: u8, count: usize, bias: u8, c: Cursor, input: &[u8], i: usize) -> Moved
     requires { ⌜ Good count c ⌝ }
@@ -163,47 +156,62 @@ fn single(kind: u8, count: usize, bias: u8, c: Cursor, input: &[u8], i: usize) -
     advance(kind, count, bias, c, more, b)
 }
 
-// The eight bytes of a group or a block at once, where a group or a block begins: the same as eight steps.
-fn eight(kind: u8, count: usize, bias: u8, c: Cursor, input: &[u8], i: usize) -> Moved
-    requires { ⌜ Good count c × (8 ≤ length (now input) - i) × (c .taken + 8 ≤ stream.limit) ⌝ }
-    ensures { λ r. ⌜ spec.Strides kind count bias c (drop i (now (input .entry))) r ⌝ }
+// Whether a group or a block begins here.
+fn begins(c: Cursor) -> bool
+    ensures { λ r. ⌜ r ≡ spec.begins c ⌝ }
 {
     let gathers = c.phase == GATHERS;
     if gathers {
-        let is_empty = c.left == 0;
-        if is_empty {
-            let codes = peek(input, Step::Next(i), false, 8);
-            return silent(acting(c.at, c.taken + 8, c.taken, codes, 8), 8);
-        }
-        return single(kind, count, bias, c, input, i);
+        return c.left == 0;
     }
     let acts = c.phase == ACTS;
     if acts {
-        let code = (c.codes % 256) as u8;
-        let is_block = code == BLOCK;
+        let is_block = c.codes % 256 == BLOCK as u64;
         if is_block {
-            let is_empty = c.filled == 0;
-            if is_empty {
-                let block = peek(input, Step::Next(i), false, 8);
-                let at = following(c.at, count);
-                return writing(passed(c, at, c.taken + 8), 8, block);
-            }
+            return c.filled == 0;
         }
     }
-    single(kind, count, bias, c, input, i)
+    false
 }
 
-// A step, or eight at once.
+// Whether its eight bytes are there, and none of them is one too many.
+fn whole(c: Cursor, rest: usize) -> bool
+    ensures { λ r. ⌜ r ≡ spec.whole c rest ⌝ }
+{
+    let there = 8 <= rest;
+    if there {
+        let early = c.taken <= LIMIT - 8;
+        if early {
+            return begins(c);
+        }
+    }
+    false
+}
+
+// The eight bytes of a group or a block at once: the same as eight steps.
+fn eight(kind: u8, count: usize, bias: u8, c: Cursor, input: &[u8], i: usize) -> Moved
+    requires { ⌜ Good count c × (spec.whole c (length (now input) - i) ≡ true) ⌝ }
+    ensures { λ r. ⌜ spec.Strides kind count bias c (drop i (now (input .entry))) r ⌝ }
+{
+    let x = eight_bytes(input, i);
+    let gathers = c.phase == GATHERS;
+    if gathers {
+        silent(acting(c.at, c.taken + 8, c.taken, x, 8), 8)
+    } else {
+        let at = following(c.at, count);
+        writing(passed(c, at, c.taken + 8), 8, x)
+    }
+}
+
+// A step, or eight at once. (Each of the two is called here alone, so that the compiler puts it into the loop.)
 pub fn stride(kind: u8, count: usize, bias: u8, c: Cursor, input: &[u8], i: usize) -> Moved
     requires { ⌜ Good count c ⌝ }
     ensures { λ r. ⌜ spec.Strides kind count bias c (drop i (now (input .entry))) r ⌝ }
 {
-    let there = 8 <= left(input, i);
-    if there {
-        let early = c.taken <= LIMIT - 8;
-        if early {
-            return eight(kind, count, bias, c, input, i);
-        }
+    let all = whole(c, left(input, i));
+    if all {
+        eight(kind, count, bias, c, input, i)
+    } else {
+        single(kind, count, bias, c, input, i)
     }
-    single(kind, count, bias, c, input, i)
 }

@@ -37,15 +37,15 @@ kindsOf ws = narrowed (firsts 256 (drop first-kind ws))
 
 unfoldable pub cursorOf : List ℕ → Cursor
 cursorOf ws = record {
-    at = getD ws 2 0;
-    taken = getD ws 3 0;
-    phase = getD ws 4 0;
-    place = getD ws 5 0;
-    codes = joint (getD ws 6 0) (getD ws 7 0);
-    left = getD ws 8 0;
-    block = joint (getD ws 9 0) (getD ws 10 0);
-    filled = getD ws 11 0
-  }
+  at = getD ws 2 0;
+  taken = getD ws 3 0;
+  phase = getD ws 4 0;
+  place = getD ws 5 0;
+  codes = joint (getD ws 6 0) (getD ws 7 0);
+  left = getD ws 8 0;
+  block = joint (getD ws 9 0) (getD ws 10 0);
+  filled = getD ws 11 0;
+}
 
 unfoldable pub stateOf : List ℕ → State
 stateOf ws = record { kinds = kindsOf ws; count = getD ws 0 0; bias = getD ws 1 0; cursor = cursorOf ws }

@@ -28,7 +28,11 @@ pub const CALL_ANSWER: usize = 4;
 fn roomy(state: usize, answer: usize, n: usize) -> bool
     ensures { λ r. ⌜ r ≡ spec.roomy state answer n ⌝ }
 {
-    if STATE_WORDS <= state { n <= answer } else { false }
+    if STATE_WORDS <= state {
+        n <= answer
+    } else {
+        false
+    }
 }
 
 // Starts a stream: see `digarumbi_cases_start` of `api`.
@@ -49,12 +53,7 @@ pub fn start_words(kinds: &[u8], bias: u32, state: &mut [u32], answer: &mut [u32
 }
 
 // A call: see `digarumbi_cases_feed` of `api`.
-pub fn feed_words(
-    state: &mut [u32],
-    input: &[u8],
-    output: &mut [u8],
-    answer: &mut [u32],
-) -> usize
+pub fn feed_words(state: &mut [u32], input: &[u8], output: &mut [u8], answer: &mut [u32]) -> usize
     ensures { λ n. ⌜ spec.Fed (now (state .entry)) (now (input .entry)) (now (output .entry)) (now (answer .entry)) n (now (state .exit)) (now (output .exit)) (now (answer .exit)) ⌝ }
 {
     let fits = roomy(state.len(), answer.len(), CALL_ANSWER);

@@ -2,15 +2,13 @@
 use mathlib.Core.Path.{_≡_, refl, sym, ap, _∙_}
 use mathlib.Core.Bool.{Bool, true, false}
 use mathlib.Core.List.{List, [], _∷_, _++_}
-use Prim.Native.Nat.{ℕ, zero, suc, _+_, _-_, _*_, _/_, _%_, _^_, _≤_, _<_, min}
+use Prim.Native.Nat.{ℕ, zero, suc, _+_, _-_, _*_, _/_, _%_, _^_, _≤_, _<_}
 use native.Mathlib.Omega.{arith}
 use lib.Dec.{eqb, leb, ltb}
 use lib.ListN.{length, take, drop, getD, length-drop, length-take}
-use borrow.Author.Tests.{eqb-true, le-leb}
-use Rattle.layout.specs.declared.Step.the-variants.{Next}
-use Rattle.layout.specs.Layout.{little, le, undigits, digits, Bytes, pick}
-use Rattle.layout.specs.Read.{readNumber}
-use Rattle.layout.specs.Reads.{peek}
+use lib.Seq.{drop-cons}
+use borrow.Author.Tests.{eqb-true, leb-true}
+use Rattle.layout.specs.Layout.{little, le, undigit, undigits, digits, Bytes, pick}
 use Rattle.layout.specs.Steps.Slices.{drop-bytes, take-bytes}
 use Rattle.layout.specs.Laws.Digits.{length-le, digits-undigits, undigits-lt}
 use Rattle.case_stream.specs.Stream.{Element, limit, block-code, block, says}
@@ -21,10 +19,11 @@ use Rattle.case_stream.specs.Laws.Whole.{room-goes, gather-whole, block-whole}
 use Rattle.cases.specs.declared.Cursor.{Cursor}
 use Rattle.cases.specs.declared.Moved.{Moved}
 use Rattle.cases.specs.Cursor.{act-at, view, Counts, Good}
-use Rattle.cases.specs.Steps.{passed, offered, wrote, step-of, halting, silent, writing, Advances, Strides}
+use Rattle.cases.specs.Steps.{passed, offered, wrote, step-of, halting, silent, writing, Advances, Strides, eight-at, begins, whole}
 use Rattle.cases.specs.Laws.Counting.{counts-first}
 use Rattle.cases.specs.Laws.Goods.{good-act, view-gather, view-acting, view-passed, view-eight}
-use Rattle.cases.specs.Laws.Agree.{block-says, good-block}
+use Rattle.cases.specs.Laws.Tests.{both}
+use Rattle.cases.specs.Laws.Agree.{block-says, good-block, place-in}
 
 has-one : (r : ℕ) → has (fits (suc r)) ≡ true
 unfolding has
@@ -68,13 +67,40 @@ module _ (kind count bias : ℕ) (c : Cursor) (more : Bool) (b : ℕ) (s : List 
 
 -- ---- 2. eight bytes as a number
 
-pub eight-bytes : (s : List ℕ) (i x : ℕ) → Bytes s → 8 ≤ length s - i → x ≡ peek little (min 8 8) s (Next i) → (le 8 x ≡ take 8 (drop i s)) × (x < 256 ^ 8)
-unfolding peek readNumber pick digits
+eight-taken : (s : List ℕ) (i : ℕ) → 8 ≤ length s - i → eight-at s i ≡ take 8 (drop i s)
+unfolding eight-at
+eight-taken s i h =
+    let e₁ : i + 1 ≡ suc i = omega arith in
+    let e₂ : i + 2 ≡ suc (suc i) = omega arith in
+    let e₃ : i + 3 ≡ suc (suc (suc i)) = omega arith in
+    let e₄ : i + 4 ≡ suc (suc (suc (suc i))) = omega arith in
+    let e₅ : i + 5 ≡ suc (suc (suc (suc (suc i)))) = omega arith in
+    let e₆ : i + 6 ≡ suc (suc (suc (suc (suc (suc i))))) = omega arith in
+    let e₇ : i + 7 ≡ suc (suc (suc (suc (suc (suc (suc i)))))) = omega arith in
+    rw (
+      e₁,
+      e₂,
+      e₃,
+      e₄,
+      e₅,
+      e₆,
+      e₇,
+      drop-cons s i 0 (omega arith),
+      drop-cons s (suc i) 0 (omega arith),
+      drop-cons s (suc (suc i)) 0 (omega arith),
+      drop-cons s (suc (suc (suc i))) 0 (omega arith),
+      drop-cons s (suc (suc (suc (suc i)))) 0 (omega arith),
+      drop-cons s (suc (suc (suc (suc (suc i))))) 0 (omega arith),
+      drop-cons s (suc (suc (suc (suc (suc (suc i)))))) 0 (omega arith),
+      drop-cons s (suc (suc (suc (suc (suc (suc (suc i))))))) 0 (omega arith),
+    )
+
+pub eight-bytes : (s : List ℕ) (i x : ℕ) → Bytes s → 8 ≤ length s - i → x ≡ undigit (eight-at s i) → (le 8 x ≡ take 8 (drop i s)) × (x < 256 ^ 8)
+unfolding undigits digits
 eight-bytes s i x bs h e =
-    let l : 8 ≤ length (drop i s) = omega (arith, length-drop i s) in
-    let n : length (take 8 (drop i s)) ≡ 8 = omega (arith, length-take 8 (drop i s)) in
+    let n : length (take 8 (drop i s)) ≡ 8 = omega (arith, length-take 8 (drop i s), length-drop i s) in
     let b : Bytes (take 8 (drop i s)) = take-bytes 8 (drop-bytes i bs) in
-    let v : x ≡ undigits little (take 8 (drop i s)) = e ∙ rw (le-leb 8 (length (drop i s)) l) in
+    let v : x ≡ undigits little (take 8 (drop i s)) = e ∙ ap undigit (eight-taken s i h) in
     (rw v (digits-undigits little 8 (take 8 (drop i s)) b n), rw v (undigits-lt little 8 (take 8 (drop i s)) b n))
 
 -- ---- 3. a group, a block
@@ -164,3 +190,48 @@ module _ (kind count bias : ℕ) (c : Cursor) (g : Good count c) (s : List ℕ) 
           rw (from-block, to-block, is-x, ← l) (block-whole kinds bias (fits (suc r)) (has-one r) (c .at) (c .place) (c .codes % 256) behind (rw k (block-says kind bias (c .codes % 256) code)) 7 (c .taken) [] s refl there early);
       falls = λ q kinds l k. lighter-block;
     }
+
+-- ---- 4. the test whether a group or a block begins
+
+whole-parts : (c : Cursor) (rest : ℕ) → whole c rest ≡ true → (8 ≤ rest) × (c .taken + 8 ≤ limit) × (begins c ≡ true)
+unfolding whole
+whole-parts c rest t =
+    let a = both _ _ t in
+    let b = both _ _ (a .1) in
+    (leb-true 8 rest (a .0), omega (arith, leb-true (c .taken) (limit - 8) (b .0)), b .1)
+
+begins-group : (c : Cursor) → begins c ≡ true → eqb (c .phase) 0 ≡ true → eqb (c .left) 0 ≡ true
+unfolding begins pick
+begins-group c t e = rw e at t
+
+begins-block : (c : Cursor) → begins c ≡ true → eqb (c .phase) 0 ≡ false → (eqb (c .phase) 1 ≡ true) × (eqb (c .codes % 256) 253 ≡ true) × (eqb (c .filled) 0 ≡ true)
+unfolding begins pick
+begins-block c t e =
+    let a = both _ _ (rw e at t) in
+    let b = both _ _ (a .1) in
+    (a .0, b .0, b .1)
+
+module _ (kind count bias : ℕ) (c : Cursor) (g : Good count c) (s : List ℕ) (i x : ℕ) (bs : Bytes s) (t : whole c (length s - i) ≡ true) (e : x ≡ undigit (eight-at s i)) where
+  abbrev parts : (8 ≤ length s - i) × (c .taken + 8 ≤ limit) × (begins c ≡ true)
+  parts = whole-parts c (length s - i) t
+
+  there-8 : 8 ≤ length (drop i s)
+  there-8 = omega (arith, parts .0, length-drop i s)
+
+  pub group-of : eqb (c .phase) 0 ≡ true → Strides kind count bias c (drop i s) (silent (act-at (c .at) (c .taken + 8) (c .taken) x 8 0 0) 8)
+  group-of e₀ =
+      let b = eight-bytes s i x bs (parts .0) e in
+      whole-group kind count bias c g (drop i s) x there-8 (parts .1) (b .0) (b .1) e₀ (begins-group c (parts .2) e₀)
+
+  pub block-of : eqb (c .phase) 0 ≡ false → Strides kind count bias c (drop i s) (writing (passed c ((c .at + 1) % count) (c .taken + 8)) 8 x)
+  block-of e₀ =
+      let b = eight-bytes s i x bs (parts .0) e in
+      let q = begins-block c (parts .2) e₀ in
+      whole-block kind count bias c g (drop i s) x there-8 (parts .1) (b .0) (b .1) e₀ (q .0) (q .1) (q .2)
+
+-- for the needs of the code
+pub whole-in : (c : Cursor) (rest : ℕ) → whole c rest ≡ true → (8 ≤ rest) × (c .taken + 8 ≤ limit)
+whole-in c rest t = let p = whole-parts c rest t in (p .0, p .1)
+
+pub whole-place : (count : ℕ) (c : Cursor) (rest : ℕ) → Good count c → whole c rest ≡ true → eqb (c .phase) 0 ≡ false → c .place < limit
+whole-place count c rest g t e = let p = whole-parts c rest t in place-in count c g (begins-block c (p .2) e .0) (omega (arith, p .1))

@@ -13,5 +13,17 @@ cursor-of-spec =
     (λ c.
     let h = c .before .before .before .before .before in
     let g = h .before .before .before in
-    rw (c .word10 .ensures, c .before .word9 .ensures, c .before .before .word8 .ensures, c .before .before .before .word7 .ensures, c .before .before .before .before .word6 .ensures,
-    h .word5 .ensures, h .before .joint2 .ensures, h .before .before .word4 .ensures, g .word3 .ensures, g .before .joint .ensures, g .before .before .word2 .ensures, g .before .before .before .word .ensures)))
+    rw (
+      c .word10 .ensures,
+      c .before .word9 .ensures,
+      c .before .before .word8 .ensures,
+      c .before .before .before .word7 .ensures,
+      c .before .before .before .before .word6 .ensures,
+      h .word5 .ensures,
+      h .before .joint2 .ensures,
+      h .before .before .word4 .ensures,
+      g .word3 .ensures,
+      g .before .joint .ensures,
+      g .before .before .word2 .ensures,
+      g .before .before .before .word .ensures,
+    )))

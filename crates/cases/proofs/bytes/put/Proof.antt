@@ -6,8 +6,8 @@ use lib.ListN.{length, length-set}
 use lib.Seq.{sets}
 use Rattle.layout.specs.Layout.{le}
 use Rattle.cases.specs.Laws.Loop.{put-begin, put-again, put-end}
-use Rattle.cases.proofs.calls.put.Statement.{statement}
-use Rattle.cases.proofs.calls.put.Tie as tie
+use Rattle.cases.proofs.bytes.put.Statement.{statement}
+use Rattle.cases.proofs.bytes.put.Tie as tie
 
 abbrev Inv-loop : tie.InvT-loop
 Inv-loop o₀ at x v₀ i₀ o v i = (i ≤ 8) × (length o ≡ length o₀) × (sets o (at + i) (le (8 - i) v) ≡ sets o₀ at (le 8 x))

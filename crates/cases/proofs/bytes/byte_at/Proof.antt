@@ -3,8 +3,8 @@ use borrow.Author.Needs.{needs}
 use native.Mathlib.Omega.{arith}
 use lib.ListN.{List·getD-eq-default}
 use denote.Ref.{now}
-use Rattle.cases.proofs.steps.byte_at.Statement.{statement}
-use Rattle.cases.proofs.steps.byte_at.Tie as tie
+use Rattle.cases.proofs.bytes.byte_at.Statement.{statement}
+use Rattle.cases.proofs.bytes.byte_at.Tie as tie
 
 pub byte-at-spec : {M : Type 1} → statement M
 byte-at-spec =
