@@ -14,6 +14,7 @@ pub mod line;
 pub mod look;
 pub mod member;
 pub mod parts;
+pub mod plain_cases;
 pub mod random;
 pub mod refusal;
 pub mod sections;

@@ -1,10 +1,12 @@
-//! Reads light detail members, version 1 and 3, and binary table looks (.tlo).
+//! Reads light detail members, version 1 and 3, and binary table looks (.tlo), and decodes
+//! compressed case data as it arrives ([`Cases`]).
 //!
 //! The work is done by a library in which every function is proved to meet its contract. This
 //! crate declares its functions ([`ffi`]), calls them on slices ([`lent`]), and turns their
 //! answers into Rust types ([`read_member`], [`Look`]). Nothing checks these declarations against
 //! the library; `bench/versus` compares what comes back with an independent reader.
 
+mod cases;
 pub mod ffi;
 pub mod lent;
 mod look;
@@ -13,6 +15,7 @@ mod table;
 mod units;
 pub mod value_text;
 
+pub use cases::{CaseError, Cases, Element, Kind};
 pub use look::{rewrite_look, Area, Frame, Look, Separator, Separators, V2Styles};
 pub use refusal::Refusal;
 pub use table::{part, read_member, Axes, Cell, Dimension, Node, NodeKind, Table};
