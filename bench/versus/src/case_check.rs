@@ -58,7 +58,8 @@ impl CaseCheck {
         let (most_cut, most_room) = (random.pick(&[1, 9, 100, 1_000]), random.pick(&[9, 80, 900]));
         loop {
             let left = bytes.len() - at;
-            let cut = random.size(most_cut.min(left));
+            let all = random.once_in(8);
+            let cut = if all { left } else { random.size(most_cut.min(left)) };
             let room = random.size(most_room);
             let mut expected: Vec<u8> = (0..room).map(|_| random.next_number() as u8).collect();
             let mut found = expected.clone();
