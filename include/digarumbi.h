@@ -1,7 +1,8 @@
-/* Digarumbi: reads light detail members, version 1 and 3, and binary table looks (.tlo), and converts names in old code pages.
+/* Digarumbi: reads light detail members, version 1 and 3, and binary table looks (.tlo), converts names in old code pages, and decodes
+ * compressed case data.
  *
- * "01", "02", "002" and "003" below are the papers that the library follows: document 01 (the rules), document 02 (changes to them), source
- * document 002 (looks) and source document 003 (members).
+ * "01", "02", "002", "003" and "004" below are the papers that the library follows: document 01 (the rules), document 02 (changes to them),
+ * source document 002 (looks), source document 003 (members) and source document 004 (case data).
  *
  * Any bytes and areas of any length get an answer. The functions allocate nothing, keep nothing between calls and are reentrant:
  * threads may call them at the same time, each with areas of its own. For the stack that they use see docs/BENCHMARKS.md.
@@ -55,6 +56,9 @@ uint32_t digarumbi_abi(void);
  *   16   look writer: version 00 with V2 data not all zero, undrawn and with an   where V2 would stand
  *        empty continuation
  *   18   a zero byte inside a string of a member                                  its first length byte
+ *   21   case data: a bad kind list or bias, or words that are no state           0
+ *   22   case data: a code that its element can't have                            the code, in the whole stream
+ *   23   case data: the end too soon                                              number of bytes taken
  *   24   text: an unknown page                                                    0
  *   25   text: a byte without an entry in the page; a character that has none,    that byte / first byte of that
  *        or isn't UTF-8 in its shortest form                                      character
@@ -321,6 +325,64 @@ size_t digarumbi_to_utf8(uint32_t page, const uint8_t *in, size_t in_length, uin
  * above 10FFFF and stray continuation bytes are number 25 at the first byte of the character: `41 C4 41` is 25 at 1. */
 size_t digarumbi_from_utf8(uint32_t page, const uint8_t *in, size_t in_length, uint8_t *out, size_t out_length, uint32_t *answer,
                            size_t answer_words);
+
+/* ---- Compressed case data (004, "Data Record", compression 1; 02, T-05) ---- */
+
+/* A stream of case data is decoded as it arrives: a state that the caller lends is started once, then fed with bytes in cuts of any length and an
+ * output of any length, and at last told of the end. What comes out does not depend on the cuts or on the room that each call had.
+ *
+ * The stream has groups of eight codes, and after each group the 8-byte blocks that its codes ask for. An element has 8 bytes: a double,
+ * little-endian, or 8 bytes of a string. A case has as many elements as there are kinds; after the last the next case begins.
+ *
+ *     code        numeric element               string element
+ *     0           skipped, no element           skipped, no element
+ *     1 to 251    the double code - bias        eight zero bytes if it is the bias, else 22
+ *     252         the data ends: no byte is taken and no code acts after it
+ *     253         the next block                the next block
+ *     254         22                            eight spaces
+ *     255         the missing double            22
+ *
+ * The missing double is minus the largest finite one. */
+
+/* Words of a state. They are opaque: the caller keeps them and hands them back. Words that no start and no calls leave are refused, 21. */
+#define DIGARUMBI_CASES_STATE 268
+
+/* Kinds of elements. */
+enum {
+    DIGARUMBI_CASES_NUMERIC = 0,
+    DIGARUMBI_CASES_STRING = 1
+};
+
+/* Words of the answers of digarumbi_cases_start and digarumbi_cases_end, and of digarumbi_cases_feed. */
+enum {
+    DIGARUMBI_CASES_ANSWER = 2,
+    DIGARUMBI_CASES_FEED_ANSWER = 4
+};
+
+/* Starts a stream: a byte for the kind of each element of a case, 1 to 256 of them, and the bias, 0 to 255 (100 in real files).
+ *
+ * The answer has 2 words: refusal, place. 21 at 0 for a bad kind list or bias: then the state stays as it was. Else all its words are set.
+ * Returns 2; returns 0 if `answer` has fewer than 2 words or `state` fewer than DIGARUMBI_CASES_STATE: then nothing changes. */
+size_t digarumbi_cases_start(const uint8_t *kinds, size_t kinds_length, uint32_t bias, uint32_t *state, size_t state_words,
+                             uint32_t *answer, size_t answer_words);
+
+/* Takes bytes of the input and writes elements at the front of the output, as long as it can; output beyond the elements stays. There is room
+ * for output_length / 8 elements, and while none fits no byte is taken. What was not taken is offered again. A call stops at its last
+ * element, so the stream is decoded once a call with room, offered all that is left, takes and writes nothing.
+ *
+ * The answer has 4 words: refusal, place, bytes taken, elements written. 22 and 7 come with the elements before them and the bytes taken, and each
+ * later call answers them again, with nothing taken or written. 7 stands at 4,294,967,295, the first byte too many. 21 at 0 for words that
+ * are no state: then nothing changes but the answer.
+ * Returns 4; returns 0 if `answer` has fewer than 4 words or `state` fewer than DIGARUMBI_CASES_STATE: then nothing changes. */
+size_t digarumbi_cases_feed(uint32_t *state, size_t state_words, const uint8_t *input, size_t input_length, uint8_t *output,
+                            size_t output_length, uint32_t *answer, size_t answer_words);
+
+/* Tells of the end of the stream, and changes no state.
+ *
+ * The answer has 2 words: refusal, place. 23 at the number of bytes taken, if no 252 has acted and a code is still to act, a group or a block is
+ * unfinished or a case is incomplete. 22 and 7 if the state has them, 21 as above.
+ * Returns 2; returns 0 if `answer` has fewer than 2 words or `state` fewer than DIGARUMBI_CASES_STATE: then nothing changes. */
+size_t digarumbi_cases_end(const uint32_t *state, size_t state_words, uint32_t *answer, size_t answer_words);
 
 /* ---- Points, pixels and font heights ---- */
 

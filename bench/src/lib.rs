@@ -3,6 +3,7 @@
 //! pages.
 
 pub mod axes;
+pub mod cases;
 pub mod cells;
 pub mod codepages;
 pub mod contents;
@@ -16,6 +17,7 @@ pub mod line;
 pub mod look;
 pub mod member;
 pub mod parts;
+pub mod plain_cases;
 pub mod random;
 pub mod refusal;
 pub mod sections;

@@ -2,6 +2,7 @@
 //! they take.
 
 pub mod area;
+pub mod case_check;
 pub mod difference;
 pub mod inputs;
 pub mod large;

@@ -95,6 +95,34 @@ extern "C" {
         answer_words: usize,
     ) -> usize;
 
+    pub fn digarumbi_cases_start(
+        kinds: *const u8,
+        kinds_length: usize,
+        bias: u32,
+        state: *mut u32,
+        state_words: usize,
+        answer: *mut u32,
+        answer_words: usize,
+    ) -> usize;
+
+    pub fn digarumbi_cases_feed(
+        state: *mut u32,
+        state_words: usize,
+        input: *const u8,
+        input_length: usize,
+        output: *mut u8,
+        output_length: usize,
+        answer: *mut u32,
+        answer_words: usize,
+    ) -> usize;
+
+    pub fn digarumbi_cases_end(
+        state: *const u32,
+        state_words: usize,
+        answer: *mut u32,
+        answer_words: usize,
+    ) -> usize;
+
     pub fn digarumbi_pt_to_px(points: u32, pixels: *mut u32) -> u32;
 
     pub fn digarumbi_px_to_pt(pixels: u32, points: *mut u32) -> u32;

@@ -39,6 +39,13 @@ pub const NODE_AREA: usize = 28_672;
 /// Words that always suffice for the cell records.
 pub const CELL_AREA: usize = 12_288;
 
+/// Words of a state of case data.
+pub const CASES_STATE: usize = 268;
+/// Words of the answers of [`cases_start`] and [`cases_end`].
+pub const CASES_ANSWER: usize = 2;
+/// Words of the answer of [`cases_feed`].
+pub const CASES_FEED_ANSWER: usize = 4;
+
 /// Bytes of the longest look.
 pub const LONGEST_LOOK: usize = 3_160;
 
@@ -278,4 +285,50 @@ pub fn font_height(size: i32) -> (u32, u32) {
     let mut height = 0;
     let refusal = unsafe { ffi::digarumbi_font_height(size, &mut height) };
     (refusal, height)
+}
+
+/// Starts a stream of case data. Returns [`CASES_ANSWER`], or 0 if `answer` or `state` has too few
+/// words.
+pub fn cases_start(kinds: &[u8], bias: u32, state: &mut [u32], answer: &mut [u32]) -> usize {
+    unsafe {
+        ffi::digarumbi_cases_start(
+            kinds.as_ptr(),
+            kinds.len(),
+            bias,
+            state.as_mut_ptr(),
+            state.len(),
+            answer.as_mut_ptr(),
+            answer.len(),
+        )
+    }
+}
+
+/// Takes bytes of the input and writes elements. Returns [`CASES_FEED_ANSWER`], or 0 if `answer`
+/// or `state` has too few words.
+pub fn cases_feed(
+    state: &mut [u32],
+    input: &[u8],
+    output: &mut [u8],
+    answer: &mut [u32],
+) -> usize {
+    unsafe {
+        ffi::digarumbi_cases_feed(
+            state.as_mut_ptr(),
+            state.len(),
+            input.as_ptr(),
+            input.len(),
+            output.as_mut_ptr(),
+            output.len(),
+            answer.as_mut_ptr(),
+            answer.len(),
+        )
+    }
+}
+
+/// Tells of the end of a stream. Returns [`CASES_ANSWER`], or 0 if `answer` or `state` has too few
+/// words.
+pub fn cases_end(state: &[u32], answer: &mut [u32]) -> usize {
+    unsafe {
+        ffi::digarumbi_cases_end(state.as_ptr(), state.len(), answer.as_mut_ptr(), answer.len())
+    }
 }

@@ -1,5 +1,5 @@
-//! Reads light detail members, version 1 and 3, and binary table looks (.tlo), and converts text in
-//! old code pages ([`codepage`]).
+//! Reads light detail members, version 1 and 3, and binary table looks (.tlo), converts text in old
+//! code pages ([`codepage`]), and decodes compressed case data as it arrives ([`Cases`]).
 //!
 //! The work is done by a library in which every function is proved to meet its contract. This
 //! crate declares its functions ([`ffi`]), calls them on slices ([`lent`]), and turns their
@@ -7,6 +7,7 @@
 //! declarations against the library; `bench/versus` compares what comes back with an independent
 //! reader.
 
+mod cases;
 pub mod codepage;
 pub mod ffi;
 pub mod lent;
@@ -16,6 +17,7 @@ mod table;
 mod units;
 mod value;
 
+pub use cases::{CaseError, Cases, Element, Kind};
 pub use look::{rewrite_look, Area, Frame, Look, Separator, Separators, V2Styles};
 pub use refusal::Refusal;
 pub use table::{part, read_member, Axes, Cell, Dimension, Node, NodeKind, Table};

@@ -5,12 +5,13 @@ use std::fs;
 use std::hint::black_box;
 
 use digarumbi::lent::{
-    self, CELL_AREA, CELL_RECORD, LONGEST_LOOK, LOOK_ANSWER, MEMBER_ANSWER, NODE_AREA, NODE_RECORD,
-    REWRITE_ANSWER, TEXT_ANSWER, VALUE_WORDS,
+    self, CASES_FEED_ANSWER, CASES_STATE, CELL_AREA, CELL_RECORD, LONGEST_LOOK, LOOK_ANSWER,
+    MEMBER_ANSWER, NODE_AREA, NODE_RECORD, REWRITE_ANSWER, TEXT_ANSWER, VALUE_WORDS,
 };
 use digarumbi_bench::codepages::{from_utf8, to_utf8};
 use digarumbi_bench::contents::contents;
 use digarumbi_bench::generate::look_bytes;
+use digarumbi_bench::plain_cases::Plain;
 use digarumbi_bench::limits::MEMBER_BYTES;
 use digarumbi_bench::look::{read_look, write_look};
 use digarumbi_bench::member::read_member;
@@ -35,6 +36,7 @@ fn main() {
     values();
     looks();
     texts();
+    case_data();
 }
 
 fn conditions() -> String {
@@ -339,6 +341,91 @@ fn rewrite_times(file: &[u8]) -> Times {
         |(out, _)| {
             let look = read_look(black_box(file));
             let _ = black_box(look.and_then(|look| write_look(&look, file, out)));
+        },
+    )
+}
+
+/// Elements of a stream of case data: 64 MB.
+const ELEMENTS: u64 = 8_388_608;
+/// Bytes that are offered at once, and room for what they can give.
+const CUT: usize = 65_536;
+const ROOM: usize = 8 * (CUT + 8);
+
+fn case_data() {
+    println!("### Case data\n");
+    println!("8,388,608 elements in calls of 64 KiB; the state lies in words between calls.\n");
+    println!(
+        "| stream | bytes | Rattle, ms | Rust, ms | Rattle, ns an element | Rattle : Rust |\n\
+         |---|---:|---:|---:|---:|---:|"
+    );
+    for (name, kinds, blocks) in [
+        ("numbers, no blocks", &[0, 0, 0, 0, 0, 0, 0, 0, 0, 0][..], 0),
+        ("numbers, a third in blocks", &[0, 0, 0, 0, 0, 0, 0, 0, 0, 0], 3),
+        ("numbers, all in blocks", &[0, 0, 0, 0, 0, 0, 0, 0, 0, 0], 1),
+        ("half strings, no blocks", &[0, 1, 0, 1, 1, 0], 0),
+        ("half strings, a third in blocks", &[0, 1, 0, 1, 1, 0], 3),
+    ] {
+        let bytes = case_stream(kinds, blocks);
+        let times = case_times(kinds, &bytes);
+        println!(
+            "| {name} | {} | {:.1} | {:.1} | {:.2} | {:.2} |",
+            bytes.len(),
+            times.rattle / 1e6,
+            times.rust / 1e6,
+            times.rattle / ELEMENTS as f64,
+            times.ratio()
+        );
+    }
+    println!();
+}
+
+/// One in `blocks` elements has a block, none if it is 0.
+fn case_stream(kinds: &[u8], blocks: u64) -> Vec<u8> {
+    let mut random = Random::new(1);
+    let mut bytes = Vec::new();
+    for group in 0..ELEMENTS / 8 {
+        let first = bytes.len();
+        for code in 0..8 {
+            let number = (8 * group + code) as usize % kinds.len();
+            bytes.push(match kinds[number] {
+                _ if blocks > 0 && random.once_in(blocks) => 253,
+                0 => 1 + random.below(251) as u8,
+                _ => 254,
+            });
+        }
+        for _ in 0..bytes[first..].iter().filter(|&&code| code == 253).count() {
+            bytes.extend_from_slice(&random.next_number().to_le_bytes());
+        }
+    }
+    bytes
+}
+
+fn case_times(kinds: &[u8], bytes: &[u8]) -> Times {
+    let mut output = vec![0; ROOM];
+    measure(
+        &mut output,
+        |output| {
+            let (mut state, mut answer) = ([0; CASES_STATE], [0; CASES_FEED_ANSWER]);
+            lent::cases_start(kinds, 100, &mut state, &mut answer);
+            let (mut at, mut elements) = (0, 0);
+            while at < bytes.len() {
+                let cut = &bytes[at..bytes.len().min(at + CUT)];
+                lent::cases_feed(&mut state, black_box(cut), output, &mut answer);
+                at += answer[2] as usize;
+                elements += u64::from(answer[3]);
+            }
+            assert_eq!(elements, ELEMENTS);
+        },
+        |output| {
+            let mut plain = Plain::new(kinds, 100);
+            let (mut at, mut elements) = (0, 0);
+            while at < bytes.len() {
+                let cut = &bytes[at..bytes.len().min(at + CUT)];
+                let (taken, written) = plain.feed(black_box(cut), output);
+                at += taken;
+                elements += written as u64;
+            }
+            assert_eq!(elements, ELEMENTS);
         },
     )
 }

@@ -10,7 +10,9 @@ use digarumbi_bench::generate::{any_value, argument_of_value, look_bytes, member
 use digarumbi_bench::limits::MEMBER_BYTES;
 use digarumbi_bench::random::Random;
 use digarumbi_bench::vectors;
+use digarumbi_bench::random::Random;
 use digarumbi_bench::version::Version;
+use digarumbi_versus::case_check::{refused_starts, CaseCheck};
 use digarumbi_versus::difference::Difference;
 use digarumbi_versus::inputs::Inputs;
 use digarumbi_versus::large::{
@@ -31,6 +33,7 @@ const GENERATED_MEMBERS: u64 = 70_000;
 const GENERATED_LOOKS: u64 = 25_000;
 const GENERATED_VALUES: u64 = 60_000;
 const GENERATED_ARGUMENTS: u64 = 20_000;
+const GENERATED_STREAMS: u64 = 100_000;
 
 /// The refusal numbers that these functions can give. 16 is not among them: it is the writer's
 /// for looks that no file gives.
@@ -44,6 +47,10 @@ const VALUE_NUMBERS: [u32; 9] = [0, 1, 2, 3, 4, 5, 6, 7, 18];
 const VALUE_NUMBERS_VERSION_1: [u32; 8] = [0, 1, 2, 3, 4, 5, 7, 18];
 const LOOK_NUMBERS: [u32; 8] = [2, 3, 4, 5, 7, 11, 14, 15];
 const TEXT_NUMBERS: [u32; 4] = [0, 15, 24, 25];
+/// Those of case data: of calls, at the end, and for changed words.
+const CALL_NUMBERS: [u32; 3] = [0, 7, 22];
+const END_NUMBERS: [u32; 4] = [0, 7, 22, 23];
+const CHANGED_NUMBERS: [u32; 5] = [0, 7, 21, 22, 23];
 
 fn main() -> ExitCode {
     let seed = env::args().nth(1).map_or(Ok(1), |seed| seed.parse());
@@ -79,6 +86,15 @@ fn run(seed: u64) -> Result<(), Difference> {
     let texts = text_check::check(seed)?;
     println!("{} texts to UTF-8: {}", texts.to.total(), texts.to);
     println!("{} texts from UTF-8: {}", texts.from.total(), texts.from);
+    let streams = streams(seed)?;
+    println!("{GENERATED_STREAMS} streams of case data, each in two ways of cutting it");
+    println!("{} calls: {}", streams.calls.total(), streams.calls);
+    println!("{} ends: {}", streams.ends.total(), streams.ends);
+    println!("{} changed states: {}", streams.changed.total(), streams.changed);
+    println!("{} starts at the limits", refused_starts()?);
+    streams.calls.all_seen(&CALL_NUMBERS)?;
+    streams.ends.all_seen(&END_NUMBERS)?;
+    streams.changed.all_seen(&CHANGED_NUMBERS)?;
     members.readings.all_seen(&MEMBER_NUMBERS)?;
     members.version_1.all_seen(&VERSION_1_NUMBERS)?;
     members.values.all_forms_seen()?;
@@ -161,4 +177,13 @@ fn looks(seed: u64) -> Result<LookCheck, Difference> {
     inputs.stored_cut(&stored::looks())?;
     inputs.generated(GENERATED_LOOKS, look_bytes)?;
     Ok(inputs.check)
+}
+
+fn streams(seed: u64) -> Result<CaseCheck, Difference> {
+    let mut check = CaseCheck::default();
+    for number in 0..GENERATED_STREAMS {
+        let mut random = Random::new(seed.wrapping_add(number << 20));
+        check.stream(&mut random).map_err(|difference| difference.with(format!("stream {number}")))?;
+    }
+    Ok(check)
 }

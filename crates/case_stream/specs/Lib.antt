@@ -1,0 +1,5 @@
+pub mod Stream
+pub mod Machine
+pub mod Cuts
+pub mod Theorem
+pub mod Laws

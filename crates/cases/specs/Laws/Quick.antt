@@ -1,0 +1,237 @@
+-- A step as a call sees it; and eight bytes at once, of a group and of a block, which leave what eight steps leave.
+use mathlib.Core.Path.{_≡_, refl, sym, ap, _∙_}
+use mathlib.Core.Bool.{Bool, true, false}
+use mathlib.Core.List.{List, [], _∷_, _++_}
+use Prim.Native.Nat.{ℕ, zero, suc, _+_, _-_, _*_, _/_, _%_, _^_, _≤_, _<_}
+use native.Mathlib.Omega.{arith}
+use lib.Dec.{eqb, leb, ltb}
+use lib.ListN.{length, take, drop, getD, length-drop, length-take}
+use lib.Seq.{drop-cons}
+use borrow.Author.Tests.{eqb-true, leb-true}
+use Rattle.layout.specs.Layout.{little, le, undigit, undigits, digits, Bytes, pick}
+use Rattle.layout.specs.Steps.Slices.{drop-bytes, take-bytes}
+use Rattle.layout.specs.Laws.Digits.{length-le, digits-undigits, undigits-lt}
+use Rattle.case_stream.specs.Stream.{Element, limit, block-code, block, says}
+use Rattle.case_stream.specs.Machine.{State, gather, acting, Room, fits, endless, has, less, Step, halts, goes, after, next, moves, step, Out, put, feed, weight}
+use Rattle.case_stream.specs.Laws.Steps.{μ, after-weight, put-nil, falls-goes, step-falls}
+use Rattle.case_stream.specs.Laws.Compose.{less-nil}
+use Rattle.case_stream.specs.Laws.Whole.{room-goes, gather-whole, block-whole}
+use Rattle.cases.specs.declared.Cursor.{Cursor}
+use Rattle.cases.specs.declared.Moved.{Moved}
+use Rattle.cases.specs.Cursor.{act-at, view, Counts, Good}
+use Rattle.cases.specs.Steps.{passed, offered, wrote, step-of, halting, silent, writing, Advances, Strides, eight-at, begins, whole}
+use Rattle.cases.specs.Laws.Counting.{counts-first}
+use Rattle.cases.specs.Laws.Goods.{good-act, view-gather, view-acting, view-passed, view-eight}
+use Rattle.cases.specs.Laws.Tests.{both}
+use Rattle.cases.specs.Laws.Agree.{block-says, good-block, place-in}
+
+has-one : (r : ℕ) → has (fits (suc r)) ≡ true
+unfolding has
+has-one r = refl
+
+-- ---- 1. one step
+
+module _ (kind count bias : ℕ) (c : Cursor) (more : Bool) (b : ℕ) (s : List ℕ) (m : Moved) (a : Advances kind count bias c more b m) where
+  abbrev bytes : List ℕ
+  bytes = offered more b s
+
+  moved : m .goes ≡ true → step-of m bytes ≡ goes (view (m .cursor)) (drop (m .takes) bytes) (wrote m)
+  unfolding step-of pick
+  moved e = rw e
+
+  unmoved : m .goes ≡ false → step-of m bytes ≡ halts
+  unfolding step-of pick
+  unmoved e = rw e
+
+  at-most : m .takes ≤ length bytes
+  unfolding offered pick
+  at-most = by more (a .inside)
+    where
+      by : (t : Bool) → m .takes ≤ pick t 1 0 → m .takes ≤ length (pick t (b ∷ s) [])
+      by true h = omega arith
+      by false h = omega arith
+
+  stepped : (kinds : List ℕ) → step kinds bias (view c) bytes endless ≡ moves kinds bias (view c) bytes
+  unfolding step has pick
+  stepped kinds = refl
+
+  pub one-step : Strides kind count bias c bytes m
+  one-step = record {
+    good = a .good;
+    inside = at-most;
+    still = a .still;
+    stays = λ e kinds l k. a .is kinds l k s ∙ unmoved e;
+    leads = λ e kinds l k r. room-goes kinds bias (fits (suc r)) (has-one r) (view c) bytes (view (m .cursor)) (drop (m .takes) bytes) (wrote m) (a .is kinds l k s ∙ moved e);
+    falls = λ e kinds l k. falls-goes kinds bias (step kinds bias (view c) bytes endless) (stepped kinds ∙ a .is kinds l k s ∙ moved e) (step-falls kinds bias (view c) bytes endless);
+  }
+
+-- ---- 2. eight bytes as a number
+
+eight-taken : (s : List ℕ) (i : ℕ) → 8 ≤ length s - i → eight-at s i ≡ take 8 (drop i s)
+unfolding eight-at
+eight-taken s i h =
+    let e₁ : i + 1 ≡ suc i = omega arith in
+    let e₂ : i + 2 ≡ suc (suc i) = omega arith in
+    let e₃ : i + 3 ≡ suc (suc (suc i)) = omega arith in
+    let e₄ : i + 4 ≡ suc (suc (suc (suc i))) = omega arith in
+    let e₅ : i + 5 ≡ suc (suc (suc (suc (suc i)))) = omega arith in
+    let e₆ : i + 6 ≡ suc (suc (suc (suc (suc (suc i))))) = omega arith in
+    let e₇ : i + 7 ≡ suc (suc (suc (suc (suc (suc (suc i)))))) = omega arith in
+    rw (
+      e₁,
+      e₂,
+      e₃,
+      e₄,
+      e₅,
+      e₆,
+      e₇,
+      drop-cons s i 0 (omega arith),
+      drop-cons s (suc i) 0 (omega arith),
+      drop-cons s (suc (suc i)) 0 (omega arith),
+      drop-cons s (suc (suc (suc i))) 0 (omega arith),
+      drop-cons s (suc (suc (suc (suc i)))) 0 (omega arith),
+      drop-cons s (suc (suc (suc (suc (suc i))))) 0 (omega arith),
+      drop-cons s (suc (suc (suc (suc (suc (suc i)))))) 0 (omega arith),
+      drop-cons s (suc (suc (suc (suc (suc (suc (suc i))))))) 0 (omega arith),
+    )
+
+pub eight-bytes : (s : List ℕ) (i x : ℕ) → Bytes s → 8 ≤ length s - i → x ≡ undigit (eight-at s i) → (le 8 x ≡ take 8 (drop i s)) × (x < 256 ^ 8)
+unfolding undigits digits
+eight-bytes s i x bs h e =
+    let n : length (take 8 (drop i s)) ≡ 8 = omega (arith, length-take 8 (drop i s), length-drop i s) in
+    let b : Bytes (take 8 (drop i s)) = take-bytes 8 (drop-bytes i bs) in
+    let v : x ≡ undigits little (take 8 (drop i s)) = e ∙ ap undigit (eight-taken s i h) in
+    (rw v (digits-undigits little 8 (take 8 (drop i s)) b n), rw v (undigits-lt little 8 (take 8 (drop i s)) b n))
+
+-- ---- 3. a group, a block
+
+module _ (kind count bias : ℕ) (c : Cursor) (g : Good count c) (s : List ℕ) (x : ℕ) (there : 8 ≤ length s) (early : c .taken + 8 ≤ limit) (is-x : le 8 x ≡ take 8 s) (small : x < 256 ^ 8) where
+  left-8 : length (drop 8 s) ≡ length s - 8
+  left-8 = length-drop 8 s
+
+  module _ (e₀ : eqb (c .phase) 0 ≡ true) (e : eqb (c .left) 0 ≡ true) where
+    abbrev d : Cursor
+    d = act-at (c .at) (c .taken + 8) (c .taken) x 8 0 0
+
+    held : (c .left ≡ c .taken % 8) × (c .at ≤ c .taken - c .left) × (c .place ≡ 0) × (c .filled ≡ 0)
+    held = g .gathers (eqb-true (c .phase) 0 e₀)
+
+    empty : c .left ≡ 0
+    empty = eqb-true (c .left) 0 e
+
+    from : view c ≡ gather (c .at) (c .taken) []
+    unfolding le
+    from = view-gather c e₀ ∙ rw empty
+
+    to : view d ≡ after (c .at) (c .taken + 8) (c .taken + 8 - 8) (take 8 s)
+    to = let f : c .taken + 8 - 8 ≡ c .taken = omega arith in sym (view-eight (c .at) (c .taken) x) ∙ rw (is-x, f)
+
+    good-group : Good count d
+    good-group = good-act count (c .at) (c .taken + 8) (c .taken) x 8 0 0 (g .at-in) (omega (arith, held, empty)) (omega (arith, held, empty)) (λ k. absurd (omega arith))
+        (counts-first count (c .at) (c .taken) (g .at-in) (omega (arith, held)) (omega (arith, held, empty))) small (omega arith)
+
+    lighter : μ (view d) (drop 8 s) < μ (view c) s
+    unfolding weight
+    lighter =
+        let n : length (take 8 s) ≡ 8 = omega (arith, length-take 8 s) in
+        rw (from, to) (omega (arith, left-8, after-weight (c .at) (c .taken + 8) (c .taken + 8 - 8) (take 8 s)))
+
+    pub whole-group : Strides kind count bias c s (silent d 8)
+    unfolding wrote pick
+    whole-group = record {
+      good = good-group;
+      inside = there;
+      still = λ q. cc;
+      stays = λ q kinds l k. cc;
+      leads = λ q kinds l k r.
+          rw (from, to, less-nil, put-nil) (gather-whole kinds bias (fits (suc r)) (has-one r) 7 (c .at) (c .taken) [] s refl there early);
+      falls = λ q kinds l k. lighter;
+    }
+
+  module _ (e₀ : eqb (c .phase) 0 ≡ false) (e₁ : eqb (c .phase) 1 ≡ true) (e : eqb (c .codes % 256) 253 ≡ true) (f : eqb (c .filled) 0 ≡ true) where
+    abbrev d′ : Cursor
+    d′ = passed c ((c .at + 1) % count) (c .taken + 8)
+
+    code : c .codes % 256 ≡ block-code
+    code = eqb-true (c .codes % 256) 253 e
+
+    none-filled : c .filled ≡ 0
+    none-filled = eqb-true (c .filled) 0 f
+
+    acting-now : (c .left ≡ 8 - c .place % 8) × (c .filled ≡ c .taken % 8) × (0 < c .filled → c .codes % 256 ≡ block-code) × Counts count (c .at) (c .place) (c .taken)
+    acting-now = g .acts (eqb-true (c .phase) 1 e₁)
+
+    abbrev behind : List ℕ
+    behind = le (c .left - 1) (c .codes / 256)
+
+    some : 0 < c .left
+    some = omega (arith, acting-now .0)
+
+    from-block : view c ≡ acting (c .at) (c .taken) (c .place) (c .codes % 256) behind []
+    unfolding le
+    from-block = view-acting c e₀ e₁ ∙ rw none-filled
+
+    to-block : view d′ ≡ after ((c .at + 1) % count) (c .taken + 8) (c .place + 1) behind
+    to-block = view-passed c ((c .at + 1) % count) (c .taken + 8) some
+
+    lighter-block : μ (view d′) (drop 8 s) < μ (view c) s
+    unfolding weight
+    lighter-block =
+        rw (from-block, to-block) (omega (arith, left-8, length-le (c .left - 1) (c .codes / 256), acting-now .0, after-weight ((c .at + 1) % count) (c .taken + 8) (c .place + 1) behind))
+
+    pub whole-block : Strides kind count bias c s (writing d′ 8 x)
+    unfolding wrote pick next
+    whole-block = record {
+      good = good-block kind count bias c 0 g e₀ e₁ 8 (omega (arith, acting-now .1, none-filled));
+      inside = there;
+      still = λ q. cc;
+      stays = λ q kinds l k. cc;
+      leads = λ q kinds l k r.
+          rw (from-block, to-block, is-x, ← l) (block-whole kinds bias (fits (suc r)) (has-one r) (c .at) (c .place) (c .codes % 256) behind (rw k (block-says kind bias (c .codes % 256) code)) 7 (c .taken) [] s refl there early);
+      falls = λ q kinds l k. lighter-block;
+    }
+
+-- ---- 4. the test whether a group or a block begins
+
+whole-parts : (c : Cursor) (rest : ℕ) → whole c rest ≡ true → (8 ≤ rest) × (c .taken + 8 ≤ limit) × (begins c ≡ true)
+unfolding whole
+whole-parts c rest t =
+    let a = both _ _ t in
+    let b = both _ _ (a .1) in
+    (leb-true 8 rest (a .0), omega (arith, leb-true (c .taken) (limit - 8) (b .0)), b .1)
+
+begins-group : (c : Cursor) → begins c ≡ true → eqb (c .phase) 0 ≡ true → eqb (c .left) 0 ≡ true
+unfolding begins pick
+begins-group c t e = rw e at t
+
+begins-block : (c : Cursor) → begins c ≡ true → eqb (c .phase) 0 ≡ false → (eqb (c .phase) 1 ≡ true) × (eqb (c .codes % 256) 253 ≡ true) × (eqb (c .filled) 0 ≡ true)
+unfolding begins pick
+begins-block c t e =
+    let a = both _ _ (rw e at t) in
+    let b = both _ _ (a .1) in
+    (a .0, b .0, b .1)
+
+module _ (kind count bias : ℕ) (c : Cursor) (g : Good count c) (s : List ℕ) (i x : ℕ) (bs : Bytes s) (t : whole c (length s - i) ≡ true) (e : x ≡ undigit (eight-at s i)) where
+  abbrev parts : (8 ≤ length s - i) × (c .taken + 8 ≤ limit) × (begins c ≡ true)
+  parts = whole-parts c (length s - i) t
+
+  there-8 : 8 ≤ length (drop i s)
+  there-8 = omega (arith, parts .0, length-drop i s)
+
+  pub group-of : eqb (c .phase) 0 ≡ true → Strides kind count bias c (drop i s) (silent (act-at (c .at) (c .taken + 8) (c .taken) x 8 0 0) 8)
+  group-of e₀ =
+      let b = eight-bytes s i x bs (parts .0) e in
+      whole-group kind count bias c g (drop i s) x there-8 (parts .1) (b .0) (b .1) e₀ (begins-group c (parts .2) e₀)
+
+  pub block-of : eqb (c .phase) 0 ≡ false → Strides kind count bias c (drop i s) (writing (passed c ((c .at + 1) % count) (c .taken + 8)) 8 x)
+  block-of e₀ =
+      let b = eight-bytes s i x bs (parts .0) e in
+      let q = begins-block c (parts .2) e₀ in
+      whole-block kind count bias c g (drop i s) x there-8 (parts .1) (b .0) (b .1) e₀ (q .0) (q .1) (q .2)
+
+-- for the needs of the code
+pub whole-in : (c : Cursor) (rest : ℕ) → whole c rest ≡ true → (8 ≤ rest) × (c .taken + 8 ≤ limit)
+whole-in c rest t = let p = whole-parts c rest t in (p .0, p .1)
+
+pub whole-place : (count : ℕ) (c : Cursor) (rest : ℕ) → Good count c → whole c rest ≡ true → eqb (c .phase) 0 ≡ false → c .place < limit
+whole-place count c rest g t e = let p = whole-parts c rest t in place-in count c g (begins-block c (p .2) e .0) (omega (arith, p .1))

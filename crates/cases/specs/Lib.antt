@@ -1,0 +1,6 @@
+pub mod Cursor
+pub mod Tests
+pub mod Steps
+pub mod Answers
+pub mod Theorem
+pub mod Laws

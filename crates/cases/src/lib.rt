@@ -1,0 +1,328 @@
+// Compressed case data as it arrives (document 02, T-05; source document 004, "Data Record"): a state that goes in and comes back, fed with
+// bytes in any cuts and an output of any room. `crates/case_stream/specs` says what a stream means and what a call does; `specs/Answers.antt`
+// what these functions answer.
+mod bytes; // bytes of the input and of the output
+mod calls; // a call: steps as long as there is one and an element fits
+mod codes; // what a code says
+mod cursors; // a state with one more byte, or one code fewer
+mod steps; // one step of a call
+mod valid; // whether a state is one
+
+ghost use mathlib.Core.Path.{_≡_};
+ghost use lib.ListN.{length};
+ghost use Prim.Native.Nat.{_≤_};
+ghost use Rattle.cases.specs.Answers as spec;
+use crate::calls::run;
+use crate::valid::kinds_ok;
+use crate::valid::state_ok;
+
+// ---- the numbers of 004 and of document 02: `case_stream/specs/Stream.antt` and `specs/Answers.antt` have the same ones for the contracts
+
+// codes: the end of the data, a block, eight spaces, the missing double
+pub const FINISH: u8 = 252;
+
+pub const BLOCK: u8 = 253;
+
+pub const SPACES: u8 = 254;
+
+pub const MISSING: u8 = 255;
+// kinds of elements
+pub const NUMERIC: u8 = 0;
+
+pub const STRING: u8 = 1;
+// the most elements of a case, and the largest bias
+pub const MOST_KINDS: usize = 256;
+
+pub const MOST_BIAS: u32 = 255;
+// the first byte too many
+pub const LIMIT: u32 = 4294967295;
+// refusals: a byte too many, a bad kind list, bias or state, a bad code, the end too soon
+pub const TOO_MANY: u32 = 7;
+
+pub const BAD_STATE: u32 = 21;
+
+pub const BAD_CODE: u32 = 22;
+
+pub const TOO_SOON: u32 = 23;
+
+// ---- phases of a state: a group's codes are gathered; they act; or reading has stopped: by a 252, by 22, by 7
+
+pub const GATHERS: u32 = 0;
+
+pub const ACTS: u32 = 1;
+
+pub const ENDED: u32 = 252;
+
+// A state but for its kinds and bias: the position in the case, the bytes taken, and the phase. `codes` are those gathered, or still to act, the
+// first of them the lowest byte, `left` of them; `place` is the place of the next code, or of 22; `block` has the `filled` bytes of the
+// next code's block. Whatever is not in use is 0.
+pub struct Cursor {
+    pub at: usize,
+    pub taken: u32,
+    pub phase: u32,
+    pub place: u32,
+    pub codes: u64,
+    pub left: usize,
+    pub block: u64,
+    pub filled: usize,
+}
+
+// What a code says to an element: nothing; that the data ends; that its block follows; that it is refused; the element, eight bytes.
+pub enum Verdict {
+    Skip,
+    Finish,
+    Block,
+    Wrong,
+    Gives(u64),
+}
+
+// A step, or eight at once: whether there is one, how many bytes it takes, whether it writes an element.
+pub struct Moved {
+    pub cursor: Cursor,
+    pub goes: bool,
+    pub takes: usize,
+    pub writes: bool,
+    pub element: u64,
+}
+
+// Where a call has come to: bytes taken of its input, elements written to its output.
+pub struct Fed {
+    pub cursor: Cursor,
+    pub taken: usize,
+    pub written: usize,
+}
+
+// The state between calls: the kinds of a case's elements, `count` of them, and the bias; then what the calls change.
+pub struct State {
+    pub kinds: [u8; 256],
+    pub count: usize,
+    pub bias: u32,
+    pub cursor: Cursor,
+}
+
+// A refusal, or 0, and its place.
+pub struct Answer {
+    pub refusal: u32,
+    pub place: u32,
+}
+
+pub struct Started {
+    pub answer: Answer,
+    pub state: State,
+}
+
+pub struct Call {
+    pub state: State,
+    pub answer: Answer,
+    pub taken: usize,
+    pub written: usize,
+}
+
+// The kinds of a list, with 0 for those that aren't there.
+fn padded(kinds: &[u8]) -> [u8; 256]
+    requires { ⌜ length (now kinds) ≤ 256 ⌝ }
+    ensures { λ r. ⌜ r ≡ spec.padded (length (now (kinds .entry))) (now (kinds .entry)) ⌝ }
+{
+    let mut k = [0u8; 256];
+    let mut i: usize = 0;
+    while i < kinds.len() {
+        k[i] = kinds[i];
+        i += 1;
+    }
+    k
+}
+
+// 21, and a state of zeros, which is none.
+fn refused_start() -> Started
+    ensures { λ r. ⌜ r ≡ spec.refused-start ⌝ }
+{
+    let kinds = padded(b"");
+    Started {
+        answer: Answer {
+            refusal: BAD_STATE,
+            place: 0,
+        },
+        state: State {
+            kinds,
+            count: 0,
+            bias: 0,
+            cursor: Cursor {
+                at: 0,
+                taken: 0,
+                phase: GATHERS,
+                place: 0,
+                codes: 0,
+                left: 0,
+                block: 0,
+                filled: 0,
+            },
+        },
+    }
+}
+
+// The state before the first byte, from the kinds of a case's elements, NUMERIC or STRING, and the bias.
+pub fn start(kinds: &[u8], bias: u32) -> Started
+    ensures { λ r. ⌜ r ≡ spec.start-of (now (kinds .entry)) bias ⌝ }
+{
+    let count = kinds.len();
+    let some = 0 < count;
+    if some {
+        let few = count <= MOST_KINDS;
+        if few {
+            let is_bias = bias <= MOST_BIAS;
+            if is_bias {
+                let k = padded(kinds);
+                let good = kinds_ok(count, &k);
+                if good {
+                    Started {
+                        answer: Answer {
+                            refusal: 0,
+                            place: 0,
+                        },
+                        state: State {
+                            kinds: k,
+                            count,
+                            bias,
+                            cursor: Cursor {
+                                at: 0,
+                                taken: 0,
+                                phase: GATHERS,
+                                place: 0,
+                                codes: 0,
+                                left: 0,
+                                block: 0,
+                                filled: 0,
+                            },
+                        },
+                    }
+                } else {
+                    refused_start()
+                }
+            } else {
+                refused_start()
+            }
+        } else {
+            refused_start()
+        }
+    } else {
+        refused_start()
+    }
+}
+
+// The refusal for ever after, of a state that has one.
+fn refusal_of(c: Cursor) -> Answer
+    ensures { λ r. ⌜ r ≡ spec.refusal-at (c .phase) (c .place) ⌝ }
+{
+    let is_bad = c.phase == BAD_CODE;
+    if is_bad {
+        return Answer {
+            refusal: BAD_CODE,
+            place: c.place,
+        };
+    }
+    let is_full = c.phase == TOO_MANY;
+    if is_full {
+        return Answer {
+            refusal: TOO_MANY,
+            place: LIMIT,
+        };
+    }
+    Answer {
+        refusal: 0,
+        place: 0,
+    }
+}
+
+// A call: as many bytes of the input are taken and elements written as can be.
+pub fn feed(s: State, input: &[u8], output: &mut [u8]) -> Call
+    ensures { λ r. ⌜ spec.Called s (now (input .entry)) (now (output .entry)) (now (output .exit)) r ⌝ }
+{
+    let good = state_ok(s);
+    if good {
+        let kinds = s.kinds;
+        let c = s.cursor;
+        let f = run(&kinds, s.count, s.bias as u8, c, input, output);
+        let next = f.cursor;
+        Call {
+            state: State {
+                kinds,
+                count: s.count,
+                bias: s.bias,
+                cursor: next,
+            },
+            answer: refusal_of(next),
+            taken: f.taken,
+            written: f.written,
+        }
+    } else {
+        Call {
+            state: s,
+            answer: Answer {
+                refusal: BAD_STATE,
+                place: 0,
+            },
+            taken: 0,
+            written: 0,
+        }
+    }
+}
+
+// 23 at the bytes taken, unless there is nothing left to do: no code, no part of a group, no part of a case.
+fn unfinished(c: Cursor) -> Answer
+    ensures { λ r. ⌜ r ≡ spec.unfinished-at (c .phase) (c .left) (c .at) (c .taken) ⌝ }
+{
+    let gathers = c.phase == GATHERS;
+    if gathers {
+        let is_empty = c.left == 0;
+        if is_empty {
+            let is_whole = c.at == 0;
+            if is_whole {
+                return Answer {
+                    refusal: 0,
+                    place: 0,
+                };
+            }
+        }
+    }
+    Answer {
+        refusal: TOO_SOON,
+        place: c.taken,
+    }
+}
+
+fn end_of(c: Cursor) -> Answer
+    ensures { λ r. ⌜ r ≡ spec.end-at c ⌝ }
+{
+    let is_ended = c.phase == ENDED;
+    if is_ended {
+        return Answer {
+            refusal: 0,
+            place: 0,
+        };
+    }
+    let is_bad = c.phase == BAD_CODE;
+    if is_bad {
+        return refusal_of(c);
+    }
+    let is_full = c.phase == TOO_MANY;
+    if is_full {
+        return refusal_of(c);
+    }
+    unfinished(c)
+}
+
+// The end of the stream: it changes nothing.
+pub fn finish(s: State) -> Answer
+    ensures { λ r. ⌜ r ≡ spec.finish-of s ⌝ }
+{
+    let good = state_ok(s);
+    if good {
+        let c = s.cursor;
+        end_of(c)
+    } else {
+        Answer {
+            refusal: BAD_STATE,
+            place: 0,
+        }
+    }
+}

@@ -1,0 +1,2 @@
+-- The laws of states as words.
+pub mod Arrays

@@ -1,0 +1,3 @@
+pub mod StateWords
+pub mod Calls
+pub mod Laws
