@@ -5,13 +5,14 @@ use std::fs;
 use std::hint::black_box;
 
 use digarumbi::lent::{
-    self, CASES_FEED_ANSWER, CASES_STATE, CELL_AREA, LONGEST_LOOK, LOOK_ANSWER, MEMBER_ANSWER, NODE_AREA, REWRITE_ANSWER,
+    self, CASES_FEED_ANSWER, CASES_STATE, CELL_AREA, LONGEST_LOOK, LOOK_ANSWER, MEMBER_ANSWER,
+    NODE_AREA, REWRITE_ANSWER,
 };
 use digarumbi_bench::generate::look_bytes;
-use digarumbi_bench::plain_cases::Plain;
 use digarumbi_bench::limits::MEMBER_BYTES;
 use digarumbi_bench::look::{read_look, write_look};
 use digarumbi_bench::member::read_member;
+use digarumbi_bench::plain_cases::Plain;
 use digarumbi_bench::random::Random;
 use digarumbi_versus::large::{
     alike_in_low_bits, ascending, large_unordered, member_of_strings, member_with_cells,
