@@ -23,7 +23,12 @@ pub enum Phase {
     /// Part of a group, fewer than eight codes.
     Group(Vec<u8>),
     /// A group of which the codes from `next` on are still to act, and part of the next one's block.
-    Codes { codes: [u8; 8], first: u64, next: usize, block: Vec<u8> },
+    Codes {
+        codes: [u8; 8],
+        first: u64,
+        next: usize,
+        block: Vec<u8>,
+    },
     Ended,
     Refused(Refusal),
 }

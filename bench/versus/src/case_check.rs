@@ -108,7 +108,11 @@ impl CaseCheck {
             let (mut after, mut answer) = (changed, [0; CASES_FEED_ANSWER]);
             cases_feed(&mut after, &[], &mut [], &mut answer);
             let refused = answer[0] == BAD_STATE;
-            Difference::compare(format!("{changed:?} is no state"), &!is_state(&changed), &refused)?;
+            Difference::compare(
+                format!("{changed:?} is no state"),
+                &!is_state(&changed),
+                &refused,
+            )?;
             Difference::compare("words that were fed nothing", &changed, &after)?;
             let mut answer = [0; CASES_ANSWER];
             cases_end(&changed, &mut answer);

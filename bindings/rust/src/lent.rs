@@ -305,12 +305,7 @@ pub fn cases_start(kinds: &[u8], bias: u32, state: &mut [u32], answer: &mut [u32
 
 /// Takes bytes of the input and writes elements. Returns [`CASES_FEED_ANSWER`], or 0 if `answer`
 /// or `state` has too few words.
-pub fn cases_feed(
-    state: &mut [u32],
-    input: &[u8],
-    output: &mut [u8],
-    answer: &mut [u32],
-) -> usize {
+pub fn cases_feed(state: &mut [u32], input: &[u8], output: &mut [u8], answer: &mut [u32]) -> usize {
     unsafe {
         ffi::digarumbi_cases_feed(
             state.as_mut_ptr(),

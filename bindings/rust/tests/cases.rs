@@ -62,7 +62,10 @@ fn refusals() {
     let expected = (vec![], Some("refused 23 at 8".to_owned()));
     assert_eq!(cases(&[101, 0, 0, 0, 0, 0, 0, 0][..], &[Numeric, Numeric]), expected);
     assert_eq!(Cases::new(DATA, &[], 100).err().map(|refusal| refusal.number), Some(21));
-    assert_eq!(Cases::new(DATA, &[Numeric; 257], 100).err().map(|refusal| refusal.number), Some(21));
+    assert_eq!(
+        Cases::new(DATA, &[Numeric; 257], 100).err().map(|refusal| refusal.number),
+        Some(21)
+    );
     assert_eq!(Cases::new(DATA, &[Numeric], 256).err().map(|refusal| refusal.number), Some(21));
 }
 

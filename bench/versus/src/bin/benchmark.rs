@@ -11,10 +11,10 @@ use digarumbi::lent::{
 use digarumbi_bench::codepages::{from_utf8, to_utf8};
 use digarumbi_bench::contents::contents;
 use digarumbi_bench::generate::look_bytes;
-use digarumbi_bench::plain_cases::Plain;
 use digarumbi_bench::limits::MEMBER_BYTES;
 use digarumbi_bench::look::{read_look, write_look};
 use digarumbi_bench::member::read_member;
+use digarumbi_bench::plain_cases::Plain;
 use digarumbi_bench::random::Random;
 use digarumbi_versus::large::{
     alike_in_low_bits, ascending, large_unordered, member_of_strings, member_with_cells,

@@ -10,7 +10,6 @@ use digarumbi_bench::generate::{any_value, argument_of_value, look_bytes, member
 use digarumbi_bench::limits::MEMBER_BYTES;
 use digarumbi_bench::random::Random;
 use digarumbi_bench::vectors;
-use digarumbi_bench::random::Random;
 use digarumbi_bench::version::Version;
 use digarumbi_versus::case_check::{refused_starts, CaseCheck};
 use digarumbi_versus::difference::Difference;
@@ -183,7 +182,9 @@ fn streams(seed: u64) -> Result<CaseCheck, Difference> {
     let mut check = CaseCheck::default();
     for number in 0..GENERATED_STREAMS {
         let mut random = Random::new(seed.wrapping_add(number << 20));
-        check.stream(&mut random).map_err(|difference| difference.with(format!("stream {number}")))?;
+        check
+            .stream(&mut random)
+            .map_err(|difference| difference.with(format!("stream {number}")))?;
     }
     Ok(check)
 }
