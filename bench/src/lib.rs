@@ -23,6 +23,7 @@ pub mod refusal;
 pub mod sections;
 pub mod seen;
 pub mod stored_looks;
+pub mod stored_streams;
 pub mod stored_values;
 pub mod titles;
 pub mod units;
