@@ -3,3 +3,4 @@ pub mod Sums
 pub mod Words
 pub mod MemberCells
 pub mod Leaves
+pub mod Under
