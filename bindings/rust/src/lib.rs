@@ -20,6 +20,6 @@ mod value;
 pub use cases::{CaseError, Cases, Element, Kind};
 pub use look::{rewrite_look, Area, Frame, Look, Separator, Separators, V2Styles};
 pub use refusal::Refusal;
-pub use table::{part, read_member, Axes, Cell, Dimension, Node, NodeKind, Table};
+pub use table::{part, read_member, Axes, Category, Cell, Dimension, Node, NodeKind, Table};
 pub use units::{font_height, Pt, Px};
 pub use value::{Arguments, Value, ValueBytes, Values};

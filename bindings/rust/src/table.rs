@@ -55,6 +55,9 @@ pub struct Node<'a> {
     pub below: Range<usize>,
 }
 
+/// A category of a dimension, leaf or group: a node.
+pub type Category<'a> = Node<'a>;
+
 #[derive(Clone, Copy, Debug, PartialEq, Eq)]
 pub enum NodeKind {
     Leaf {
