@@ -82,13 +82,17 @@ module _ {bs : List ℕ} (d : MemberDerivation bs) where
           omega (arith, l, d .short, length-take-le long (drop place bs) (omega (arith, length-drop place bs)))
       go false e = omega arith
 
+  -- so each part is read
+  pub part-read : (place long : ℕ) → unread (version (d .tree)) (partOf bs place long) ≡ 0
+  unfolding unread pick
+  part-read place long = rw (le-leb (length (partOf bs place long)) member-bytes (short-part place long), version-known)
+
   -- a part that a Value spells is read as that Value
   part-says : {place long : ℕ} (v : Tree (CellValue (version (d .tree)))) → Points (CellValue (version (d .tree))) bs place long v → Valid (CellValue (version (d .tree))) v
       → (x : Contents) → ValueAnswers (version (d .tree)) (partOf bs place long) x → Says (version (d .tree)) v long x
-  unfolding unread pick contents
+  unfolding contents
   part-says {place} {long} v p h x a =
-      let known : unread (version (d .tree)) (partOf bs place long) ≡ 0 = rw (le-leb (length (partOf bs place long)) member-bytes (short-part place long), version-known) in
-      let e : x ≡ contents (version (d .tree)) v = a .derived known v [] (record { valid = h; split = part-of p ∙ sym (append-nil (spell (CellValue (version (d .tree))) v)) }) in
+      let e : x ≡ contents (version (d .tree)) v = a .derived (part-read place long) v [] (record { valid = h; split = part-of p ∙ sym (append-nil (spell (CellValue (version (d .tree))) v)) }) in
       (e, ap (λ (c : Contents). c .length) e ∙ sym (p .length-of))
 
   -- Node: two words of its record

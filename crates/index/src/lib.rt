@@ -22,18 +22,25 @@ fn times(p: u64, n: u32) -> u64
     if q <= TOO_MANY { q } else { TOO_MANY }
 }
 
-// The product of the n of d dimensions, as far as one too large. An n of 0 makes it 0, even after the limit was met.
-pub fn product_of(dims: &[u32], d: usize) -> u64
-    ensures { λ r. ⌜ r ≡ min (spec.product (spec.sizes (now (dims .entry)) 0 (min d most-dimensions))) (most-places + 1) ⌝ }
+// The product of the n of the `count` dimensions from dimension i on, as far as one too large; more than there can be count as so many. An n of 0
+// makes it 0, even after the limit was met.
+pub fn product_from(dims: &[u32], i: usize, count: usize) -> u64
+    ensures { λ r. ⌜ r ≡ min (spec.product (spec.sizes (now (dims .entry)) (min i most-dimensions) (min count most-dimensions))) (most-places + 1) ⌝ }
 {
-    let d = at_most(d, MOST_DIMENSIONS);
+    let mut i = at_most(i, MOST_DIMENSIONS);
+    let mut left = at_most(count, MOST_DIMENSIONS);
     let mut p: u64 = 1;
-    let mut i = 0;
-    let mut left = d;
     while 0 < left {
         p = times(p, word(dims, DIMENSION_WORDS * i + DIMENSION_N));
         i += 1;
         left -= 1;
     }
     p
+}
+
+// The product of the n of d dimensions, likewise.
+pub fn product_of(dims: &[u32], d: usize) -> u64
+    ensures { λ r. ⌜ r ≡ min (spec.product (spec.sizes (now (dims .entry)) 0 (min d most-dimensions))) (most-places + 1) ⌝ }
+{
+    product_from(dims, 0, d)
 }

@@ -4,3 +4,7 @@ pub mod Words
 pub mod MemberCells
 pub mod Leaves
 pub mod Under
+pub mod LeafSums
+pub mod Leaf
+pub mod Dims
+pub mod LeafIs

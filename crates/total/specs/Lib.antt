@@ -1,3 +1,4 @@
 pub mod Count
 pub mod Total
+pub mod Answers
 pub mod Laws

@@ -78,7 +78,7 @@ module _ {bs : List ℕ} (d : MemberDerivation bs) where
       let start : length before + 4 ≡ dimensionsAt t = rw (length-append, body-start) in
       rw start at (after-count bs before n (all ++ rest) (sym (d .spells) ∙ joined))
 
-  cells-there : drop (cellsStart (d .tree)) bs ≡ spellAll (spell (Cell (version (d .tree)))) (cells (d .tree)) ++ final (d .ends)
+  pub cells-there : drop (cellsStart (d .tree)) bs ≡ spellAll (spell (Cell (version (d .tree)))) (cells (d .tree)) ++ final (d .ends)
   unfolding spell size
   cells-there =
       let t = d .tree in

@@ -39,7 +39,7 @@ value-of-bytes version s v known e h =
 -- ---- the words of one record, after those before it
 
 -- the word m of what follows
-later-word : (pre ys : List ℕ) (i m : ℕ) → i ≡ length pre + m → word (pre ++ ys) i ≡ getD ys m 0
+pub later-word : (pre ys : List ℕ) (i m : ℕ) → i ≡ length pre + m → word (pre ++ ys) i ≡ getD ys m 0
 unfolding word
 later-word pre ys i m e = rw e (getD-append-add pre ys m 0)
 

@@ -8,24 +8,24 @@ use native.Mathlib.Nat.{min-eq-left, mul-one, one-mul}
 use Rattle.index.proofs.Capped.{more}
 use lib.Dec.{lit≤}
 use Rattle.index.proofs.Walk.{at-size}
-use Rattle.index.proofs.product_of.Statement.{statement}
-use Rattle.index.proofs.product_of.Tie as tie
+use Rattle.index.proofs.product_from.Statement.{statement}
+use Rattle.index.proofs.product_from.Tie as tie
 
-pub product-of-spec : {M : Type 1} → statement M
+pub product-from-spec : {M : Type 1} → statement M
 unfolding spec.product spec.sizes
-product-of-spec =
+product-from-spec =
     tie.close
     (tie.spec
-    (λ dims d d′ p₀ i₀ left₀ p i left.
-    (i + left ≤ most-dimensions)
+    (λ dims i count i₀ left₀ p₀ i′ left p.
+    (i′ + left ≤ most-dimensions + most-dimensions)
     × (p ≤ most-places + 1)
-    × (min (p * spec.product (spec.sizes dims i left)) (most-places + 1) ≡ min (spec.product (spec.sizes dims 0 (min d most-dimensions))) (most-places + 1)))
-    (λ dims d d′ p₀ i₀ left₀ p i left. left) (λ _ _. tt)
-    (λ c. (omega arith, lit≤ tt, simp (one-mul, c .at-most .ensures))) (λ c. omega arith)
+    × (min (p * spec.product (spec.sizes dims i′ left)) (most-places + 1) ≡ min (spec.product (spec.sizes dims (min i most-dimensions) (min count most-dimensions))) (most-places + 1)))
+    (λ dims i count i₀ left₀ p₀ i′ left p. left) (λ _ _. tt) (λ _ _. tt)
+    (λ c. (omega (arith, c .at-most2 .ensures, c .before .at-most .ensures), lit≤ tt, simp (one-mul, c .at-most2 .ensures, c .before .at-most .ensures))) (λ c. omega arith)
     (λ c. omega arith) (λ _ _. tt) (λ c κs. omega arith) (λ c. omega arith) (λ c. omega arith) (λ c. omega arith)
     (λ c.
     let l = c .before .before .before in
-    let s = at-size (l .before .before .before .args .dims .now) (l .loop .i) (l .loop .left) (omega arith) in
+    let s = at-size (l .before .before .before .before .args .dims .now) (l .loop .i) (l .loop .left) (omega arith) in
     (omega arith, omega arith, more (most-places + 1) (l .loop .p) (c .times .ensures) (c .before .word .ensures) s (l .loop .inv .2)))
     (λ c.
     let l = c .before .loop in

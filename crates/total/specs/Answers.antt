@@ -1,0 +1,72 @@
+-- What is answered for a leaf, and what the lent areas then hold (document 02, T-01).
+use mathlib.Core.Path.{_≡_}
+use mathlib.Core.Bool.{Bool, _&&_}
+use mathlib.Core.List.{List}
+use Prim.Native.Nat.{ℕ, _<_}
+use lib.ListN.{length, getD}
+use lib.Dec.{eqb, ltb}
+use lib.IntN.{pos}
+use lib.Ieee.{Float, binary64, ofInt}
+use Rattle.layout.specs.Layout.{pick, Tree}
+use Rattle.layout.specs.Read.{Got, got, no}
+use Rattle.member.specs.Member.{Member, dimensions, nodes, cells, ns}
+use Rattle.member.specs.Answer.{wide, long, nodesAfter, cellsAfter}
+use Rattle.member.specs.Checked.{checked}
+use Rattle.total.specs.declared.sums.Sums.{Sums}
+use Rattle.total.specs.declared.Total.{Total}
+use Rattle.total.specs.Total.{leafSums}
+
+-- a whole number as the double that it is
+abbrev pub double : ℕ → Float
+double n = ofInt binary64 (pos n)
+
+-- "All totals are then 0"; 12 and 13 have the counts of nodes and cells
+abbrev pub refused : ℕ → ℕ → ℕ → ℕ → Total
+refused n p node-count cell-count = record {
+  refusal = n;
+  place = p;
+  nodes = node-count;
+  cells = cell-count;
+  total = 0;
+  numbers = 0;
+  texts = 0;
+  missing = 0;
+  smallest = double 0;
+  largest = double 0;
+}
+
+-- the sums of a leaf that is there, in a member with so many nodes and cells: "20 at the Value of the leaf's first bad cell in file order"
+abbrev pub answered : ℕ → ℕ → Sums → Total
+answered node-count cell-count s =
+    pick (s .bad) (refused 20 (s .place) 0 0)
+    (record {
+      refusal = 0;
+      place = 0;
+      nodes = node-count;
+      cells = cell-count;
+      total = s .total;
+      numbers = s .numbers;
+      texts = s .texts;
+      missing = s .missing;
+      smallest = double (s .smallest);
+      largest = double (s .largest);
+    })
+
+-- "19 at place 0 for a dimension or leaf that isn't there"
+abbrev pub there : Tree Member → ℕ → ℕ → Bool
+there t dimension leaf = ltb dimension (length (dimensions t)) && ltb leaf (getD (ns t) dimension 0)
+
+unfoldable pub leafAnswer : Tree Member → ℕ → ℕ → Total
+leafAnswer t dimension leaf = pick (there t dimension leaf) (answered (nodes t) (length (cells t)) (leafSums t dimension leaf)) (refused 19 0 0 0)
+
+-- "the member's own first": 12 and 13 too
+unfoldable pub totalAnswer : Got (Tree Member) → ℕ → ℕ → ℕ → ℕ → Total
+totalAnswer (no n p) node-length cell-length dimension leaf = refused n p 0 0
+totalAnswer (got t r p) node-length cell-length dimension leaf =
+    pick (wide t node-length) (pick (long t cell-length) (leafAnswer t dimension leaf) (refused 13 0 (nodes t) (length (cells t)))) (refused 12 0 (nodes t) (length (cells t)))
+
+-- a call: "The same two areas are lent and then hold the records"; "lent areas unchanged" after a refusal
+pub record Totalled (bs node-words cell-words : List ℕ) (dimension leaf : ℕ) (r : Total) (node-words′ cell-words′ : List ℕ) : Type 0 where
+  pub answer : r ≡ totalAnswer (checked bs) (length node-words) (length cell-words) dimension leaf
+  pub node-area : node-words′ ≡ pick (eqb (r .refusal) 0) (nodesAfter (checked bs) node-words (length cell-words)) node-words
+  pub cell-area : cell-words′ ≡ pick (eqb (r .refusal) 0) (cellsAfter (checked bs) (length node-words) cell-words) cell-words
