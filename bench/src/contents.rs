@@ -72,6 +72,15 @@ pub fn argument_contents(version: u32, bytes: &[u8]) -> Result<ArgumentContents,
     Ok(ArgumentContents { length: cursor.place(), values, first })
 }
 
+/// The double of an accepted cell's Value that is a number, without a look at what follows it.
+pub(crate) fn cell_number(version: Version, value: &[u8]) -> Option<u64> {
+    let mut cursor = Cursor::after_zeros(value, version.cell_zeros());
+    match cursor.byte() {
+        Ok(0x01 | 0x02) => number(&mut cursor, version).ok().map(|number| number.bits),
+        _ => None,
+    }
+}
+
 /// The version with this number, where the bytes are not too many.
 fn start(version: u32, bytes: &[u8]) -> Result<Version, Refusal> {
     refuse_if(bytes.len() > MEMBER_BYTES, TOO_LONG, 0)?;

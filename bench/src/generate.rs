@@ -1,5 +1,6 @@
 //! Generates accepted members and looks, with all their productions and optional parts.
 
+mod counts;
 mod field;
 mod look;
 mod settings;
@@ -7,6 +8,7 @@ mod table;
 mod titles;
 mod value;
 
+pub use counts::member_with_counts;
 pub use look::{look_bytes, look_to_write, LookToWrite};
 pub use value::{any_value, argument_of_value};
 

@@ -26,6 +26,7 @@ pub mod stored_looks;
 pub mod stored_streams;
 pub mod stored_values;
 pub mod titles;
+pub mod totals;
 pub mod units;
 pub mod value;
 pub mod vectors;

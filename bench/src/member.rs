@@ -46,24 +46,75 @@ const SECTIONS: [Section; 7] = [
     sections::formats,
 ];
 
-struct Member {
-    dimensions: Dimensions,
-    axes: Axes,
-    cells: Vec<Cell>,
+pub(crate) struct Member {
+    pub version: Version,
+    pub dimensions: Dimensions,
+    pub axes: Axes,
+    pub cells: Vec<Cell>,
 }
 
 /// Reads a member. Writes its records into the two lent areas if it is accepted.
 pub fn read_member(member: &[u8], nodes: &mut [u32], cells: &mut [u32]) -> Answer {
-    let parsed = match parse(member) {
-        Ok(parsed) => parsed,
-        Err(refusal) => return refused(refusal),
-    };
-    if let Some(answer) = area_too_short(&parsed, nodes.len(), cells.len()) {
-        return answer;
+    match parse_for_areas(member, nodes, cells) {
+        Ok(parsed) => {
+            parsed.write_records(nodes, cells);
+            accepted(&parsed)
+        }
+        Err(refused) => refused.into(),
     }
-    write_records(parsed.dimensions.nodes.iter().map(node_record), nodes);
-    write_records(parsed.cells.iter().map(cell_record), cells);
-    accepted(&parsed)
+}
+
+/// Why nothing was read.
+#[derive(Clone, Copy, Debug, PartialEq, Eq)]
+pub struct Refused {
+    pub refusal: Refusal,
+    /// Numbers of nodes and cells, where an area is too short for them.
+    pub counts: [u32; 2],
+}
+
+impl From<Refusal> for Refused {
+    fn from(refusal: Refusal) -> Refused {
+        Refused { refusal, counts: [0, 0] }
+    }
+}
+
+impl From<Refused> for Answer {
+    fn from(refused: Refused) -> Answer {
+        let Refused { refusal, counts: [node_count, cell_count] } = refused;
+        let (refusal, place) = (refusal.number, refusal.place as u32);
+        Answer { refusal, place, node_count, cell_count, ..Answer::default() }
+    }
+}
+
+/// An accepted member whose records fit in the areas, which stay as they are.
+pub(crate) fn parse_for_areas(
+    member: &[u8],
+    nodes: &[u32],
+    cells: &[u32],
+) -> Result<Member, Refused> {
+    let parsed = parse(member)?;
+    let counts = parsed.counts();
+    let short = |number: u32| Refused { refusal: Refusal::new(number, 0), counts };
+    let [node_count, cell_count] = counts.map(|count| count as usize);
+    if nodes.len() < NODE_WORDS * node_count {
+        return Err(short(NODE_AREA));
+    }
+    if cells.len() < CELL_WORDS * cell_count {
+        return Err(short(CELL_AREA));
+    }
+    Ok(parsed)
+}
+
+impl Member {
+    /// Numbers of nodes and cells.
+    pub fn counts(&self) -> [u32; 2] {
+        [self.dimensions.nodes.len() as u32, self.cells.len() as u32]
+    }
+
+    pub fn write_records(&self, nodes: &mut [u32], cells: &mut [u32]) {
+        write_records(self.dimensions.nodes.iter().map(node_record), nodes);
+        write_records(self.cells.iter().map(cell_record), cells);
+    }
 }
 
 fn parse(member: &[u8]) -> Result<Member, Refusal> {
@@ -79,7 +130,7 @@ fn parse(member: &[u8]) -> Result<Member, Refusal> {
     let cells = cells(&mut cursor, version, axes.table_places)?;
     cursor.optional_byte(0x01);
     cursor.input_end()?;
-    Ok(Member { dimensions, axes, cells })
+    Ok(Member { version, dimensions, axes, cells })
 }
 
 /// The place after each section before Dimensions, as far as they are read.
@@ -99,26 +150,6 @@ fn push_section_ends(member: &[u8], ends: &mut Vec<usize>) -> Result<(), Refusal
         ends.push(cursor.place());
     }
     Ok(())
-}
-
-fn refused(refusal: Refusal) -> Answer {
-    Answer { refusal: refusal.number, place: refusal.place as u32, ..Answer::default() }
-}
-
-fn area_too_short(member: &Member, node_words: usize, cell_words: usize) -> Option<Answer> {
-    let nodes = member.dimensions.nodes.len();
-    let cells = member.cells.len();
-    let number = if node_words < NODE_WORDS * nodes {
-        NODE_AREA
-    } else if cell_words < CELL_WORDS * cells {
-        CELL_AREA
-    } else {
-        return None;
-    };
-    let mut answer = refused(Refusal::new(number, 0));
-    answer.node_count = nodes as u32;
-    answer.cell_count = cells as u32;
-    Some(answer)
 }
 
 fn accepted(member: &Member) -> Answer {

@@ -1,10 +1,11 @@
 //! Generated members: accepted ones give the records they were made from.
 
 use digarumbi_bench::damage::damaged;
-use digarumbi_bench::generate::{member, GeneratedMember};
+use digarumbi_bench::generate::{member, member_with_counts, GeneratedMember};
 use digarumbi_bench::member::{read_member, section_ends, Answer, CELL_WORDS, NODE_WORDS};
 use digarumbi_bench::random::Random;
 use digarumbi_bench::refusal::VERSION;
+use digarumbi_bench::totals::{total, totals};
 use digarumbi_bench::version::Version;
 
 const UNTOUCHED: u32 = 0x5555_aaaa;
@@ -55,6 +56,38 @@ fn both_versions_are_generated() {
     };
     let empty = ones.iter().filter(formats_empty).count();
     assert!(0 < empty && empty < ones.len());
+}
+
+/// Members with counts are accepted, with leaves that have a total and with ones that have none; all
+/// leaves at once get the same as one by one, and where no cell is refused the sums are the same.
+#[test]
+fn totals_of_members_with_counts() {
+    let (mut with_total, mut without, mut same_sums) = (0, 0, 0);
+    for seed in 0..2_000 {
+        let bytes = member_with_counts(&mut Random::new(seed));
+        let (mut nodes, mut cells) = (vec![0; NODE_WORDS * 400], vec![0; CELL_WORDS * 24]);
+        let answer = read_member(&bytes, &mut nodes, &mut cells);
+        assert_eq!(answer.refusal, 0, "seed {seed}");
+        let mut sums = Vec::new();
+        for dimension in 0..answer.dimension_count {
+            let all = totals(&bytes, dimension, 400, &mut nodes, &mut cells).expect("totals").found;
+            assert_eq!(all.len(), answer.dimensions[dimension as usize].leaves as usize);
+            for (leaf, expected) in all.iter().enumerate() {
+                let one = total(&bytes, dimension, leaf as u32, &mut nodes, &mut cells);
+                let one = one.map(|found| found.found).map_err(|refused| refused.refusal);
+                assert_eq!(one, *expected, "seed {seed}");
+            }
+            let good = all.iter().flatten();
+            with_total += good.clone().filter(|total| total.numbers > 1).count();
+            without += all.len() - good.clone().count();
+            sums.push(all.iter().all(Result::is_ok).then(|| good.map(|t| t.total).sum::<u64>()));
+        }
+        if let [Some(first), _, ..] = sums[..] {
+            assert!(sums.iter().all(|&sum| sum == Some(first)), "seed {seed}");
+            same_sums += usize::from(first > 0);
+        }
+    }
+    assert!(with_total > 1_000 && without > 500 && same_sums > 300);
 }
 
 #[test]

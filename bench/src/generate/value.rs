@@ -26,6 +26,27 @@ pub fn any_value(random: &mut Random, version: Version) -> Vec<u8> {
     [zeros, raw_value(random, version, levels)].concat()
 }
 
+/// A cell's own Value that is a number with these bits, with labels or without.
+pub fn cell_number(random: &mut Random, version: Version, bits: u64) -> Vec<u8> {
+    let zeros = zeros(random, version.cell_zeros());
+    let number = [value_mod(random, version), int32(random), encode::int64(bits)].concat();
+    if random.once_in(2) {
+        return [zeros, vec![0x01], number].concat();
+    }
+    let label = strings(random, 2);
+    [zeros, vec![0x02], number, label, vec![random.byte()]].concat()
+}
+
+/// A cell's own Value that is no number; many have numbers inside.
+pub fn cell_text(random: &mut Random, version: Version) -> Vec<u8> {
+    loop {
+        let value = any_value(random, version);
+        if !matches!(value.iter().find(|&&byte| byte != 0), Some(0x01 | 0x02)) {
+            return value;
+        }
+    }
+}
+
 /// An argument of such a Value.
 pub fn argument_of_value(random: &mut Random, version: Version) -> Vec<u8> {
     let levels = 2 + random.size(VALUE_DEPTH as usize - 2);
