@@ -123,6 +123,25 @@ leaf-total-words = 11
 abbrev pub repeat-steps : ℕ
 repeat-steps = 48
 
+-- ---- document 02, T-09
+
+-- "for up to 64 members"
+abbrev pub most-members : ℕ
+most-members = 64
+
+-- the answer for a list of members, before those of its members: the refusal and its place
+abbrev pub members-answer-words : ℕ
+members-answer-words = 2
+
+-- ---- document 02, T-11
+
+-- a cell's position as words: the refusal, its place, layer, row, column; and the index of a position: the refusal, its place, the index
+abbrev pub position-answer-words : ℕ
+position-answer-words = 5
+
+abbrev pub index-answer-words : ℕ
+index-answer-words = 3
+
 -- ---- the interface for C
 
 -- its version, which the header has too: 2 since a node record has seven words (our rule)

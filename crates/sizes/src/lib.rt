@@ -71,6 +71,20 @@ pub const TOTALS_ANSWER_WORDS: usize = 5;
 
 pub const LEAF_TOTAL_WORDS: usize = 11;
 
+// ---- document 02, T-09
+
+// the most members of a list, and the words of the answer before those of the members: the refusal and its place
+pub const MOST_MEMBERS: usize = 64;
+
+pub const MEMBERS_ANSWER_WORDS: usize = 2;
+
+// ---- document 02, T-11
+
+// a cell's position as words: the refusal, its place, layer, row, column; and the index of a position: the refusal, its place, the index
+pub const POSITION_ANSWER_WORDS: usize = 5;
+
+pub const INDEX_ANSWER_WORDS: usize = 3;
+
 // ---- the interface for C
 
 // its version, which the header has too: 2 since a node record has seven words (our rule)
