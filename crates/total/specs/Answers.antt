@@ -12,8 +12,10 @@ use Rattle.layout.specs.Read.{Got, got, no}
 use Rattle.member.specs.Member.{Member, dimensions, nodes, cells, ns}
 use Rattle.member.specs.Answer.{wide, long, nodesAfter, cellsAfter}
 use Rattle.member.specs.Checked.{checked}
+use Rattle.member.specs.Refused.{RefusedWith}
+use Rattle.member.specs.Demand3.{Accepted}
 use Rattle.total.specs.declared.sums.Sums.{Sums}
-use Rattle.total.specs.declared.Total.{Total}
+use Rattle.total.specs.declared.LeafTotal.{LeafTotal}
 use Rattle.total.specs.Total.{leafSums}
 
 -- a whole number as the double that it is
@@ -21,7 +23,7 @@ abbrev pub double : ℕ → Float
 double n = ofInt binary64 (pos n)
 
 -- "All totals are then 0"; 12 and 13 have the counts of nodes and cells
-abbrev pub refused : ℕ → ℕ → ℕ → ℕ → Total
+abbrev pub refused : ℕ → ℕ → ℕ → ℕ → LeafTotal
 refused n p node-count cell-count = record {
   refusal = n;
   place = p;
@@ -36,7 +38,7 @@ refused n p node-count cell-count = record {
 }
 
 -- the sums of a leaf that is there, in a member with so many nodes and cells: "20 at the Value of the leaf's first bad cell in file order"
-abbrev pub answered : ℕ → ℕ → Sums → Total
+abbrev pub answered : ℕ → ℕ → Sums → LeafTotal
 answered node-count cell-count s =
     pick (s .bad) (refused 20 (s .place) 0 0)
     (record {
@@ -56,17 +58,24 @@ answered node-count cell-count s =
 abbrev pub there : Tree Member → ℕ → ℕ → Bool
 there t dimension leaf = ltb dimension (length (dimensions t)) && ltb leaf (getD (ns t) dimension 0)
 
-unfoldable pub leafAnswer : Tree Member → ℕ → ℕ → Total
+unfoldable pub leafAnswer : Tree Member → ℕ → ℕ → LeafTotal
 leafAnswer t dimension leaf = pick (there t dimension leaf) (answered (nodes t) (length (cells t)) (leafSums t dimension leaf)) (refused 19 0 0 0)
 
 -- "the member's own first": 12 and 13 too
-unfoldable pub totalAnswer : Got (Tree Member) → ℕ → ℕ → ℕ → ℕ → Total
+unfoldable pub totalAnswer : Got (Tree Member) → ℕ → ℕ → ℕ → ℕ → LeafTotal
 totalAnswer (no n p) node-length cell-length dimension leaf = refused n p 0 0
 totalAnswer (got t r p) node-length cell-length dimension leaf =
     pick (wide t node-length) (pick (long t cell-length) (leafAnswer t dimension leaf) (refused 13 0 (nodes t) (length (cells t)))) (refused 12 0 (nodes t) (length (cells t)))
 
 -- a call: "The same two areas are lent and then hold the records"; "lent areas unchanged" after a refusal
-pub record Totalled (bs node-words cell-words : List ℕ) (dimension leaf : ℕ) (r : Total) (node-words′ cell-words′ : List ℕ) : Type 0 where
+pub record Totalled (bs node-words cell-words : List ℕ) (dimension leaf : ℕ) (r : LeafTotal) (node-words′ cell-words′ : List ℕ) : Type 0 where
   pub answer : r ≡ totalAnswer (checked bs) (length node-words) (length cell-words) dimension leaf
   pub node-area : node-words′ ≡ pick (eqb (r .refusal) 0) (nodesAfter (checked bs) node-words (length cell-words)) node-words
   pub cell-area : cell-words′ ≡ pick (eqb (r .refusal) 0) (cellsAfter (checked bs) (length node-words) cell-words) cell-words
+
+-- the same without a reader, by the derivation that demand 3 speaks of
+pub record ByDerivation (bs : List ℕ) (node-length cell-length dimension leaf : ℕ) (r : LeafTotal) : Type 0 where
+  -- "Given an accepted member": what its derivation says of the leaf
+  pub of-accepted : (m : Accepted bs node-length cell-length) → r ≡ leafAnswer (m .derivation .tree) dimension leaf
+  -- "Refusals: the member's own first"; "All totals are then 0"
+  pub of-refused : (n p : ℕ) → RefusedWith bs node-length cell-length n p → r ≡ refused n p (r .nodes) (r .cells)

@@ -8,3 +8,7 @@ pub mod LeafSums
 pub mod Leaf
 pub mod Dims
 pub mod LeafIs
+pub mod Rooms
+pub mod Reading
+pub mod Call
+pub mod ByDerivation

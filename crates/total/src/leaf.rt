@@ -2,9 +2,9 @@
 ghost use mathlib.Core.Path.{_≡_};
 ghost use Rattle.total.specs.Answers as spec;
 ghost use Rattle.total.specs.Laws.Leaf as words;
-use crate::Total;
-use crate::cells::sums_under;
+use crate::LeafTotal;
 use crate::sums::Sums;
+use crate::under::sums_under;
 use index::product_from;
 use layout::LITTLE;
 use layout::Step;
@@ -18,10 +18,10 @@ use sizes::DIMENSION_N;
 use sizes::DIMENSION_WORDS;
 use sizes::MOST_CELLS;
 
-pub fn refused(n: u32, p: usize, nodes: u32, cells: u32) -> Total
+pub fn refused(n: u32, p: usize, nodes: u32, cells: u32) -> LeafTotal
     ensures { λ r. ⌜ r ≡ spec.refused n p nodes cells ⌝ }
 {
-    Total {
+    LeafTotal {
         refusal: n,
         place: p,
         nodes,
@@ -35,13 +35,13 @@ pub fn refused(n: u32, p: usize, nodes: u32, cells: u32) -> Total
     }
 }
 
-fn answered(nodes: u32, cells: u32, s: Sums) -> Total
+fn answered(nodes: u32, cells: u32, s: Sums) -> LeafTotal
     ensures { λ r. ⌜ r ≡ spec.answered nodes cells s ⌝ }
 {
     if s.bad {
         return refused(20, s.place, 0, 0);
     }
-    Total {
+    LeafTotal {
         refusal: 0,
         place: 0,
         nodes,
@@ -89,7 +89,13 @@ fn leaf_sums(member: &[u8], a: Answer, records: &[u32], dimension: u32, leaf: u3
 }
 
 // What is answered for a leaf of an accepted member.
-pub fn leaf_answer(member: &[u8], a: Answer, records: &[u32], dimension: u32, leaf: u32) -> Total
+pub fn leaf_answer(
+    member: &[u8],
+    a: Answer,
+    records: &[u32],
+    dimension: u32,
+    leaf: u32,
+) -> LeafTotal
     ensures { λ r. ⌜ r ≡ words.wordAnswer (now (member .entry)) a (now (records .entry)) dimension leaf ⌝ }
 {
     let dims = a.dimensions;

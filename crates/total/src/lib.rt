@@ -1,13 +1,33 @@
 // The total of the cells under a leaf (document 02, T-01).
-mod cells; // the cells of a member
+mod call; // a call for a leaf
 mod count; // which doubles are counts
 mod leaf; // a leaf of an accepted member
 mod sums; // sums over cells
+mod under; // the cells under a leaf
+
+ghost use Prim.Native.Nat.{_≤_};
+ghost use lib.ListN.{length};
+ghost use Rattle.member.specs.Laws.Whole.{short-member};
+ghost use Rattle.total.specs.Answers.{Totalled, ByDerivation};
+use crate::call::with_lists;
+use cells::LEAST_CELL;
+use sizes::CELL_AREA;
+use sizes::CELL_WORDS;
+use sizes::NODE_AREA;
+use sizes::NODE_WORDS;
+use table::LEAST_CATEGORY;
+
+// The bytes of a short member, and the words for the records that so many bytes hold at most.
+const SHORT_MEMBER: usize = 4608;
+
+const SHORT_NODE_LIST: usize = SHORT_MEMBER / LEAST_CATEGORY * NODE_WORDS;
+
+const SHORT_CELL_LIST: usize = SHORT_MEMBER / LEAST_CELL * CELL_WORDS;
 
 // What is answered for a leaf: the refusal, or 0, and its place; how many nodes and cells there are; the total of the numbers under the
 // leaf, how many numbers, texts and missing ones there are, the smallest number and the largest. All but the first two are 0 after a
 // refusal, the counts of nodes and cells not with 12 and 13.
-pub struct Total {
+pub struct LeafTotal {
     pub refusal: u32,
     pub place: usize,
     pub nodes: u32,
@@ -18,4 +38,70 @@ pub struct Total {
     pub missing: u32,
     pub smallest: f64,
     pub largest: f64,
+}
+
+// Of a short member: short lists are sooner cleared.
+fn total_short(
+    member: &[u8],
+    dimension: u32,
+    leaf: u32,
+    nodes: &mut [u32],
+    cells: &mut [u32],
+) -> LeafTotal
+    requires { ⌜ length (now member) ≤ short-member ⌝ }
+    ensures { λ r. ⌜ Totalled (now (member .entry)) (now (nodes .entry)) (now (cells .entry)) dimension leaf r (now (nodes .exit)) (now (cells .exit)) ⌝ }
+{
+    let mut node_list = [0u32; SHORT_NODE_LIST];
+    let mut cell_list = [0u32; SHORT_CELL_LIST];
+    with_lists(
+        member,
+        dimension,
+        leaf,
+        &mut node_list,
+        &mut cell_list,
+        nodes,
+        cells,
+    )
+}
+
+// Of a member of any length.
+fn total_long(
+    member: &[u8],
+    dimension: u32,
+    leaf: u32,
+    nodes: &mut [u32],
+    cells: &mut [u32],
+) -> LeafTotal
+    ensures { λ r. ⌜ Totalled (now (member .entry)) (now (nodes .entry)) (now (cells .entry)) dimension leaf r (now (nodes .exit)) (now (cells .exit)) ⌝ }
+{
+    let mut node_list = [0u32; NODE_AREA];
+    let mut cell_list = [0u32; CELL_AREA];
+    with_lists(
+        member,
+        dimension,
+        leaf,
+        &mut node_list,
+        &mut cell_list,
+        nodes,
+        cells,
+    )
+}
+
+// The total of the cells under a leaf of a dimension. On a refusal both areas hold what they held; else the records, and beyond them what
+// was there.
+pub fn total(
+    member: &[u8],
+    dimension: u32,
+    leaf: u32,
+    nodes: &mut [u32],
+    cells: &mut [u32],
+) -> LeafTotal
+    ensures answers { λ r. ⌜ Totalled (now (member .entry)) (now (nodes .entry)) (now (cells .entry)) dimension leaf r (now (nodes .exit)) (now (cells .exit)) ⌝ }
+    ensures demands { λ r. ⌜ ByDerivation (now (member .entry)) (length (now (nodes .entry))) (length (now (cells .entry))) dimension leaf r ⌝ }
+{
+    if member.len() <= SHORT_MEMBER {
+        total_short(member, dimension, leaf, nodes, cells)
+    } else {
+        total_long(member, dimension, leaf, nodes, cells)
+    }
 }

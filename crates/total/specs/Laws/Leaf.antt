@@ -11,7 +11,7 @@ use Rattle.once.specs.Once.{word}
 use Rattle.index.specs.Index.{sizes, product}
 use Rattle.member.specs.declared.Answer.{Answer}
 use Rattle.total.specs.declared.sums.Sums.{Sums}
-use Rattle.total.specs.declared.Total.{Total}
+use Rattle.total.specs.declared.LeafTotal.{LeafTotal}
 use Rattle.total.specs.Total.{sums}
 use Rattle.total.specs.Answers.{refused, answered}
 use Rattle.total.specs.Laws.Words.{recordsSay, underBy}
@@ -30,5 +30,5 @@ wordSums bs a ws i leaf = sums (underBy (placesOf (a .dimensions) (a .dims) i) (
 unfoldable pub thereOf : List ℕ → ℕ → ℕ → ℕ → Bool
 thereOf dims d i leaf = ltb i d && ltb leaf (word dims (dimension-words * i + dimension-n))
 
-unfoldable pub wordAnswer : List ℕ → Answer → List ℕ → ℕ → ℕ → Total
+unfoldable pub wordAnswer : List ℕ → Answer → List ℕ → ℕ → ℕ → LeafTotal
 wordAnswer bs a ws i leaf = pick (thereOf (a .dimensions) (a .dims) i leaf) (answered (a .nodes) (a .cells) (wordSums bs a ws i leaf)) (refused 19 0 0 0)

@@ -4,8 +4,8 @@ use native.Mathlib.Omega.{arith}
 use Rattle.layout.specs.Steps.Slices.{bytes-of}
 use Rattle.total.specs.Laws.Sums.{room}
 use Rattle.total.specs.Laws.Words.{underBy, recordSays, cell-added, cell-left, part-says}
-use Rattle.total.proofs.cells.with_cell.Statement.{statement}
-use Rattle.total.proofs.cells.with_cell.Tie as tie
+use Rattle.total.proofs.under.with_cell.Statement.{statement}
+use Rattle.total.proofs.under.with_cell.Tie as tie
 
 pub with-cell-spec : {M : Type 1} → statement M
 with-cell-spec =

@@ -1,8 +1,8 @@
 use borrow.Author.Needs.{needs}
 use mathlib.Core.Path.{sym}
 use native.Mathlib.Nat.{div-zero}
-use Rattle.total.proofs.cells.quotient.Statement.{statement}
-use Rattle.total.proofs.cells.quotient.Tie as tie
+use Rattle.total.proofs.under.quotient.Statement.{statement}
+use Rattle.total.proofs.under.quotient.Tie as tie
 
 pub quotient-spec : {M : Type 1} → statement M
 quotient-spec =

@@ -5,8 +5,8 @@ use native.Mathlib.Nat.{sub-self, sub-zero}
 use native.Mathlib.Omega.{arith}
 use Rattle.total.specs.Total.{sums}
 use Rattle.total.specs.Laws.Words.{underBy, recordsSay, before-others, records-within}
-use Rattle.total.proofs.cells.sums_under.Statement.{statement}
-use Rattle.total.proofs.cells.sums_under.Tie as tie
+use Rattle.total.proofs.under.sums_under.Statement.{statement}
+use Rattle.total.proofs.under.sums_under.Tie as tie
 
 pub sums-under-spec : {M : Type 1} → statement M
 unfolding sums recordsSay

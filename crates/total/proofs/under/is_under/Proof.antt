@@ -1,7 +1,7 @@
 use borrow.Author.Needs.{needs}
 use Rattle.total.specs.Laws.Words.{underBy}
-use Rattle.total.proofs.cells.is_under.Statement.{statement}
-use Rattle.total.proofs.cells.is_under.Tie as tie
+use Rattle.total.proofs.under.is_under.Statement.{statement}
+use Rattle.total.proofs.under.is_under.Tie as tie
 
 pub is-under-spec : {M : Type 1} → statement M
 unfolding underBy

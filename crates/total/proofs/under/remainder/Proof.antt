@@ -1,8 +1,8 @@
 use borrow.Author.Needs.{needs}
 use mathlib.Core.Path.{sym}
 use native.Mathlib.Nat.{mod-zero}
-use Rattle.total.proofs.cells.remainder.Statement.{statement}
-use Rattle.total.proofs.cells.remainder.Tie as tie
+use Rattle.total.proofs.under.remainder.Statement.{statement}
+use Rattle.total.proofs.under.remainder.Tie as tie
 
 pub remainder-spec : {M : Type 1} → statement M
 remainder-spec =
