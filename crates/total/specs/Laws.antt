@@ -12,3 +12,4 @@ pub mod Rooms
 pub mod Reading
 pub mod Call
 pub mod ByDerivation
+pub mod TableTotal

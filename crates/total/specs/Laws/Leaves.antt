@@ -54,10 +54,10 @@ unfolding sumTo
 sum-none zero = refl
 sum-none (suc n) = omega (arith, sum-none n)
 
-sum-same : (n : ℕ) (f g : ℕ → ℕ) → ((j : ℕ) → f j ≡ g j) → sumTo n f ≡ sumTo n g
+pub sum-same : (n : ℕ) (f g : ℕ → ℕ) → ((j : ℕ) → j < n → f j ≡ g j) → sumTo n f ≡ sumTo n g
 unfolding sumTo
 sum-same zero f g h = refl
-sum-same (suc n) f g h = rw (sum-same n f g h, h n)
+sum-same (suc n) f g h = rw (sum-same n f g (λ j l. h j (omega arith)), h n (omega arith))
 
 -- one place has x, and the others nothing
 abbrev only : ℕ → ℕ → ℕ → ℕ
@@ -90,6 +90,6 @@ module _ (coordinate : ℕ → ℕ) (n : ℕ) where
   unfolding sums pick
   leaves-add-up all-none = sum-none n
   leaves-add-up (all-more {x = c} {xs = cs} h hs) =
-      sum-same n (leafTotal (c ∷ cs)) (λ j. leafTotal cs j + only (coordinate (c .index)) (gainOf c) j) (λ j. with-total (λ k. eqb (coordinate k) j) c (sums (λ k. eqb (coordinate k) j) cs))
+      sum-same n (leafTotal (c ∷ cs)) (λ j. leafTotal cs j + only (coordinate (c .index)) (gainOf c) j) (λ j _. with-total (λ k. eqb (coordinate k) j) c (sums (λ k. eqb (coordinate k) j) cs))
       ∙ sum-plus n (leafTotal cs) (only (coordinate (c .index)) (gainOf c))
       ∙ rw (leaves-add-up hs, sum-only n (coordinate (c .index)) (gainOf c) h) (sym (with-total (λ _. true) c (sums (λ _. true) cs)))
