@@ -13,3 +13,6 @@ pub mod Reading
 pub mod Call
 pub mod ByDerivation
 pub mod TableTotal
+pub mod Rows
+pub mod LeafRows
+pub mod Doubles

@@ -1,4 +1,5 @@
 pub mod Count
 pub mod Total
+pub mod Words
 pub mod Answers
 pub mod Laws

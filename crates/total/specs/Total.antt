@@ -55,9 +55,12 @@ add (Number n) place s = record {
 }
 add Bad place s = record { bad = true; place = place; total = s .total; numbers = s .numbers; texts = s .texts; missing = s .missing; smallest = s .smallest; largest = s .largest }
 
+abbrev pub addCell : CellSays → Sums → Sums
+addCell c s = add (kind (c .contents .raw .form) (c .contents .raw .bits)) (c .place) s
+
 -- of those cells whose index passes a test
 unfoldable pub withCell : (ℕ → Bool) → CellSays → Sums → Sums
-withCell test c s = pick (test (c .index)) (add (kind (c .contents .raw .form) (c .contents .raw .bits)) (c .place) s) s
+withCell test c s = pick (test (c .index)) (addCell c s) s
 
 unfoldable pub sums : (ℕ → Bool) → List CellSays → Sums
 sums test [] = no-sums

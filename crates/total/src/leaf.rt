@@ -35,11 +35,11 @@ pub fn refused(n: u32, p: usize, nodes: u32, cells: u32) -> LeafTotal
     }
 }
 
-fn answered(nodes: u32, cells: u32, s: Sums) -> LeafTotal
+pub fn answered(nodes: u32, cells: u32, s: Sums) -> LeafTotal
     ensures { λ r. ⌜ r ≡ spec.answered nodes cells s ⌝ }
 {
     if s.bad {
-        return refused(20, s.place, 0, 0);
+        return refused(20, s.place as usize, 0, 0);
     }
     LeafTotal {
         refusal: 0,

@@ -2,8 +2,10 @@
 mod call; // a call for a leaf
 mod count; // which doubles are counts
 mod leaf; // a leaf of an accepted member
+mod rows; // all leaves of a dimension, in rows of words
 mod sums; // sums over cells
 mod under; // the cells under a leaf
+mod words; // totals as words
 
 ghost use Prim.Native.Nat.{_≤_};
 ghost use lib.ListN.{length};

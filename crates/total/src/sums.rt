@@ -18,7 +18,7 @@ pub enum Kind {
 // whether a cell is bad, and the place of the first that is.
 pub struct Sums {
     pub bad: bool,
-    pub place: usize,
+    pub place: u32,
     pub total: u64,
     pub numbers: u32,
     pub texts: u32,
@@ -79,7 +79,7 @@ fn greatest(n: u32, largest: u32) -> u32
 }
 
 // One cell before others.
-pub fn add(k: Kind, place: usize, s: Sums) -> Sums
+pub fn add(k: Kind, place: u32, s: Sums) -> Sums
     requires { ⌜ (s .total ≤ 2 ^ 63) × (s .numbers + 1 < 2 ^ 32) × (s .texts + 1 < 2 ^ 32) × (s .missing + 1 < 2 ^ 32) ⌝ }
     ensures { λ r. ⌜ r ≡ spec.add k place s ⌝ }
 {

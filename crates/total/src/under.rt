@@ -26,14 +26,34 @@ fn remainder(k: u64, n: u64) -> u64
     if n == 0 { k } else { k % n }
 }
 
-// Whether an index is under a leaf of a dimension, where the dimensions from it on have `block` places and those after it `step`.
+// The leaf of a dimension that an index is under, where the dimensions from it on have `block` places and those after it `step`.
+pub fn coordinate(index: u32, block: u64, step: u64) -> u64
+    ensures { λ r. ⌜ r ≡ index % block / step ⌝ }
+{
+    quotient(remainder(index as u64, block), step)
+}
+
+// Whether it is under that leaf.
 fn is_under(index: u32, block: u64, step: u64, leaf: u32) -> bool
     ensures { λ r. ⌜ r ≡ words_spec.underBy block step leaf index ⌝ }
 {
-    quotient(remainder(index as u64, block), step) == leaf as u64
+    coordinate(index, block, step) == leaf as u64
 }
 
-// The cell of record i before those behind it, if it is under the leaf.
+// The cell of record i before those behind it.
+pub fn add_cell(member: &[u8], version: u64, words: &[u32], i: usize, s: Sums) -> Sums
+    requires { ⌜ (i < 2 ^ 32) × Within (2 ^ 31) s ⌝ }
+    ensures { λ r. ⌜ r ≡ spec.addCell (words_spec.recordSays (now (member .entry)) version (now (words .entry)) i) s ⌝ }
+{
+    let at = CELL_WORDS * i;
+    let place = word(words, at + 1);
+    let n = word(words, at + 2) as usize;
+    let x = read_value(part(member, place as usize, n), version);
+    let raw = x.raw;
+    add(kind_of(raw.form, raw.bits), place, s)
+}
+
+// The same, if the cell is under the leaf.
 fn with_cell(
     member: &[u8],
     version: u64,
@@ -47,19 +67,15 @@ fn with_cell(
     requires { ⌜ (i < 2 ^ 32) × Within (2 ^ 31) s ⌝ }
     ensures { λ r. ⌜ r ≡ spec.withCell (words_spec.underBy block step leaf) (words_spec.recordSays (now (member .entry)) version (now (words .entry)) i) s ⌝ }
 {
-    let at = CELL_WORDS * i;
-    let under = is_under(word(words, at), block, step, leaf);
+    let under = is_under(word(words, CELL_WORDS * i), block, step, leaf);
     if under {
-        let place = word(words, at + 1) as usize;
-        let n = word(words, at + 2) as usize;
-        let x = read_value(part(member, place, n), version);
-        let raw = x.raw;
-        return add(kind_of(raw.form, raw.bits), place, s);
+        add_cell(member, version, words, i, s)
+    } else {
+        s
     }
-    s
 }
 
-fn no_sums() -> Sums
+pub fn no_sums() -> Sums
     ensures { λ r. ⌜ r ≡ spec.no-sums ⌝ }
 {
     Sums {

@@ -14,9 +14,8 @@ use Rattle.once.specs.Once.{word}
 use Rattle.contents.specs.declared.Contents.{Contents}
 use Rattle.contents.specs.Answers.{ValueAnswers}
 use Rattle.contents.specs.Laws.Answers.{answer-is, valueAnswer}
-use Rattle.total.specs.declared.sums.Kind.{Kind}
 use Rattle.total.specs.declared.sums.Sums.{Sums}
-use Rattle.total.specs.Total.{CellSays, kind, add, withCell, sums}
+use Rattle.total.specs.Total.{CellSays, addCell, withCell, sums}
 use Rattle.total.specs.Laws.Sums.{Within, sums-within, within-more}
 
 -- the cell of record i, in the member bs
@@ -39,10 +38,9 @@ underBy block step leaf index = eqb (index % block / step) leaf
 -- ---- one cell
 
 module _ (test : ℕ → Bool) (c : CellSays) (s : Sums) where
-  pub cell-added : {x : Contents} {k : Kind} {r : Sums} {b : Bool} → b ≡ test (c .index) → b ≡ true → x ≡ c .contents → k ≡ kind (x .raw .form) (x .raw .bits) → r ≡ add k (c .place) s
-      → r ≡ withCell test c s
+  pub cell-added : {r : Sums} {b : Bool} → b ≡ test (c .index) → b ≡ true → r ≡ addCell c s → r ≡ withCell test c s
   unfolding withCell pick
-  cell-added t b e f h = h ∙ rw (f, e, ← t, b)
+  cell-added t b h = h ∙ rw (← t, b)
 
   pub cell-left : {b : Bool} → b ≡ test (c .index) → b ≡ false → s ≡ withCell test c s
   unfolding withCell pick

@@ -8,4 +8,4 @@ unfolding pick
 answered-spec =
     tie.close
     (tie.spec
-    (λ _ _. tt) (λ c. rw (c .before .if1 .taken) (c .refused .ensures)) (λ c. search needs) (λ c. search needs) (λ c. rw (c .before .before .if1 .left)))
+    (λ c. search needs) (λ _ _. tt) (λ c. rw (c .before .before .if1 .taken) (c .refused .ensures)) (λ c. search needs) (λ c. search needs) (λ c. rw (c .before .before .if1 .left)))

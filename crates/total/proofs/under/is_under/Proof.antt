@@ -1,4 +1,3 @@
-use borrow.Author.Needs.{needs}
 use Rattle.total.specs.Laws.Words.{underBy}
 use Rattle.total.proofs.under.is_under.Statement.{statement}
 use Rattle.total.proofs.under.is_under.Tie as tie
@@ -8,4 +7,4 @@ unfolding underBy
 is-under-spec =
     tie.close
     (tie.spec
-    (λ _ _. tt) (λ _ _. tt) (λ c. rw (c .quotient .ensures, c .before .remainder .ensures)))
+    (λ _ _. tt) (λ c. rw (c .coordinate .ensures)))
