@@ -1,12 +1,13 @@
--- What is answered for a leaf, and what the lent areas then hold (document 02, T-01).
+-- What is answered for a leaf and for all leaves of a dimension, and what the lent areas then hold (document 02, T-01).
 use mathlib.Core.Path.{_≡_}
 use mathlib.Core.Bool.{Bool, _&&_}
-use mathlib.Core.List.{List}
-use Prim.Native.Nat.{ℕ, _<_}
-use lib.ListN.{length, getD}
-use lib.Dec.{eqb, ltb}
+use mathlib.Core.List.{List, _++_}
+use Prim.Native.Nat.{ℕ, _*_}
+use lib.ListN.{length, drop, getD}
+use lib.Dec.{eqb, leb, ltb}
 use lib.IntN.{pos}
 use lib.Ieee.{Float, binary64, ofInt}
+use Rattle.sizes.specs.Sizes.{leaf-total-words}
 use Rattle.layout.specs.Layout.{pick, Tree}
 use Rattle.layout.specs.Read.{Got, got, no}
 use Rattle.member.specs.Member.{Member, dimensions, nodes, cells, ns}
@@ -16,7 +17,9 @@ use Rattle.member.specs.Refused.{RefusedWith}
 use Rattle.member.specs.Demand3.{Accepted}
 use Rattle.total.specs.declared.sums.Sums.{Sums}
 use Rattle.total.specs.declared.LeafTotal.{LeafTotal}
+use Rattle.total.specs.declared.DimensionTotals.{DimensionTotals}
 use Rattle.total.specs.Total.{leafSums}
+use Rattle.total.specs.Words.{leafWords, rows}
 
 -- a whole number as the double that it is
 abbrev pub double : ℕ → Float
@@ -79,3 +82,38 @@ pub record ByDerivation (bs : List ℕ) (node-length cell-length dimension leaf 
   pub of-accepted : (m : Accepted bs node-length cell-length) → r ≡ leafAnswer (m .derivation .tree) dimension leaf
   -- "Refusals: the member's own first"; "All totals are then 0"
   pub of-refused : (n p : ℕ) → RefusedWith bs node-length cell-length n p → r ≡ refused n p (r .nodes) (r .cells)
+
+-- ---- all leaves of a dimension (our own function)
+
+abbrev pub refusedAll : ℕ → ℕ → ℕ → ℕ → ℕ → DimensionTotals
+refusedAll n p node-count cell-count leaf-count = record { refusal = n; place = p; nodes = node-count; cells = cell-count; leaves = leaf-count }
+
+-- n of a dimension
+abbrev pub leaves : Tree Member → ℕ → ℕ
+leaves t dimension = getD (ns t) dimension 0
+
+-- 19 for a dimension that isn't there; 15, with the number of its leaves, where there is no room for a row of words for each (our rule)
+unfoldable pub dimensionAnswer : Tree Member → ℕ → ℕ → DimensionTotals
+dimensionAnswer t dimension room =
+    pick (ltb dimension (length (dimensions t)))
+    (pick (leb (leaf-total-words * leaves t dimension) room) (refusedAll 0 0 (nodes t) (length (cells t)) (leaves t dimension)) (refusedAll 15 0 0 0 (leaves t dimension)))
+    (refusedAll 19 0 0 0 0)
+
+unfoldable pub totalsAnswer : Got (Tree Member) → ℕ → ℕ → ℕ → ℕ → DimensionTotals
+totalsAnswer (no n p) dimension room node-length cell-length = refusedAll n p 0 0 0
+totalsAnswer (got t r p) dimension room node-length cell-length =
+    pick (wide t node-length)
+    (pick (long t cell-length) (dimensionAnswer t dimension room) (refusedAll 13 0 (nodes t) (length (cells t)) 0))
+    (refusedAll 12 0 (nodes t) (length (cells t)) 0)
+
+-- the area for the totals then: what is answered for each leaf, a row of words for each; beyond them what was there
+unfoldable pub totalsAfter : Got (Tree Member) → ℕ → List ℕ → List ℕ
+totalsAfter (no n p) dimension old = old
+totalsAfter (got t r p) dimension old = rows (λ leaf. leafWords (leafAnswer t dimension leaf)) (leaves t dimension) ++ drop (leaf-total-words * leaves t dimension) old
+
+-- a call: after a refusal all three areas are as they were
+pub record AllTotalled (bs totals node-words cell-words : List ℕ) (dimension : ℕ) (r : DimensionTotals) (totals′ node-words′ cell-words′ : List ℕ) : Type 0 where
+  pub answer : r ≡ totalsAnswer (checked bs) dimension (length totals) (length node-words) (length cell-words)
+  pub each-leaf : totals′ ≡ pick (eqb (r .refusal) 0) (totalsAfter (checked bs) dimension totals) totals
+  pub node-area : node-words′ ≡ pick (eqb (r .refusal) 0) (nodesAfter (checked bs) node-words (length cell-words)) node-words
+  pub cell-area : cell-words′ ≡ pick (eqb (r .refusal) 0) (cellsAfter (checked bs) (length node-words) cell-words) cell-words

@@ -1,5 +1,7 @@
 // A leaf of an accepted member.
 ghost use mathlib.Core.Path.{_≡_};
+ghost use Prim.Native.Nat.{_≤_};
+ghost use Rattle.sizes.specs.Sizes.{most-cells};
 ghost use Rattle.total.specs.Answers as spec;
 ghost use Rattle.total.specs.Laws.Leaf as words;
 use crate::LeafTotal;
@@ -74,18 +76,35 @@ fn is_there(dims: [u32; DIMENSION_AREA], d: u32, dimension: u32, leaf: u32) -> b
     }
 }
 
-// The sums under a leaf.
-fn leaf_sums(member: &[u8], a: Answer, records: &[u32], dimension: u32, leaf: u32) -> Sums
-    ensures { λ r. ⌜ r ≡ words.wordSums (now (member .entry)) a (now (records .entry)) dimension leaf ⌝ }
+// What the sums over the cells of a member need: its version, the places of the dimensions from one on and of those after it, and how many
+// cells there are.
+pub struct Grid {
+    pub version: u64,
+    pub block: u64,
+    pub step: u64,
+    pub cells: usize,
+}
+
+pub fn grid_of(member: &[u8], a: Answer, dimension: u32) -> Grid
+    ensures { λ r. ⌜ (r ≡ words.gridOf (now (member .entry)) a dimension) × (r .cells ≤ most-cells) ⌝ }
 {
     let dims = a.dimensions;
     let d = a.dims as usize;
     let i = dimension as usize;
-    let block = places_from(dims, d, i);
-    let step = places_from(dims, d, i + 1);
-    let version = peek(member, Step::Next(2), LITTLE, 4);
-    let m = at_most(a.cells as usize, MOST_CELLS);
-    sums_under(member, version, records, m, block, step, leaf)
+    Grid {
+        version: peek(member, Step::Next(2), LITTLE, 4),
+        block: places_from(dims, d, i),
+        step: places_from(dims, d, i + 1),
+        cells: at_most(a.cells as usize, MOST_CELLS),
+    }
+}
+
+// The sums under a leaf.
+fn leaf_sums(member: &[u8], a: Answer, records: &[u32], dimension: u32, leaf: u32) -> Sums
+    ensures { λ r. ⌜ r ≡ words.wordSums (now (member .entry)) a (now (records .entry)) dimension leaf ⌝ }
+{
+    let g = grid_of(member, a, dimension);
+    sums_under(member, g.version, records, g.cells, g.block, g.step, leaf)
 }
 
 // What is answered for a leaf of an accepted member.

@@ -42,6 +42,15 @@ pub struct LeafTotal {
     pub largest: f64,
 }
 
+// What is answered for all leaves of a dimension: the refusal, or 0, and its place; how many nodes and cells there are, and how many leaves.
+pub struct DimensionTotals {
+    pub refusal: u32,
+    pub place: usize,
+    pub nodes: u32,
+    pub cells: u32,
+    pub leaves: u32,
+}
+
 // Of a short member: short lists are sooner cleared.
 fn total_short(
     member: &[u8],

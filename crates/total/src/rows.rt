@@ -10,12 +10,14 @@ ghost use Rattle.total.specs.Laws.Doubles.{Numbers};
 ghost use Rattle.total.specs.Laws.LeafRows as laws;
 use crate::LeafTotal;
 use crate::leaf::answered;
+use crate::leaf::grid_of;
 use crate::sums::Sums;
 use crate::under::add_cell;
 use crate::under::coordinate;
 use crate::under::no_sums;
 use crate::words::sum_words;
 use layout::Step;
+use member::Answer;
 use once::word;
 use sizes::CELL_WORDS;
 use sizes::LEAF_TOTAL_WORDS;
@@ -142,4 +144,24 @@ fn finish(area: &mut [u32], n: usize, nodes: u32, cells: u32)
         answer_row(area, j, answered(nodes, cells, s));
         j += 1;
     }
+}
+
+// What is answered for each of the n leaves of a dimension of an accepted member, a row of words for each.
+pub fn fill(member: &[u8], a: Answer, records: &[u32], dimension: u32, n: usize, area: &mut [u32])
+    requires { ⌜ (n < 2 ^ 32) × (leaf-total-words * n ≤ length (now area)) ⌝ }
+    ensures { λ _. ⌜ now (area .exit) ≡ laws.leafRows (now (member .entry)) a (now (records .entry)) dimension n ++ drop (leaf-total-words * n) (now (area .entry)) ⌝ }
+{
+    let g = grid_of(member, a, dimension);
+    clear(area, n);
+    scatter_all(
+        member,
+        g.version,
+        records,
+        g.cells,
+        g.block,
+        g.step,
+        n,
+        area,
+    );
+    finish(area, n, a.nodes, a.cells);
 }

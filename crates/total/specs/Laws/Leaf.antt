@@ -10,6 +10,7 @@ use Rattle.layout.specs.Reads.{peek}
 use Rattle.once.specs.Once.{word}
 use Rattle.index.specs.Index.{sizes, product}
 use Rattle.member.specs.declared.Answer.{Answer}
+use Rattle.total.specs.declared.leaf.Grid.{Grid}
 use Rattle.total.specs.declared.sums.Sums.{Sums}
 use Rattle.total.specs.declared.LeafTotal.{LeafTotal}
 use Rattle.total.specs.Total.{sums}
@@ -24,8 +25,16 @@ versionOf bs = peek little 4 bs (Next 2)
 abbrev pub placesOf : List ℕ → ℕ → ℕ → ℕ
 placesOf dims d i = min (product (sizes dims (min i most-dimensions) (min (d - i) most-dimensions))) (most-places + 1)
 
+unfoldable pub gridOf : List ℕ → Answer → ℕ → Grid
+gridOf bs a i = record {
+  version = versionOf bs;
+  block = placesOf (a .dimensions) (a .dims) i;
+  step = placesOf (a .dimensions) (a .dims) (i + 1);
+  cells = min (a .cells) most-cells;
+}
+
 unfoldable pub wordSums : List ℕ → Answer → List ℕ → ℕ → ℕ → Sums
-wordSums bs a ws i leaf = sums (underBy (placesOf (a .dimensions) (a .dims) i) (placesOf (a .dimensions) (a .dims) (i + 1)) leaf) (recordsSay bs (versionOf bs) ws 0 (min (a .cells) most-cells))
+wordSums bs a ws i leaf = let g = gridOf bs a i in sums (underBy (g .block) (g .step) leaf) (recordsSay bs (g .version) ws 0 (g .cells))
 
 unfoldable pub thereOf : List ℕ → ℕ → ℕ → ℕ → Bool
 thereOf dims d i leaf = ltb i d && ltb leaf (word dims (dimension-words * i + dimension-n))

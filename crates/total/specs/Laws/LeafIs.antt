@@ -7,7 +7,7 @@ use native.Mathlib.Nat.{min-eq-left, zero-add}
 use native.Mathlib.Omega.{arith}
 use lib.ListN.{length, drop, getD, length-map}
 use lib.Dec.{ltb}
-use borrow.Author.Tests.{ltb-true, leb-true}
+use borrow.Author.Tests.{ltb-true, lt-ltb, leb-true}
 use Rattle.sizes.specs.Sizes.{most-dimensions, most-cells, most-places, dimension-area, dimension-words, dimension-n}
 use Rattle.layout.specs.Layout.{pick, Tree, passes}
 use Rattle.once.specs.Once.{word}
@@ -19,7 +19,7 @@ use Rattle.member.specs.Answer.{accepted, zeros}
 use Rattle.total.specs.Total.{sums, leafSums, memberCells}
 use Rattle.total.specs.Answers.{answered, refused, there, leafAnswer}
 use Rattle.total.specs.Laws.Words.{recordsSay, underBy}
-use Rattle.total.specs.Laws.Leaf.{versionOf, placesOf, wordSums, thereOf, wordAnswer}
+use Rattle.total.specs.Laws.Leaf.{versionOf, placesOf, gridOf, wordSums, thereOf, wordAnswer}
 use Rattle.total.specs.Laws.LeafSums.{member-cells, later-product, leaf-sums}
 use Rattle.total.specs.Laws.Dims.{sizes-are, sizes-from, size-at, version-is}
 
@@ -84,7 +84,7 @@ module _ {bs : List ℕ} (d : MemberDerivation bs) (dem : AsDemanded (d .tree)) 
   -- ---- the answer
 
   pub leaf-is : (i leaf : ℕ) (rest : List ℕ) → wordAnswer bs (accepted (d .tree)) (cellRecords (d .tree) ++ rest) i leaf ≡ leafAnswer (d .tree) i leaf
-  unfolding wordAnswer wordSums leafAnswer accepted entries count pick
+  unfolding wordAnswer wordSums gridOf leafAnswer accepted entries count pick
   leaf-is i leaf rest = rw (there-is i leaf) (go (there (d .tree) i leaf) refl)
     where
       n : ℕ
@@ -97,3 +97,10 @@ module _ {bs : List ℕ} (d : MemberDerivation bs) (dem : AsDemanded (d .tree)) 
           ≡ pick b (answered n m (leafSums (d .tree) i leaf)) (refused 19 0 0 0)
       go true e = ap (answered n m) (sums-are i leaf rest (ltb-true i (length (dimensions (d .tree))) (left-true (ltb i (length (dimensions (d .tree)))) (ltb leaf (getD (ns (d .tree)) i 0)) e)))
       go false e = refl
+
+  -- and so is what it answers for each leaf that is there
+  pub row-is : (i leaf : ℕ) (rest : List ℕ) → i < length (dimensions (d .tree)) → leaf < getD (ns (d .tree)) i 0
+      → answered (nodes (d .tree)) (length (cells (d .tree))) (wordSums bs (accepted (d .tree)) (cellRecords (d .tree) ++ rest) i leaf) ≡ leafAnswer (d .tree) i leaf
+  unfolding wordSums gridOf leafAnswer accepted entries count pick
+  row-is i leaf rest h l =
+      rw (lt-ltb i (length (dimensions (d .tree))) h, lt-ltb leaf (getD (ns (d .tree)) i 0) l) (ap (answered (nodes (d .tree)) (length (cells (d .tree)))) (sums-are i leaf rest h))

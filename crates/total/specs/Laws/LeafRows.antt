@@ -7,7 +7,7 @@ use native.Mathlib.Nat.{add-zero, sub-self, mul-comm, div-add-mod}
 use native.Mathlib.Numerals.{add-one}
 use native.Mathlib.Omega.{arith}
 use lib.ListN.{length, drop, getD, length-drop, length-append}
-use lib.Seq.{sets, length-sets, drop-drop}
+use lib.Seq.{sets, length-sets, drop-drop, drop-at}
 use lib.Dec.{eqb, ltb}
 use borrow.Author.Tests.{eqb-true, eqb-false, ltb-true, ltb-false, lt-ltb, le-ltb, ne-eqb}
 use Rattle.sizes.specs.Sizes.{leaf-total-words}
@@ -15,6 +15,8 @@ use Rattle.layout.specs.Layout.{pick}
 use Rattle.layout.specs.Words.{word32}
 use Rattle.store.specs.Values.{bit}
 use Rattle.once.specs.Once.{word}
+use Rattle.member.specs.declared.Answer.{Answer}
+use Rattle.total.specs.declared.leaf.Grid.{Grid}
 use Rattle.total.specs.declared.LeafTotal.{LeafTotal}
 use Rattle.total.specs.declared.sums.Sums.{Sums}
 use Rattle.total.specs.Total.{CellSays, addCell, withCell, no-sums, sums}
@@ -22,6 +24,7 @@ use Rattle.total.specs.Words.{leafWords, rows}
 use Rattle.total.specs.Answers.{answered}
 use Rattle.total.specs.Laws.Sums.{Within}
 use Rattle.total.specs.Laws.Words.{underBy, recordSays, recordsSay, records-within}
+use Rattle.total.specs.Laws.Leaf.{gridOf, wordSums}
 use Rattle.total.specs.Laws.Rows.{rows-same, row-word, but, row-set, last-row, rows-length}
 
 -- sums as a row of words
@@ -209,6 +212,14 @@ cleared-more ws j h =
     (last-row leaf-total-words (λ _. sumRow no-sums) (λ _. refl) (sumRow no-sums) refl j (drop (leaf-total-words * j) ws) fit
     ∙ rw (drop-drop leaf-total-words (leaf-total-words * j) ws, next) (sym (append-assoc (noSums j) (sumRow no-sums) (drop (leaf-total-words * suc j) ws))))
 
+-- rows that are all cleared
+module _ (n : ℕ) {ws : List ℕ} (old : List ℕ) (e : ws ≡ noSums n ++ drop (leaf-total-words * n) old) where
+  pub cleared-rest : drop (leaf-total-words * n) ws ≡ drop (leaf-total-words * n) old
+  cleared-rest = rw e (drop-at (noSums n) (drop (leaf-total-words * n) old) (leaf-total-words * n) (rows-length leaf-total-words (λ _. sumRow no-sums) (λ _. refl) n))
+
+  pub cleared-again : ws ≡ noSums n ++ drop (leaf-total-words * n) ws
+  cleared-again = rw cleared-rest e
+
 -- a finished row has as many words
 pub finished-length : (nodes cells j : ℕ) (ws : List ℕ) → length (finished nodes cells j ws) ≡ length ws
 unfolding finished
@@ -245,3 +256,22 @@ module _ (bs : List ℕ) (version : ℕ) (words : List ℕ) (block step n : ℕ)
   has-room i k h e j l =
       records-within bs version words (underBy block step j) i k h
       (rw e (sums-at (λ j. sumRow (sums (underBy block step j) (recordsSay bs version words i k))) (λ _. refl) n rest j l (sums (underBy block step j) (recordsSay bs version words i k)) refl))
+
+-- ---- all leaves
+
+-- what is answered for each leaf
+abbrev pub leafRows : List ℕ → Answer → List ℕ → ℕ → ℕ → List ℕ
+leafRows bs a ws dimension n = rows (λ j. leafWords (answered (a .nodes) (a .cells) (wordSums bs a ws dimension j))) n
+
+module _ (n : ℕ) (old : List ℕ) {ws : List ℕ} (e : ws ≡ noSums n ++ drop (leaf-total-words * n) old) where
+  pub rows-fit : leaf-total-words * n ≤ length old → (f : ℕ → Sums) {w : List ℕ} → w ≡ rows (λ j. sumRow (f j)) n ++ drop (leaf-total-words * n) ws → leaf-total-words * n ≤ length w
+  rows-fit h f g =
+      let same : length (rows (λ j. sumRow (f j)) n ++ drop (leaf-total-words * n) old) ≡ length old = kept-length f n old h in
+      rw (g, cleared-rest n old e) (omega (arith, same))
+
+  pub filled-rows : (bs : List ℕ) (a : Answer) (records : List ℕ) (dimension : ℕ) {g : Grid} → g ≡ gridOf bs a dimension → {w w′ : List ℕ}
+      → w ≡ allSums (g .block) (g .step) (recordsSay bs (g .version) records 0 (g .cells)) n ++ drop (leaf-total-words * n) ws → w′ ≡ finished (a .nodes) (a .cells) n w
+      → w′ ≡ leafRows bs a records dimension n ++ drop (leaf-total-words * n) old
+  unfolding wordSums
+  filled-rows bs a records dimension d f h =
+      h ∙ rw (f, d, cleared-rest n old e) (all-finished (λ j. wordSums bs a records dimension j) n (drop (leaf-total-words * n) old) (a .nodes) (a .cells))
