@@ -10,9 +10,11 @@ pub mod Dims
 pub mod LeafIs
 pub mod Rooms
 pub mod Reading
+pub mod Areas
 pub mod Call
 pub mod ByDerivation
 pub mod TableTotal
 pub mod Rows
 pub mod LeafRows
 pub mod Doubles
+pub mod AllCall

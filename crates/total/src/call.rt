@@ -5,6 +5,7 @@ ghost use lib.Dec.{leb};
 ghost use Rattle.total.specs.Answers.{Totalled};
 ghost use Rattle.total.specs.Laws.Rooms.{Roomy};
 ghost use Rattle.total.specs.Laws.Reading.{Taken};
+ghost use Rattle.total.specs.Laws.Areas as areas;
 ghost use Rattle.total.specs.Laws.Call as spec;
 use crate::LeafTotal;
 use crate::leaf::leaf_answer;
@@ -17,8 +18,8 @@ use sizes::NODE_WORDS;
 use store::words::put;
 
 // The first n words of a list over those of an area, where both have so many.
-fn copy(from: &[u32], n: usize, to: &mut [u32])
-    ensures { λ _. ⌜ now (to .exit) ≡ spec.copied n (now (from .entry)) (now (to .entry)) ⌝ }
+pub fn copy(from: &[u32], n: usize, to: &mut [u32])
+    ensures { λ _. ⌜ now (to .exit) ≡ areas.copied n (now (from .entry)) (now (to .entry)) ⌝ }
 {
     if n <= from.len() {
         if n <= to.len() {

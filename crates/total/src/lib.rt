@@ -1,4 +1,5 @@
 // The total of the cells under a leaf (document 02, T-01).
+mod all; // a call for all leaves of a dimension
 mod call; // a call for a leaf
 mod count; // which doubles are counts
 mod leaf; // a leaf of an accepted member
@@ -10,7 +11,8 @@ mod words; // totals as words
 ghost use Prim.Native.Nat.{_≤_};
 ghost use lib.ListN.{length};
 ghost use Rattle.member.specs.Laws.Whole.{short-member};
-ghost use Rattle.total.specs.Answers.{Totalled, ByDerivation};
+ghost use Rattle.total.specs.Answers.{Totalled, ByDerivation, AllTotalled};
+use crate::all::all_with_lists;
 use crate::call::with_lists;
 use cells::LEAST_CELL;
 use sizes::CELL_AREA;
@@ -114,5 +116,68 @@ pub fn total(
         total_short(member, dimension, leaf, nodes, cells)
     } else {
         total_long(member, dimension, leaf, nodes, cells)
+    }
+}
+
+fn totals_short(
+    member: &[u8],
+    dimension: u32,
+    totals: &mut [u32],
+    nodes: &mut [u32],
+    cells: &mut [u32],
+) -> DimensionTotals
+    requires { ⌜ length (now member) ≤ short-member ⌝ }
+    ensures { λ r. ⌜ AllTotalled (now (member .entry)) (now (totals .entry)) (now (nodes .entry)) (now (cells .entry)) dimension r (now (totals .exit)) (now (nodes .exit)) (now (cells .exit)) ⌝ }
+{
+    let mut node_list = [0u32; SHORT_NODE_LIST];
+    let mut cell_list = [0u32; SHORT_CELL_LIST];
+    all_with_lists(
+        member,
+        dimension,
+        &mut node_list,
+        &mut cell_list,
+        totals,
+        nodes,
+        cells,
+    )
+}
+
+fn totals_long(
+    member: &[u8],
+    dimension: u32,
+    totals: &mut [u32],
+    nodes: &mut [u32],
+    cells: &mut [u32],
+) -> DimensionTotals
+    ensures { λ r. ⌜ AllTotalled (now (member .entry)) (now (totals .entry)) (now (nodes .entry)) (now (cells .entry)) dimension r (now (totals .exit)) (now (nodes .exit)) (now (cells .exit)) ⌝ }
+{
+    let mut node_list = [0u32; NODE_AREA];
+    let mut cell_list = [0u32; CELL_AREA];
+    all_with_lists(
+        member,
+        dimension,
+        &mut node_list,
+        &mut cell_list,
+        totals,
+        nodes,
+        cells,
+    )
+}
+
+// What `total` answers for each leaf of a dimension, in one reading: a row of LEAF_TOTAL_WORDS words for each in `totals`. On a refusal the
+// three areas hold what they held.
+pub fn totals(
+    member: &[u8],
+    dimension: u32,
+    totals: &mut [u32],
+    nodes: &mut [u32],
+    cells: &mut [u32],
+) -> DimensionTotals
+    ensures { λ r. ⌜ AllTotalled (now (member .entry)) (now (totals .entry)) (now (nodes .entry)) (now (cells .entry)) dimension r (now (totals .exit)) (now (nodes .exit)) (now (cells .exit)) ⌝ }
+{
+    if member.len() <= SHORT_MEMBER {
+        totals_short(member, dimension, totals, nodes, cells)
+    } else {
+        totals_long(member, dimension, totals, nodes, cells)
     }
 }

@@ -98,6 +98,11 @@ module _ {bs : List ℕ} (d : MemberDerivation bs) (dem : AsDemanded (d .tree)) 
       go true e = ap (answered n m) (sums-are i leaf rest (ltb-true i (length (dimensions (d .tree))) (left-true (ltb i (length (dimensions (d .tree)))) (ltb leaf (getD (ns (d .tree)) i 0)) e)))
       go false e = refl
 
+  -- the number of leaves of a dimension
+  pub n-of : (i : ℕ) → i < length (dimensions (d .tree)) → word (accepted (d .tree) .dimensions) (dimension-words * i + dimension-n) ≡ getD (ns (d .tree)) i 0
+  unfolding accepted entries count
+  n-of i h = n-is i h
+
   -- and so is what it answers for each leaf that is there
   pub row-is : (i leaf : ℕ) (rest : List ℕ) → i < length (dimensions (d .tree)) → leaf < getD (ns (d .tree)) i 0
       → answered (nodes (d .tree)) (length (cells (d .tree))) (wordSums bs (accepted (d .tree)) (cellRecords (d .tree) ++ rest) i leaf) ≡ leafAnswer (d .tree) i leaf

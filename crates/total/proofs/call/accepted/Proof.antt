@@ -1,6 +1,8 @@
+use lib.ListN.{length}
 use borrow.Author.Needs.{needs}
 use Rattle.layout.specs.Steps.Slices.{bytes-of}
-use Rattle.total.specs.Laws.Call.{with-records, without-records}
+use Rattle.total.specs.Laws.Areas.{with-records, without-records}
+use Rattle.total.specs.Laws.Call.{too-short, accepted-call}
 use Rattle.total.proofs.call.accepted.Statement.{statement}
 use Rattle.total.proofs.call.accepted.Tie as tie
 
@@ -13,8 +15,14 @@ accepted-spec =
     (λ c.
     let z = c .before .before .before .before .before .before .before .before .before .before .before .before .before .before .before .before .before in
     let a = z .before .args in
-    with-records (bytes-of _ (z .shared-slice-known .given)) (z .before .pre) (a .nodes .now) (a .cells .now) (a .dimension) (a .leaf) (c .before .before .before .before .before .before .before .before .before .before .before .before .fitting .ensures) (c .before .before .before .before .before .before .before .before .before .before .if1 .taken) (c .before .before .before .before .before .before .before .copy .ensures) (c .before .before .copy2 .ensures))
+    let b = bytes-of _ (z .shared-slice-known .given) in
+    let e = c .before .before .before .before .before .before .before .before .before .before .before .before .fitting .ensures in
+    accepted-call b (z .before .pre) (a .nodes .now) (a .cells .now) (a .dimension) (a .leaf) e
+    (with-records b (z .before .pre) (a .nodes .now) (a .cells .now) (too-short (a .a) (a .member .now) (a .cell-list .now) (a .dimension) (a .leaf) (length (a .nodes .now)) (length (a .cells .now)) e) (c .before .before .before .before .before .before .before .before .before .before .if1 .taken) (c .before .before .before .before .before .before .before .copy .ensures) (c .before .before .copy2 .ensures)))
     (λ c.
     let z = c .before .before .before .before .before .before .before in
     let a = z .before .args in
-    without-records (bytes-of _ (z .shared-slice-known .given)) (z .before .pre) (a .nodes .now) (a .cells .now) (a .dimension) (a .leaf) (c .before .before .fitting .ensures) (c .if1 .left)))
+    let b = bytes-of _ (z .shared-slice-known .given) in
+    let e = c .before .before .fitting .ensures in
+    accepted-call b (z .before .pre) (a .nodes .now) (a .cells .now) (a .dimension) (a .leaf) e
+    (without-records b (z .before .pre) (a .nodes .now) (a .cells .now) (too-short (a .a) (a .member .now) (a .cell-list .now) (a .dimension) (a .leaf) (length (a .nodes .now)) (length (a .cells .now)) e) (c .if1 .left))))

@@ -2,7 +2,7 @@ use mathlib.Core.Path.{sym}
 use native.Mathlib.Omega.{arith}
 use lib.Seq.{length-take-le}
 use borrow.Author.Needs.{needs}
-use Rattle.total.specs.Laws.Call.{copied-all, too-few, no-room}
+use Rattle.total.specs.Laws.Areas.{copied-all, too-few, no-room}
 use Rattle.total.proofs.call.copy.Statement.{statement}
 use Rattle.total.proofs.call.copy.Tie as tie
 
