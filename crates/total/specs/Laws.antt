@@ -18,3 +18,4 @@ pub mod Rows
 pub mod LeafRows
 pub mod Doubles
 pub mod AllCall
+pub mod Calls

@@ -2,4 +2,5 @@ pub mod Count
 pub mod Total
 pub mod Words
 pub mod Answers
+pub mod Calls
 pub mod Laws

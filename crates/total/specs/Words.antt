@@ -4,6 +4,7 @@ use Prim.Native.Nat.{ℕ, zero, suc, _/_, _^_}
 use lib.Ieee.{binary64, toBits}
 use Rattle.layout.specs.Words.{word32}
 use Rattle.total.specs.declared.LeafTotal.{LeafTotal}
+use Rattle.total.specs.declared.DimensionTotals.{DimensionTotals}
 
 -- nine words: the total, how many numbers, texts and missing ones, the bits of the smallest and of the largest
 abbrev pub sumWords : LeafTotal → List ℕ
@@ -19,6 +20,10 @@ answerWords x = x .refusal ∷ word32 (x .place) ∷ x .nodes ∷ x .cells ∷ s
 -- a leaf among all, 11 words: the refusal and its place before them
 abbrev pub leafWords : LeafTotal → List ℕ
 leafWords x = x .refusal ∷ word32 (x .place) ∷ sumWords x
+
+-- the call for all leaves, 5 words
+abbrev pub dimensionWords : DimensionTotals → List ℕ
+dimensionWords x = x .refusal ∷ word32 (x .place) ∷ x .nodes ∷ x .cells ∷ x .leaves ∷ []
 
 -- row 0, row 1, .. row n - 1
 unfoldable pub rows : (ℕ → List ℕ) → ℕ → List ℕ

@@ -1,5 +1,6 @@
 // The total of the cells under a leaf (document 02, T-01).
 mod all; // a call for all leaves of a dimension
+pub mod answers; // the answers as words
 mod call; // a call for a leaf
 mod count; // which doubles are counts
 mod leaf; // a leaf of an accepted member
