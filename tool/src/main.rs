@@ -1,0 +1,62 @@
+//! The command `digarumbi`: members and looks on the screen, over the proved library.
+
+mod arguments;
+mod commands;
+mod encoding;
+mod input;
+mod json;
+mod names;
+mod number;
+mod refusal;
+mod session;
+mod template;
+mod text;
+mod walk;
+
+use std::ffi::OsString;
+use std::process::ExitCode;
+
+use arguments::{parse, Asked, Command, Options};
+use session::{reason, Session, Status, Written};
+
+const USAGE: &str = include_str!("usage.txt");
+const VERSION: &str = concat!("digarumbi ", env!("CARGO_PKG_VERSION"), "\n");
+
+fn main() -> ExitCode {
+    let (options, asked) = match parse(std::env::args_os().skip(1)) {
+        Ok(Asked::Run { command, options, files }) => (options, Ok((command, files))),
+        Ok(Asked::Help) => (Options::default(), Err(Ok(USAGE))),
+        Ok(Asked::Version) => (Options::default(), Err(Ok(VERSION))),
+        Err(wrong) => (Options::default(), Err(Err(wrong))),
+    };
+    let mut session = match Session::new(options) {
+        Ok(session) => session,
+        Err(error) => {
+            eprintln!("digarumbi: standard output: {}", reason(&error));
+            return ExitCode::from(Status::Failed as u8);
+        }
+    };
+    // where writing stopped, the status says so
+    let _ = match asked {
+        Ok((command, files)) => run(&mut session, command, &files),
+        Err(Ok(text)) => session.write(text.as_bytes()),
+        Err(Err(wrong)) => {
+            session.say(&format!("{wrong}; digarumbi --help has the commands"));
+            session.set(Status::Failed);
+            Ok(())
+        }
+    };
+    ExitCode::from(session.status() as u8)
+}
+
+fn run(session: &mut Session, command: Command, files: &[OsString]) -> Written {
+    match command {
+        Command::Check => commands::check::run(session, files),
+        Command::Table => commands::table::run(session, files),
+        Command::Cells => commands::cells::run(session, files),
+        Command::Totals => commands::totals::run(session, files),
+        Command::Compare => commands::compare::run(session, files),
+        Command::Why => commands::why::run(session, files),
+        Command::Look => commands::look::run(session, files),
+    }
+}
