@@ -21,13 +21,23 @@ pub struct Input {
 
 /// Reads a file, or standard input for `-`.
 pub fn read(argument: &OsStr) -> io::Result<Input> {
+    let bytes = read_most(argument, MOST)?;
+    Ok(Input { argument: argument.to_owned(), name: shown(argument), bytes })
+}
+
+/// All the bytes of a file that is neither member nor look.
+pub fn read_whole(argument: &OsStr) -> io::Result<Vec<u8>> {
+    read_most(argument, u64::MAX)
+}
+
+fn read_most(argument: &OsStr, most: u64) -> io::Result<Vec<u8>> {
     let mut bytes = Vec::new();
     if argument == "-" {
-        io::stdin().lock().take(MOST).read_to_end(&mut bytes)?;
+        io::stdin().lock().take(most).read_to_end(&mut bytes)?;
     } else {
-        File::open(argument)?.take(MOST).read_to_end(&mut bytes)?;
+        File::open(argument)?.take(most).read_to_end(&mut bytes)?;
     }
-    Ok(Input { argument: argument.to_owned(), name: shown(argument), bytes })
+    Ok(bytes)
 }
 
 /// The name of a file as it is shown.

@@ -2,7 +2,9 @@
 
 mod arguments;
 mod commands;
+mod dump;
 mod encoding;
+mod hand;
 mod input;
 mod json;
 mod names;
@@ -11,6 +13,7 @@ mod refusal;
 mod session;
 mod template;
 mod text;
+mod total;
 mod walk;
 
 use std::ffi::OsString;

@@ -7,7 +7,7 @@ const LONGEST: usize = 4_096;
 ///
 /// `^I` is argument I, `[A:B:]I` all values of argument I, the first ones by A (where `%J` is the
 /// Jth) and the others by B (where `^J` is), and a backslash takes the next character as it is, but
-/// for `\n`. What asks for an argument that is not there stays as it is.
+/// for `\n`. A `^I` or a bracket that asks for an argument that is not there stays as it is.
 pub fn expand(template: &[u8], arguments: &[Vec<Vec<u8>>]) -> Option<Vec<u8>> {
     let mut out = Text::default();
     let mut rest = template;
@@ -160,7 +160,7 @@ mod tests {
     fn others() {
         assert_eq!(text("^1 and ^2", &[&["a"], &["b"]]), "a and b");
         assert_eq!(text("100\\%\\[x\\]\\:", &[]), "100%[x]:");
-        assert_eq!(text("^3 [:^1:]2 ^ [x \\", &[&["a"]]), "^3 [:^1:]2 ^ [x \\");
+        assert_eq!(text("^3 [:^1:]2 ^ [x \\", &[&["a"]]), "^3 [:a:]2 ^ [x \\");
         assert_eq!(text("[:no values:]1", &[&["a"]]), "no values");
     }
 

@@ -1,5 +1,212 @@
-use crate::session::{Session, Written};
-use std::ffi::OsString;
-pub fn run(_session: &mut Session, _files: &[OsString]) -> Written {
+//! `compare`: hand counts beside the totals.
+
+use std::collections::HashMap;
+use std::ffi::{OsStr, OsString};
+use std::path::Path;
+
+use digarumbi::Refusal;
+
+use super::{dimension_named, same_name, with_member, Member};
+use crate::hand::{self, HandLine};
+use crate::input;
+use crate::json::Object;
+use crate::names::DimensionNames;
+use crate::session::{reason, Session, Status, Written};
+use crate::total::{totals, Total};
+
+pub fn run(session: &mut Session, files: &[OsString]) -> Written {
+    let (hand_file, files) = (&files[0], &files[1..]);
+    match hand_lines(hand_file, files) {
+        Ok(hand) => run_with(session, &hand, files),
+        Err(why) => {
+            session.say_failed(&input::shown(hand_file), &why);
+            Ok(())
+        }
+    }
+}
+
+/// The hand counts, each with the file that it speaks of.
+struct Hand {
+    lines: Vec<HandLine>,
+    /// By line: the number of its file on the command line.
+    files: Vec<Option<usize>>,
+}
+
+fn hand_lines(hand_file: &OsStr, files: &[OsString]) -> Result<Hand, String> {
+    let bytes = input::read_whole(hand_file).map_err(|error| reason(&error))?;
+    let lines = hand::read(&bytes, files.len() == 1)?;
+    let files = lines.iter().map(|line| file_of(line, files)).collect::<Result<_, _>>()?;
+    Ok(Hand { lines, files })
+}
+
+/// The file of a line: as on the command line, or by its last part.
+fn file_of(line: &HandLine, files: &[OsString]) -> Result<Option<usize>, String> {
+    let Some(name) = &line.file else { return Ok(Some(0)) };
+    if let Some(file) = files.iter().position(|file| input::shown(file) == *name) {
+        return Ok(Some(file));
+    }
+    let last = |file: &OsString| Path::new(file).file_name().map(input::shown);
+    let named: Vec<usize> =
+        (0..files.len()).filter(|&i| last(&files[i]).as_ref() == Some(name)).collect();
+    match named[..] {
+        [] => Ok(None),
+        [file] => Ok(Some(file)),
+        _ => Err(format!(
+            "line {}: several files are named {name}; give it as on the command line",
+            line.number
+        )),
+    }
+}
+
+fn run_with(session: &mut Session, hand: &Hand, files: &[OsString]) -> Written {
+    session.header(&["file", "dimension", "leaf", "hand count", "total", "what"])?;
+    let of_file = |file: Option<usize>| -> Vec<&HandLine> {
+        hand.lines.iter().zip(&hand.files).filter(|(_, of)| **of == file).map(|(l, _)| l).collect()
+    };
+    for (number, file) in files.iter().enumerate() {
+        let lines = of_file(Some(number));
+        session.each_input(std::slice::from_ref(file), |session, input| {
+            with_member(session, input, |session, member| compare(session, member, &lines))
+        })?;
+    }
+    for line in of_file(None) {
+        let none = Difference { hand: Some(line.count), total: None, what: NO_FILE };
+        let file = line.file.as_deref().unwrap_or(".");
+        report(session, file, &line.dimension, &line.leaf, none)?;
+    }
     Ok(())
+}
+
+const NO_FILE: &str = "file not given";
+const NOT_THERE: &str = "not in the member";
+const NOT_COUNTED: &str = "not in the hand counts";
+const DIFFERS: &str = "differs";
+
+/// One difference between hand counts and totals.
+struct Difference<'w> {
+    hand: Option<u64>,
+    total: Option<u64>,
+    what: &'w str,
+}
+
+fn report(
+    session: &mut Session,
+    file: &str,
+    dimension: &str,
+    leaf: &str,
+    difference: Difference,
+) -> Written {
+    session.set(Status::Refused);
+    let Difference { hand, total, what } = difference;
+    if session.options.json {
+        let count = |count: Option<u64>| count.map_or("null".into(), |count| count.to_string());
+        let object = Object::new().text("file", file).text("dimension", dimension);
+        let object = object.text("leaf", leaf).plain("hand_count", count(hand));
+        return session.line(object.plain("total", count(total)).text("what", what).end());
+    }
+    let count = |count: Option<u64>| count.map_or(".".into(), |count| count.to_string());
+    session.fields(&[file, dimension, leaf, &count(hand), &count(total), what])
+}
+
+/// The hand counts of one member, by dimension and leaf.
+type Counts<'h> = HashMap<(usize, usize), &'h HandLine>;
+
+fn compare(session: &mut Session, member: &Member, lines: &[&HandLine]) -> Written {
+    if lines.is_empty() {
+        let none = Difference { hand: None, total: None, what: NOT_COUNTED };
+        return report(session, member.file, ".", ".", none);
+    }
+    let mut counts: Counts = HashMap::new();
+    for line in lines {
+        match place(member, line) {
+            Ok(Some(at)) => {
+                if let Some(first) = counts.insert(at, line) {
+                    let (line, first) = (line.number, first.number);
+                    let why =
+                        format!("line {line} of the hand counts says again what line {first} says");
+                    session.say_failed(member.file, &why);
+                }
+            }
+            Ok(None) => {
+                let none = Difference { hand: Some(line.count), total: None, what: NOT_THERE };
+                report(session, member.file, &line.dimension, &line.leaf, none)?;
+            }
+            Err(why) => {
+                let why = format!("line {} of the hand counts: {why}", line.number);
+                session.say_failed(member.file, &why);
+            }
+        }
+    }
+    let dimensions = (0..member.names.len())
+        .filter(|dimension| counts.keys().any(|(counted, _)| counted == dimension));
+    for dimension in dimensions {
+        compare_dimension(session, member, dimension, &counts)?;
+    }
+    Ok(())
+}
+
+fn compare_dimension(
+    session: &mut Session,
+    member: &Member,
+    dimension: usize,
+    counts: &Counts,
+) -> Written {
+    let names = &member.names[dimension];
+    // the dimension is there, so nothing is refused
+    for (leaf, total) in totals(member, dimension).unwrap_or_default().iter().enumerate() {
+        let hand = counts.get(&(dimension, leaf)).map(|line| line.count);
+        let refused = total.as_ref().err().map(Refusal::to_string);
+        if let Some(difference) = difference(hand, total, refused.as_deref()) {
+            report(session, member.file, &names.name, &names.path(leaf), difference)?;
+        }
+    }
+    Ok(())
+}
+
+fn difference<'w>(
+    hand: Option<u64>,
+    total: &Result<Total, Refusal>,
+    refused: Option<&'w str>,
+) -> Option<Difference<'w>> {
+    let found = total.as_ref().ok().map(|total| total.total);
+    let what = match (hand, refused) {
+        (Some(hand), None) if Some(hand) == found => return None,
+        (Some(_), None) => DIFFERS,
+        (Some(_), Some(refused)) => refused,
+        (None, None) => NOT_COUNTED,
+        // neither side has a count
+        (None, Some(_)) => return None,
+    };
+    Some(Difference { hand, total: found, what })
+}
+
+/// The dimension and leaf of a line; none if the member has it not.
+fn place(member: &Member, line: &HandLine) -> Result<Option<(usize, usize)>, String> {
+    let named = member.names.iter().any(|names| same_name(&names.name, &line.dimension));
+    let numbered = line.dimension.parse().is_ok_and(|number: usize| number < member.names.len());
+    if !named && !numbered {
+        return Ok(None);
+    }
+    let dimension = dimension_named(member, &line.dimension)?;
+    let leaf = leaf_named(&member.names[dimension], &line.leaf)?;
+    Ok(leaf.map(|leaf| (dimension, leaf)))
+}
+
+/// The leaf with this path, or else with this name, or else `#` and its leaf index.
+fn leaf_named(names: &DimensionNames, asked: &str) -> Result<Option<usize>, String> {
+    let all = || 0..names.leaves.len();
+    let by_path: Vec<usize> = all().filter(|&leaf| same_name(&names.path(leaf), asked)).collect();
+    let is_own =
+        |leaf: &usize| names.leaves[*leaf].last().is_some_and(|name| same_name(name, asked));
+    let found = if by_path.is_empty() { all().filter(is_own).collect() } else { by_path };
+    match found[..] {
+        [leaf] => Ok(Some(leaf)),
+        [] => {
+            let index = asked.strip_prefix('#').and_then(|index| index.parse().ok());
+            Ok(index.filter(|&index: &usize| index < names.leaves.len()))
+        }
+        _ => {
+            Err(format!("several leaves are named {asked}; give the path, or # and the leaf index"))
+        }
+    }
 }

@@ -1,5 +1,137 @@
-use crate::session::{Session, Written};
+//! `why`: why a member is refused, with the path of productions to the place.
+
 use std::ffi::OsString;
-pub fn run(_session: &mut Session, _files: &[OsString]) -> Written {
-    Ok(())
+
+use digarumbi::{read_member, Refusal, Table, ValueBytes};
+
+use crate::dump::dump;
+use crate::input::Input;
+use crate::json::Object;
+use crate::refusal::{sentence, words, Of};
+use crate::session::{Session, Status, Written};
+use crate::text::Texts;
+use crate::walk::{walk, Kept, Step, Stop};
+
+pub fn run(session: &mut Session, files: &[OsString]) -> Written {
+    session.each_input(files, |session, input| {
+        let library = read_member(&input.bytes);
+        let walked = walk(&input.bytes);
+        match library {
+            Ok(table) => accepted(session, input, &table, walked),
+            Err(refusal) => refused(session, input, &refusal, walked),
+        }
+    })
+}
+
+type Walked = Result<Kept, Box<Stop>>;
+
+fn accepted(session: &mut Session, input: &Input, table: &Table, walked: Walked) -> Written {
+    let disagrees = walked.is_err().then(|| disagreement(&walked));
+    if session.options.json {
+        let object = Object::new().text("file", &input.name).plain("accepted", true);
+        return session.line(with_disagreement(object, disagrees).end());
+    }
+    let counts = [table.dimensions.len(), table.nodes.len(), table.cells.len()];
+    let [dimensions, nodes, cells] = counts;
+    let name = &input.name;
+    let line = format!("{name}: accepted {dimensions} dims {nodes} nodes {cells} cells");
+    session.line([vec![line], disagrees.into_iter().collect()].concat().join("\n"))
+}
+
+fn refused(session: &mut Session, input: &Input, refusal: &Refusal, walked: Walked) -> Written {
+    session.set(Status::Refused);
+    let agreed = match &walked {
+        Err(stop) if is_same(refusal, stop) => Some(stop),
+        _ => None,
+    };
+    let disagrees = agreed.is_none().then(|| disagreement(&walked));
+    match session.options.json {
+        true => {
+            session.line(json_refused(session, input, refusal, agreed.map(Box::as_ref), disagrees))
+        }
+        false => {
+            session.line(text_refused(session, input, refusal, agreed.map(Box::as_ref), disagrees))
+        }
+    }
+}
+
+fn is_same(refusal: &Refusal, stop: &Stop) -> bool {
+    refusal.number == stop.number && refusal.place as usize == stop.field.place
+}
+
+/// What the reader that keeps the path says, where the library says something else.
+fn disagreement(walked: &Walked) -> String {
+    let says = match walked {
+        Ok(_) => "accepts the member".to_string(),
+        Err(stop) => format!("says refused {} at {}", stop.number, stop.field.place),
+    };
+    format!(
+        "the reader that keeps the path {says}: it is wrong, so no path is given; please report it"
+    )
+}
+
+fn with_disagreement(object: Object, disagrees: Option<String>) -> Object {
+    match disagrees {
+        Some(disagrees) => object.text("disagreement", &disagrees),
+        None => object,
+    }
+}
+
+fn json_refused(
+    session: &Session,
+    input: &Input,
+    refusal: &Refusal,
+    stop: Option<&Stop>,
+    disagrees: Option<String>,
+) -> String {
+    let object = Object::new().text("file", &input.name).plain("accepted", false);
+    let object = object.plain("number", refusal.number).plain("place", refusal.place);
+    let object = object.text("words", words(Of::Member, refusal.number));
+    let object = match stop {
+        Some(stop) => {
+            let path = path(session, input, stop);
+            let object = object.texts("path", path.iter().map(String::as_str));
+            let object = object.plain("length", stop.field.length);
+            object.text("expected", &stop.expected).text("found", &stop.found)
+        }
+        None => object,
+    };
+    with_disagreement(object, disagrees).end()
+}
+
+fn text_refused(
+    session: &Session,
+    input: &Input,
+    refusal: &Refusal,
+    stop: Option<&Stop>,
+    disagrees: Option<String>,
+) -> String {
+    let mut lines = vec![format!("{}: {}", input.name, sentence(Of::Member, refusal))];
+    let length = match stop {
+        Some(stop) => {
+            lines.push(format!("  path      {}", path(session, input, stop).join(" > ")));
+            lines.push(format!("  expected  {}", stop.expected));
+            lines.push(format!("  found     {}", stop.found));
+            stop.field.length
+        }
+        None => 1,
+    };
+    lines.extend(disagrees.map(|disagrees| format!("  {disagrees}")));
+    lines.extend(dump(&input.bytes, refusal.place as usize, length));
+    lines.join("\n")
+}
+
+/// The steps to the field in words.
+fn path(session: &Session, input: &Input, stop: &Stop) -> Vec<String> {
+    let texts = Texts::new(&input.bytes, session.options.encoding);
+    let version = input.bytes.get(2).copied().unwrap_or_default().into();
+    let step = |step: &Step| match *step {
+        Step::Part(name) => name.to_string(),
+        Step::Nth(name, i) => format!("{name} {i}"),
+        Step::Named(name, i, value) => {
+            let bytes = value.of(&input.bytes);
+            format!("{name} {i} \"{}\"", texts.value_of(&ValueBytes { version, bytes }))
+        }
+    };
+    stop.path.iter().map(step).collect()
 }
