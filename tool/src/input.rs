@@ -1,6 +1,6 @@
 //! Files and standard input.
 
-use std::ffi::{OsStr, OsString};
+use std::ffi::OsStr;
 use std::fs::File;
 use std::io::{self, Read};
 use std::os::unix::ffi::OsStrExt;
@@ -12,8 +12,6 @@ use crate::encoding::show_utf8;
 const MOST: u64 = 1_048_577;
 
 pub struct Input {
-    /// As it was given.
-    pub argument: OsString,
     /// As it is shown.
     pub name: String,
     pub bytes: Vec<u8>,
@@ -22,7 +20,7 @@ pub struct Input {
 /// Reads a file, or standard input for `-`.
 pub fn read(argument: &OsStr) -> io::Result<Input> {
     let bytes = read_most(argument, MOST)?;
-    Ok(Input { argument: argument.to_owned(), name: shown(argument), bytes })
+    Ok(Input { name: shown(argument), bytes })
 }
 
 /// All the bytes of a file that is neither member nor look.

@@ -110,8 +110,9 @@ impl<'a> Cursor<'a> {
     fn field(&mut self, name: &'static str, length: usize, what: &str) -> Answer<&'a [u8]> {
         if length > self.end - self.place {
             let field = Span { place: self.place, length };
-            let bytes = if length == 1 { "1 byte".into() } else { format!("{length} bytes") };
-            return Err(self.stop(2, name, field, said(format!("{what}, {bytes}"), self.left())));
+            let expected =
+                if length == 1 { what.into() } else { format!("{what}, {length} bytes") };
+            return Err(self.stop(2, name, field, said(expected, self.left())));
         }
         let field = &self.bytes[self.place..self.place + length];
         self.place += length;

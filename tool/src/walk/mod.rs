@@ -10,7 +10,7 @@ mod value;
 
 pub use cursor::{Span, Step, Stop};
 
-use cursor::{said, Answer, Cursor};
+use cursor::{said, Cursor};
 
 // The sizes of docs/RULES.md.
 const MEMBER_BYTES: usize = 1_048_576;
