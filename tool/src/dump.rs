@@ -22,7 +22,7 @@ fn dump_line(bytes: &[u8], start: usize, place: usize, end: usize) -> String {
     for at in start..start + WIDTH {
         hex.push(match at {
             _ if at == place => '[',
-            _ if at == end && end > place => ']',
+            _ if at == end && end > place && at > start => ']',
             _ => ' ',
         });
         match bytes.get(at) {
@@ -67,6 +67,9 @@ mod tests {
         let lines = dump(&bytes, 30, 4);
         assert!(lines[1].contains(" 1d[1e 1f "), "{}", lines[1]);
         assert!(lines[2].starts_with("        32  20 21]22"), "{}", lines[2]);
+        let lines = dump(&bytes, 28, 4);
+        assert!(lines[1].contains("[1c 1d 1e 1f]"), "{}", lines[1]);
+        assert!(lines[2].starts_with("        32  20 21"), "{}", lines[2]);
     }
 
     #[test]

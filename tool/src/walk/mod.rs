@@ -6,6 +6,8 @@
 mod cursor;
 mod sections;
 mod table;
+#[cfg(test)]
+mod tests;
 mod value;
 
 pub use cursor::{Span, Step, Stop};
