@@ -60,6 +60,7 @@ fn path(table: &Table, shown: &[Option<String>], number: usize) -> Vec<String> {
 /// Whether a node is a group whose name is not shown (003, Group: `merge`, the byte after the name).
 fn is_merged(member: &[u8], node: &Node) -> bool {
     let name = node.name_bytes.bytes;
-    let place = name.as_ptr() as usize - member.as_ptr() as usize;
-    matches!(node.kind, NodeKind::Group { .. }) && member.get(place + name.len()) == Some(&1)
+    let place = (name.as_ptr() as usize).wrapping_sub(member.as_ptr() as usize);
+    let merge = member.get(place.wrapping_add(name.len()));
+    matches!(node.kind, NodeKind::Group { .. }) && merge == Some(&1)
 }
