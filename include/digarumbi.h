@@ -1,5 +1,5 @@
-/* Digarumbi: reads light detail members, version 1 and 3, and binary table looks (.tlo), converts names in old code pages, and decodes
- * compressed case data.
+/* Digarumbi: reads light detail members, version 1 and 3, and binary table looks (.tlo), totals the counts of members, converts names in
+ * old code pages, and decodes compressed case data.
  *
  * "01", "02", "002", "003" and "004" below are the papers that the library follows: document 01 (the rules), document 02 (changes to them),
  * source document 002 (looks), source document 003 (members) and source document 004 (case data).
@@ -52,10 +52,12 @@ uint32_t digarumbi_abi(void);
  *   12   node area shorter than 7 words a node                                    0
  *   13   cell area shorter than 3 words a cell                                    0
  *   14   look: a color's high byte not 0                                          the color
- *   15   look writer, text: output too short                                      0
+ *   15   look writer, text, totals of a dimension: output too short               0
  *   16   look writer: version 00 with V2 data not all zero, undrawn and with an   where V2 would stand
  *        empty continuation
  *   18   a zero byte inside a string of a member                                  its first length byte
+ *   19   totals: a dimension or leaf that isn't there                             0
+ *   20   totals: a number under the leaf that is no count                         the Value of the first such cell
  *   21   case data: a bad kind list or bias, or words that are no state           0
  *   22   case data: a code that its element can't have                            the code, in the whole stream
  *   23   case data: the end too soon                                              number of bytes taken
@@ -67,7 +69,7 @@ uint32_t digarumbi_abi(void);
  * Value or category that is too deep; for the product of all n at the first axis count; at a look's shading byte above 10; at 0 for
  * points, pixels and font sizes.
  *
- * Order: 1, then the file from front to back, then 11, 12, 13; for looks from front to back, then 11, then 15; for text 24, then 25 over
+ * Order: 1, then the file from front to back, then 11, 12, 13, and for totals 19, then 15, then 20; for looks from front to back, then 11, then 15; for text 24, then 25 over
  * the whole input, then 15.
  * After a refusal every lent area but `answer` holds what it held before.
  *
@@ -236,6 +238,86 @@ uint32_t digarumbi_number(uint32_t low, uint32_t high, double *number);
 /* The bits of the double that stands for a missing value, minus the largest finite one (003, Value). */
 #define DIGARUMBI_MISSING_LOW UINT32_C(0xffffffff)
 #define DIGARUMBI_MISSING_HIGH UINT32_C(0xffefffff)
+
+/* ---- Totals under a leaf (02, T-01) ---- */
+
+/* A cell is under a leaf of a dimension when its coordinate there is the leaf's index. Values of form 1 and 2 are number cells, all others
+ * text cells. The double that stands for a missing value is counted apart and is no number. Every other double must be a count: a whole
+ * number from 0 to 4,294,967,295, minus zero as 0. The cells under other leaves don't matter. Where no cell of the table is refused, the
+ * totals over all leaves of any one dimension add up to the same.
+ *
+ * A dimension is given by its number in file order, a leaf by its leaf index. */
+
+/* Words of the answer of digarumbi_total. Doubles are given by their bits, low word first: see digarumbi_number. */
+enum {
+    DIGARUMBI_TOTAL_REFUSAL = 0,       /* 0 if there is a total */
+    DIGARUMBI_TOTAL_PLACE = 1,         /* place of the refusal */
+    DIGARUMBI_TOTAL_NODE_COUNT = 2,    /* of an accepted member, and with refusals 12 and 13 */
+    DIGARUMBI_TOTAL_CELL_COUNT = 3,    /* likewise */
+    DIGARUMBI_TOTAL_LOW = 4,           /* the sum of the number cells, 64 bits */
+    DIGARUMBI_TOTAL_HIGH = 5,
+    DIGARUMBI_TOTAL_NUMBERS = 6,       /* how many number cells, text cells and missing cells there are */
+    DIGARUMBI_TOTAL_TEXTS = 7,
+    DIGARUMBI_TOTAL_MISSING = 8,
+    DIGARUMBI_TOTAL_SMALLEST_LOW = 9,  /* the smallest number, 0 if there is none */
+    DIGARUMBI_TOTAL_SMALLEST_HIGH = 10,
+    DIGARUMBI_TOTAL_LARGEST_LOW = 11,  /* the largest number, 0 if there is none */
+    DIGARUMBI_TOTAL_LARGEST_HIGH = 12,
+    DIGARUMBI_TOTAL_ANSWER = 13        /* words in all */
+};
+
+/* Reads a member and totals the cells under a leaf.
+ *
+ * Refusals: the member's own; 19 at 0; 20 at the Value of the first cell under the leaf, in file order, whose number is no count. After a
+ * refusal both areas stay as they were, and every word of the answer is 0 but the number and the place, and with 12 and 13 the counts of
+ * nodes and cells. Else the areas hold the records, as after digarumbi_read_member.
+ *
+ * Returns 13, the words of the answer. Returns 0 if `answer` has fewer: then nothing is read and nothing changes. Words of `answer` beyond
+ * 13 stay. */
+size_t digarumbi_total(const uint8_t *member, size_t member_length, uint32_t dimension, uint32_t leaf, uint32_t *answer,
+                       size_t answer_words, uint32_t *nodes, size_t node_words, uint32_t *cells, size_t cell_words);
+
+/* Words of the answer of digarumbi_totals. */
+enum {
+    DIGARUMBI_TOTALS_REFUSAL = 0,    /* 0 if there are totals */
+    DIGARUMBI_TOTALS_PLACE = 1,      /* place of the refusal */
+    DIGARUMBI_TOTALS_NODE_COUNT = 2, /* of an accepted member, and with refusals 12 and 13 */
+    DIGARUMBI_TOTALS_CELL_COUNT = 3, /* likewise */
+    DIGARUMBI_TOTALS_LEAF_COUNT = 4, /* n of the dimension, when there are totals, and with refusal 15 */
+    DIGARUMBI_TOTALS_ANSWER = 5      /* words in all */
+};
+
+/* Words of a total record. Leaf i has the record that starts at word 11 * i of `totals`: what digarumbi_total answers for that leaf. After
+ * a 20 all but the refusal and the place are 0. */
+enum {
+    DIGARUMBI_LEAF_REFUSAL = 0, /* 0 or 20 */
+    DIGARUMBI_LEAF_PLACE = 1,
+    DIGARUMBI_LEAF_TOTAL_LOW = 2,
+    DIGARUMBI_LEAF_TOTAL_HIGH = 3,
+    DIGARUMBI_LEAF_NUMBERS = 4,
+    DIGARUMBI_LEAF_TEXTS = 5,
+    DIGARUMBI_LEAF_MISSING = 6,
+    DIGARUMBI_LEAF_SMALLEST_LOW = 7,
+    DIGARUMBI_LEAF_SMALLEST_HIGH = 8,
+    DIGARUMBI_LEAF_LARGEST_LOW = 9,
+    DIGARUMBI_LEAF_LARGEST_HIGH = 10,
+    DIGARUMBI_TOTAL_RECORD = 11 /* words in all */
+};
+
+/* Words that always suffice for the total records: 4,096 of them. */
+#define DIGARUMBI_TOTALS_AREA 45056
+
+/* Reads a member once and totals the cells under each leaf of a dimension.
+ *
+ * Refusals of the call: the member's own; 19 at 0 for a dimension that isn't there; 15 at 0 if `totals` has fewer than 11 words a leaf.
+ * After one of them `totals` and both areas stay as they were, and every word of the answer is 0 but the number and the place, with 12
+ * and 13 the counts of nodes and cells, and with 15 the number of leaves. Else `totals` holds the total records, of which each has its
+ * own refusal, and the areas hold the records. Words of `totals` after the last record stay.
+ *
+ * Returns 5, the words of the answer. Returns 0 if `answer` has fewer: then nothing is read and nothing changes. Words of `answer` beyond
+ * 5 stay. */
+size_t digarumbi_totals(const uint8_t *member, size_t member_length, uint32_t dimension, uint32_t *answer, size_t answer_words,
+                        uint32_t *totals, size_t total_words, uint32_t *nodes, size_t node_words, uint32_t *cells, size_t cell_words);
 
 /* ---- Looks ---- */
 

@@ -20,6 +20,8 @@ const NO_PARENT: u32 = u32::MAX;
 /// stand in the member; what one says is read when it is asked for.
 #[derive(Clone, Debug, PartialEq, Eq)]
 pub struct Table<'a> {
+    /// The member that it was read from.
+    pub member: &'a [u8],
     /// The version of the member, 1 or 3. No word of the library's answer has it: it is read from
     /// the member's own bytes 2 to 5, which an accepted member has.
     pub version: u32,
@@ -144,6 +146,7 @@ pub fn read_member(member: &[u8]) -> Result<Table<'_>, Refusal> {
     cells.truncate(CELL_RECORD * cell_count as usize);
     let member = Member { bytes: member, version: version(member) };
     Ok(Table {
+        member: member.bytes,
         version: member.version,
         dimensions: dimensions(member, &answer, dimension_count as usize, node_count as usize),
         axes: axes(&answer),

@@ -1,4 +1,5 @@
-//! The smallest stack of a thread in which the library reads members, Values alone, and looks.
+//! The smallest stack of a thread in which the library reads members, totals their cells, reads Values
+//! alone, and looks.
 //!
 //! Usage: stack; it runs itself as `stack WORK KIB`, which ends without a result where a stack of
 //! that size is too small.
@@ -9,7 +10,7 @@ use std::thread;
 
 use digarumbi::lent::{
     self, ARGUMENT_WORDS, CELL_AREA, LONGEST_LOOK, LOOK_ANSWER, MEMBER_ANSWER, NODE_AREA,
-    VALUE_WORDS,
+    TOTALS_ANSWER, TOTALS_AREA, TOTAL_ANSWER, VALUE_WORDS,
 };
 use digarumbi_bench::limits::MEMBER_BYTES;
 use digarumbi_versus::large::{
@@ -23,7 +24,7 @@ const LEAST: usize = 16;
 const MOST: usize = 8_192;
 const STEP: usize = 4;
 
-const WORK: [&str; 4] = ["nothing", "members", "values", "looks"];
+const WORK: [&str; 6] = ["nothing", "members", "one leaf", "all leaves", "values", "looks"];
 
 fn main() {
     let arguments: Vec<String> = env::args().skip(1).collect();
@@ -59,13 +60,15 @@ fn ends(work: &str, kib: usize) -> bool {
 fn run(work: &str, kib: usize) {
     // The inputs are made outside the small stack.
     let inputs = match work {
-        "members" => members(),
+        "members" | "one leaf" | "all leaves" => members(),
         "values" => values(),
         "looks" => stored::looks().into_iter().map(|look| look.bytes).collect(),
         _ => Vec::new(),
     };
     let read = match work {
         "members" => read_members,
+        "one leaf" => total_one_leaf,
+        "all leaves" => total_all_leaves,
         "values" => read_values,
         _ => read_looks,
     };
@@ -111,6 +114,22 @@ fn read_members(members: &[Vec<u8>]) {
     let (mut nodes, mut cells) = (vec![0; NODE_AREA], vec![0; CELL_AREA]);
     for member in members {
         lent::read_member(member, &mut answer, &mut nodes, &mut cells);
+    }
+}
+
+fn total_one_leaf(members: &[Vec<u8>]) {
+    let mut answer = vec![0; TOTAL_ANSWER];
+    let (mut nodes, mut cells) = (vec![0; NODE_AREA], vec![0; CELL_AREA]);
+    for member in members {
+        lent::total(member, 0, 0, &mut answer, &mut nodes, &mut cells);
+    }
+}
+
+fn total_all_leaves(members: &[Vec<u8>]) {
+    let (mut answer, mut totals) = (vec![0; TOTALS_ANSWER], vec![0; TOTALS_AREA]);
+    let (mut nodes, mut cells) = (vec![0; NODE_AREA], vec![0; CELL_AREA]);
+    for member in members {
+        lent::totals(member, 0, &mut answer, &mut totals, &mut nodes, &mut cells);
     }
 }
 
