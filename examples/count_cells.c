@@ -1,6 +1,6 @@
 /* Prints each cell of a member that is a number, and how many cells are numbers, missing and texts. A NaN is none of these.
  *
- *   gcc -std=c99 -Iinclude examples/count_cells.c target/staticlib/libapi.a -o target/count_cells
+ *   gcc -std=c99 -Iinclude examples/count_cells.c target/lib/libdigarumbi.a -o target/count_cells
  *   target/count_cells examples/spine_1.bin
  */
 #include <stdio.h>

@@ -1,6 +1,6 @@
 /* Prints the number of dimensions, categories and cells of a member, or its refusal.
  *
- *   gcc -std=c99 -Iinclude examples/read_member.c target/staticlib/libapi.a -o target/read_member
+ *   gcc -std=c99 -Iinclude examples/read_member.c target/lib/libdigarumbi.a -o target/read_member
  *   target/read_member examples/spine_18.bin
  */
 #include <stdio.h>

@@ -10,7 +10,7 @@
  * The caller owes only what every C function with pointers asks: a pointer with a length points to that many elements, aligned for
  * their type. It is never NULL, also where the length is 0. An area that is written overlaps nothing else that the same call is given.
  *
- * Link with target/staticlib/libapi.a, which ./build writes (x86-64 Linux).
+ * Link with libdigarumbi.a or libdigarumbi.so, which ./build writes into target/lib (x86-64 Linux).
  */
 #ifndef DIGARUMBI_H
 #define DIGARUMBI_H

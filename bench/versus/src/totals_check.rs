@@ -95,8 +95,7 @@ impl Check for TotalsCheck {
         let shape = Shape::from(&answer);
         let count = shape.leaves.len() as u32;
         for dimension in (0..=count).chain([u32::MAX]) {
-            self.dimension(member, &shape, dimension)
-                .map_err(|difference| difference.with(format_args!("dimension {dimension}")))?;
+            self.dimension(member, &shape, dimension)?;
         }
         self.bindings(member, &shape)
     }
