@@ -54,6 +54,9 @@ pub const CASES_ANSWER: usize = 2;
 /// Words of the answer of [`cases_feed`].
 pub const CASES_FEED_ANSWER: usize = 4;
 
+/// Bytes of stack in which a thread can call any of these functions.
+pub const STACK: usize = 262_144;
+
 /// Bytes of the longest look.
 pub const LONGEST_LOOK: usize = 3_160;
 
