@@ -21,7 +21,7 @@ mod value;
 
 pub use cases::{CaseError, Cases, Element, Kind};
 pub use look::{rewrite_look, Area, Frame, Look, Separator, Separators, V2Styles};
-pub use refusal::Refusal;
+pub use refusal::{refusal_text, Reason, Refusal};
 pub use table::{part, read_member, Axes, Category, Cell, Dimension, Node, NodeKind, Table};
 pub use total::Total;
 pub use units::{font_height, Pt, Px};
