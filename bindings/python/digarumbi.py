@@ -1,5 +1,5 @@
 """Reads light detail members, version 1 and 3, and binary table looks (.tlo), totals the counts of members, and converts text in old
-code pages, over a library in which every function is proved to meet its contract.
+code pages, and decodes compressed case data, over a library in which every function is proved to meet its contract.
 
     import digarumbi
     table = digarumbi.read_member(open("examples/spine_1.bin", "rb").read())
@@ -16,10 +16,27 @@ compare what comes back.
 
 import ctypes
 import ctypes.util
+import io
 import os
-from ctypes import POINTER, byref, c_char_p, c_double, c_size_t, c_uint32
+import struct
+from ctypes import POINTER, byref, c_char_p, c_double, c_int32, c_size_t, c_uint32
 
-__all__ = ["Refused", "Table", "Look", "read_member", "read_look", "rewrite_look", "decode", "encode", "refusal_text", "REFUSALS"]
+__all__ = [
+    "Refused",
+    "Table",
+    "Look",
+    "read_member",
+    "read_look",
+    "rewrite_look",
+    "decode",
+    "encode",
+    "read_cases",
+    "pt_to_px",
+    "px_to_pt",
+    "font_height",
+    "refusal_text",
+    "REFUSALS",
+]
 
 ABI = 2
 
@@ -30,6 +47,9 @@ TOTALS_ANSWER = 5
 LOOK_ANSWER = 264
 REWRITE_ANSWER = 3
 TEXT_ANSWER = 3
+CASES_ANSWER = 2
+CASES_FEED_ANSWER = 4
+CASES_STATE = 268
 
 DIMENSION_RECORD = 4
 NODE_RECORD = 7
@@ -103,6 +123,12 @@ FUNCTIONS = {
     "digarumbi_rewrite_look": (BYTES + BYTES + AREA, c_size_t),
     "digarumbi_to_utf8": ([c_uint32] + BYTES + BYTES + AREA, c_size_t),
     "digarumbi_from_utf8": ([c_uint32] + BYTES + BYTES + AREA, c_size_t),
+    "digarumbi_cases_start": (BYTES + [c_uint32] + AREA + AREA, c_size_t),
+    "digarumbi_cases_feed": (AREA + BYTES + BYTES + AREA, c_size_t),
+    "digarumbi_cases_end": (AREA + AREA, c_size_t),
+    "digarumbi_pt_to_px": ([c_uint32, WORDS], c_uint32),
+    "digarumbi_px_to_pt": ([c_uint32, WORDS], c_uint32),
+    "digarumbi_font_height": ([c_int32, WORDS], c_uint32),
 }
 
 
@@ -144,6 +170,13 @@ def _input(data):
     """The bytes of an input, likewise."""
     data = bytes(data)
     return data, len(data)
+
+
+def _test(answer):
+    """Raises what an answer refuses."""
+    number, place = answer[0][:2]
+    if number != 0:
+        raise Refused(number, place)
 
 
 def _records(area, width, count):
@@ -233,15 +266,14 @@ def _test_page(page):
 
 
 def read_member(data, page=None):
-    """Reads a member: a `Table`, or `Refused`. Names and texts are taken as UTF-8, or by the code page 1250, 1251 or 1252 if `page` says so; what
-    is no such text is escaped, as \\xb3."""
+    """Reads a member: a `Table`, or `Refused`. Names and texts are taken as UTF-8, or by the code page 1250, 1251 or 1252 if `page` says
+    so; what is no such text is escaped, as \\xb3."""
     _test_page(page)
     data = bytes(data)
     answer, nodes, cells = _area(MEMBER_ANSWER), _area(NODE_AREA), _area(CELL_AREA)
     _library.digarumbi_read_member(*_input(data), *answer, *nodes, *cells)
-    number, place, dimension_count, node_count, cell_count = answer[0][:5]
-    if number != 0:
-        raise Refused(number, place)
+    _test(answer)
+    node_count, cell_count = answer[0][3:5]
     return Table(data, page, answer[0][:], _records(nodes, NODE_RECORD, node_count), _records(cells, CELL_RECORD, cell_count))
 
 
@@ -362,9 +394,7 @@ class Table:
         answer = _area(TOTAL_ANSWER)
         nodes, cells = self._areas()
         _library.digarumbi_total(*_input(self.data), dimension, leaf, *answer, *nodes, *cells)
-        number, place = answer[0][:2]
-        if number != 0:
-            raise Refused(number, place)
+        _test(answer)
         return _total(answer[0][4:])
 
     def totals(self, dimension=None):
@@ -378,8 +408,7 @@ class Table:
         answer, totals = _area(TOTALS_ANSWER), _area(TOTAL_RECORD * n)
         nodes, cells = self._areas()
         _library.digarumbi_totals(*_input(self.data), dimension, *answer, *totals, *nodes, *cells)
-        if answer[0][0] != 0:
-            raise Refused(answer[0][0], answer[0][1])
+        _test(answer)
         name, paths = self._text(place, length), self._leaf_paths()[dimension]
         rows = []
         for leaf, record in enumerate(_records(totals, TOTAL_RECORD, n)):
@@ -443,9 +472,7 @@ def read_look(data, page=None):
     data = bytes(data)
     answer = _area(LOOK_ANSWER)
     _library.digarumbi_read_look(*_input(data), *answer)
-    number, place = answer[0][:2]
-    if number != 0:
-        raise Refused(number, place)
+    _test(answer)
     return Look(data, page, answer[0][2:])
 
 
@@ -490,7 +517,7 @@ def rewrite_look(data):
     """Reads a look and writes it; an accepted file is written back byte for byte."""
     out, answer = ctypes.create_string_buffer(LONGEST_LOOK), _area(REWRITE_ANSWER)
     _library.digarumbi_rewrite_look(*_input(data), out, LONGEST_LOOK, *answer)
-    return _written(out, answer[0])
+    return _written(out, answer)
 
 
 # ---- Text in old code pages ----
@@ -513,12 +540,104 @@ def _convert(convert, page, data, room):
         raise Refused(24, 0)
     out, answer = ctypes.create_string_buffer(max(room, 1)), _area(TEXT_ANSWER)
     convert(page, *_input(data), out, room, *answer)
-    return _written(out, answer[0])
+    return _written(out, answer)
 
 
 def _written(out, answer):
     """What an answer of refusal, place and length says was written."""
-    number, place, length = answer
-    if number != 0:
-        raise Refused(number, place)
-    return out.raw[:length]
+    _test(answer)
+    return out.raw[: answer[0][2]]
+
+
+# ---- Compressed case data ----
+
+KINDS = {"numeric": 0, "string": 1}
+# Bytes that are read at once, and elements that are decoded at once.
+CUT = 65536
+ROOM = 1024
+MISSING_ELEMENT = struct.pack("<d", -1.7976931348623157e308)
+
+
+def read_cases(source, kinds, bias=100, names=None):
+    """The cases of a compressed data record (004, compression 1), one dict a case, as they arrive from a binary file, or from bytes.
+
+    `kinds` is the kind of each element of a case, "numeric" or "string"; `names` are the keys, or else the elements' numbers. A numeric
+    element is a float, None if it is missing; a string element is 8 bytes. A case that the end of the data cuts short is not given."""
+    decoder = _Cases(source if hasattr(source, "read") else io.BytesIO(source), [KINDS[kind] for kind in kinds], bias)
+    keys = list(range(len(decoder.kinds)) if names is None else names)
+    if len(keys) != len(decoder.kinds):
+        raise ValueError("as many names as kinds")
+    return decoder.cases(keys)
+
+
+class _Cases:
+    def __init__(self, reader, kinds, bias):
+        self.reader, self.kinds = reader, kinds
+        self.state, answer = _area(CASES_STATE), _area(CASES_ANSWER)
+        if not 0 <= bias <= 0xFFFFFFFF:
+            raise Refused(21, 0)
+        _library.digarumbi_cases_start(*_input(kinds), bias, *self.state, *answer)
+        _test(answer)
+
+    def cases(self, keys):
+        elements = self.elements()
+        while True:
+            case = {key: _element(kind, data) for key, kind, data in zip(keys, self.kinds, elements)}
+            if len(case) < len(keys):
+                return
+            yield case
+
+    def elements(self):
+        """The elements, 8 bytes each. What is refused raises after the elements before it."""
+        offered, at_end = b"", False
+        out, answer = ctypes.create_string_buffer(8 * ROOM), _area(CASES_FEED_ANSWER)
+        while True:
+            if not offered and not at_end:
+                offered = self.reader.read(CUT)
+                at_end = not offered
+            _library.digarumbi_cases_feed(*self.state, *_input(offered), out, len(out), *answer)
+            _, _, taken, written = answer[0]
+            yield from (out.raw[at : at + 8] for at in range(0, 8 * written, 8))
+            if written == 0:
+                _test(answer)
+            # What is offered and not taken lies behind a 252.
+            if taken == 0 and written == 0 and (at_end or offered):
+                return self.end()
+            offered = offered[taken:]
+
+    def end(self):
+        answer = _area(CASES_ANSWER)
+        _library.digarumbi_cases_end(*self.state, *answer)
+        _test(answer)
+
+
+def _element(kind, data):
+    if kind == KINDS["string"]:
+        return data
+    return None if data == MISSING_ELEMENT else struct.unpack("<d", data)[0]
+
+
+# ---- Points, pixels and font heights ----
+
+
+def pt_to_px(points):
+    """Points times 133/100, rounded up. Refused above 1,000,000."""
+    return _converted(_library.digarumbi_pt_to_px, points, range(1 << 32))
+
+
+def px_to_pt(pixels):
+    """Pixels times 100/133, rounded down. Refused above 1,330,000."""
+    return _converted(_library.digarumbi_px_to_pt, pixels, range(1 << 32))
+
+
+def font_height(size):
+    """The height of a font of a look in 96ths of an inch: the negative of its size. Refused for a size of 0 and above."""
+    return _converted(_library.digarumbi_font_height, size, range(-(1 << 31), 1 << 31))
+
+
+def _converted(convert, number, words):
+    result = c_uint32()
+    refusal = convert(number, byref(result)) if number in words else 7
+    if refusal != 0:
+        raise Refused(refusal, 0)
+    return result.value

@@ -208,6 +208,63 @@ class Texts(Rows):
         self.assertRefused(24, 0, digarumbi.read_look, LOOK, 1253)
 
 
+class Cases(Rows):
+    KINDS = ["numeric", "string"]
+    STREAM = bytes([101, 254, 255, 100, 253, 253, 252, 0]) + b"\0\0\0\0\0\0\4\x40" + b"Lumbar 1"
+    CASES = [{"n": 1.0, "s": b"        "}, {"n": None, "s": bytes(8)}, {"n": 2.5, "s": b"Lumbar 1"}]
+
+    def test_cases(self):
+        self.assertEqual(list(digarumbi.read_cases(self.STREAM, self.KINDS, 100, ["n", "s"])), self.CASES)
+        self.assertEqual(next(digarumbi.read_cases(self.STREAM, self.KINDS)), {0: 1.0, 1: b"        "})
+
+    def test_cuts_make_no_difference(self):
+        for length in range(1, len(self.STREAM)):
+            cut = digarumbi.read_cases(Cut(self.STREAM, length), self.KINDS, names=["n", "s"])
+            self.assertEqual(list(cut), self.CASES)
+
+    def test_more_elements_than_are_decoded_at_once(self):
+        cases = list(digarumbi.read_cases(bytes([101] * 40000), ["numeric"]))
+        self.assertEqual((len(cases), cases[39999]), (40000, {0: 1.0}))
+
+    def test_refusals(self):
+        self.assertRefused(21, 0, digarumbi.read_cases, b"", [])
+        self.assertRefused(21, 0, digarumbi.read_cases, b"", ["numeric"], 256)
+        self.assertRefused(21, 0, digarumbi.read_cases, b"", ["numeric"], -1)
+        self.assertRefused(22, 1, list, digarumbi.read_cases(bytes([101, 254, 0, 0, 0, 0, 0, 0]), ["numeric"]))
+        self.assertRefused(23, 8, list, digarumbi.read_cases(bytes([101, 0, 0, 0, 0, 0, 0, 0]), self.KINDS))
+        with self.assertRaises(ValueError):
+            digarumbi.read_cases(b"", ["numeric"], names=[])
+
+    def test_cases_before_a_refusal(self):
+        cases = digarumbi.read_cases(bytes([101, 102, 254, 0, 0, 0, 0, 0]), ["numeric"])
+        self.assertEqual([next(cases), next(cases)], [{0: 1.0}, {0: 2.0}])
+        self.assertRefused(22, 2, next, cases)
+
+
+class Cut:
+    """A file that gives at most `length` bytes at once."""
+
+    def __init__(self, data, length):
+        self.data, self.length = data, length
+
+    def read(self, _):
+        given, self.data = self.data[: self.length], self.data[self.length :]
+        return given
+
+
+class Units(Rows):
+    def test_conversions(self):
+        self.assertEqual([digarumbi.pt_to_px(points) for points in (0, 1, 3, 72)], [0, 2, 4, 96])
+        self.assertEqual([digarumbi.px_to_pt(pixels) for pixels in (2, 96)], [1, 72])
+        self.assertEqual([digarumbi.font_height(size) for size in (-12, -(2**31))], [12, 2**31])
+
+    def test_refusals(self):
+        for points in (1000001, -1, 2**32):
+            self.assertRefused(7, 0, digarumbi.pt_to_px, points)
+        for size in (0, 12, 2**31, -(2**31) - 1):
+            self.assertRefused(7, 0, digarumbi.font_height, size)
+
+
 class Numbers(unittest.TestCase):
     def value(self, bits):
         return digarumbi._Value(3, b"\1\x58" + bytes(4) + bits.to_bytes(8, "little"), None)
@@ -219,8 +276,9 @@ class Numbers(unittest.TestCase):
         self.assertEqual((self.value(0xFFEFFFFFFFFFFFFF).kind(), self.value(0xFFEFFFFFFFFFFFFF).value()), ("missing", None))
 
     def test_texts_of_doubles(self):
-        texts = [(0x4004000000000000, "2.5"), (0x401C000000000000, "7"), (1 << 63, "-0"), (0x7FF0000000000000, "inf"), (0x7FF8000000000000, "nan")]
-        for bits, text in texts + [(0xFFEFFFFFFFFFFFFF, ".")]:
+        finite = [(0x4004000000000000, "2.5"), (0x401C000000000000, "7"), (1 << 63, "-0")]
+        others = [(0x7FF0000000000000, "inf"), (0x7FF8000000000000, "nan"), (0xFFEFFFFFFFFFFFFF, ".")]
+        for bits, text in finite + others:
             self.assertEqual(self.value(bits).text(), text)
 
 
@@ -236,9 +294,11 @@ class Library(unittest.TestCase):
 
     def test_the_sizes_of_the_header(self):
         header = file("include", "digarumbi.h").decode()
-        for name in "MEMBER_ANSWER VALUE_WORDS TOTAL_ANSWER TOTALS_ANSWER LOOK_ANSWER REWRITE_ANSWER TEXT_ANSWER NODE_RECORD".split():
-            self.assertIn(f"DIGARUMBI_{name} = {getattr(digarumbi, name)}", header)
-        for name in "NODE_AREA CELL_AREA LONGEST_LOOK".split():
+        answers = "MEMBER_ANSWER VALUE_WORDS TOTAL_ANSWER TOTALS_ANSWER LOOK_ANSWER REWRITE_ANSWER TEXT_ANSWER CASES_ANSWER CASES_FEED_ANSWER"
+        records = "DIMENSION_RECORD NODE_RECORD CELL_RECORD TOTAL_RECORD"
+        for name in f"{answers} {records}".split():
+            self.assertRegex(header, rf"\bDIGARUMBI_{name} = {getattr(digarumbi, name)}\b")
+        for name in "NODE_AREA CELL_AREA LONGEST_LOOK CASES_STATE".split():
             self.assertIn(f"#define DIGARUMBI_{name} {getattr(digarumbi, name)}\n", header)
 
     def test_a_library_that_is_not_there(self):
