@@ -11,7 +11,8 @@
  * their type; where the length is 0 it may be NULL. A pointer without a length is never NULL. An area that is written overlaps nothing else
  * that the same call is given.
  *
- * Link with libdigarumbi.a or libdigarumbi.so, which ./build writes into target/lib (x86-64 Linux).
+ * Link with libdigarumbi.a or libdigarumbi.so, which ./build writes into target/lib (x86-64 Linux), or with the flags of
+ * `pkg-config --libs digarumbi` after ./install.
  */
 #ifndef DIGARUMBI_H
 #define DIGARUMBI_H
