@@ -5,7 +5,6 @@ use std::ffi::OsString;
 use digarumbi::{read_member, Refusal, Table};
 
 use crate::json::Object;
-use crate::refusal::{words, Of};
 use crate::session::{Session, Status, Written};
 
 pub fn run(session: &mut Session, files: &[OsString]) -> Written {
@@ -35,7 +34,7 @@ fn accepted(session: &mut Session, file: &str, table: &Table) -> Written {
 
 fn refused(session: &mut Session, file: &str, refusal: &Refusal) -> Written {
     session.set(Status::Refused);
-    let (number, place, words) = (refusal.number, refusal.place, words(Of::Member, refusal.number));
+    let (number, place, words) = (refusal.number, refusal.place, refusal.text());
     if session.options.json {
         let object = Object::new().text("file", file).plain("accepted", false);
         let object = object.plain("number", number).plain("place", place);

@@ -8,7 +8,7 @@ use crate::encoding::Encoding;
 use crate::input::{self, Input};
 use crate::json::Object;
 use crate::look_words::{fields, Field};
-use crate::refusal::{sentence, words, Of};
+use crate::refusal::sentence;
 use crate::replace::replace;
 use crate::session::{reason, Session, Status, Written};
 
@@ -26,7 +26,7 @@ fn write_back(session: &mut Session, input: &Input, output: &OsStr) -> Written {
     let look = match rewrite_look(&input.bytes) {
         Ok(look) => look,
         Err(refusal) => {
-            session.say_refused(&input.name, &sentence(Of::Look, &refusal));
+            session.say_refused(&input.name, &sentence(&refusal));
             return Ok(());
         }
     };
@@ -60,8 +60,8 @@ fn refused(session: &mut Session, input: &Input, refusal: &Refusal) -> Written {
         session.set(Status::Refused);
         let object = Object::new().text("file", &input.name).plain("accepted", false);
         let object = object.plain("number", refusal.number).plain("place", refusal.place);
-        return session.line(object.text("words", words(Of::Look, refusal.number)).end());
+        return session.line(object.text("words", refusal.text()).end());
     }
-    session.say_refused(&input.name, &sentence(Of::Look, refusal));
+    session.say_refused(&input.name, &sentence(refusal));
     Ok(())
 }

@@ -12,7 +12,7 @@ use digarumbi::{read_member, Table};
 
 use crate::input::Input;
 use crate::names::{names, DimensionNames};
-use crate::refusal::{sentence, Of};
+use crate::refusal::sentence;
 use crate::session::{Session, Written};
 use crate::text::Texts;
 
@@ -39,7 +39,7 @@ fn with_member(
             then(session, &Member { bytes, file: &input.name, table, texts, names })
         }
         Err(refusal) => {
-            session.say_refused(&input.name, &sentence(Of::Member, &refusal));
+            session.say_refused(&input.name, &sentence(&refusal));
             Ok(())
         }
     }

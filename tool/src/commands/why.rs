@@ -1,40 +1,57 @@
-//! `why`: why a member is refused, with the path of productions to the place.
+//! `why`: why a member or a look is refused, with the path of productions to the place.
 
 use std::ffi::OsString;
 
-use digarumbi::{read_member, Refusal, Table, ValueBytes};
+use digarumbi::{read_member, Look, Refusal, ValueBytes};
 
 use crate::dump::dump;
 use crate::input::Input;
 use crate::json::Object;
-use crate::refusal::{sentence, words, Of};
+use crate::refusal::sentence;
 use crate::session::{Session, Status, Written};
 use crate::text::Texts;
-use crate::walk::{walk, Kept, Step, Stop};
+use crate::walk::{walk, walk_look, Step, Stop};
 
 pub fn run(session: &mut Session, files: &[OsString]) -> Written {
     session.each_input(files, |session, input| {
-        let library = read_member(&input.bytes);
-        let walked = walk(&input.bytes);
+        let (library, walked) = match is_look(input) {
+            true => (look_answer(input), walk_look(&input.bytes)),
+            false => (member_answer(input), walk(&input.bytes).map(drop)),
+        };
         match library {
-            Ok(table) => accepted(session, input, &table, walked),
+            Ok(answer) => accepted(session, input, &answer, walked),
             Err(refusal) => refused(session, input, &refusal, walked),
         }
     })
 }
 
-type Walked = Result<Kept, Box<Stop>>;
+/// A look begins with ff. A file that is named as one is taken for one.
+fn is_look(input: &Input) -> bool {
+    input.bytes.first() == Some(&0xff) || input.name.to_ascii_lowercase().ends_with(".tlo")
+}
 
-fn accepted(session: &mut Session, input: &Input, table: &Table, walked: Walked) -> Written {
+/// What the library answers, in words.
+fn member_answer(input: &Input) -> Result<String, Refusal> {
+    let table = read_member(&input.bytes)?;
+    let counts = [table.dimensions.len(), table.nodes.len(), table.cells.len()];
+    let [dimensions, nodes, cells] = counts;
+    Ok(format!("accepted {dimensions} dims {nodes} nodes {cells} cells"))
+}
+
+fn look_answer(input: &Input) -> Result<String, Refusal> {
+    let look = Look::read(&input.bytes)?;
+    Ok(format!("accepted, a look of version {:02}", look.version))
+}
+
+type Walked = Result<(), Box<Stop>>;
+
+fn accepted(session: &mut Session, input: &Input, answer: &str, walked: Walked) -> Written {
     let disagrees = walked.is_err().then(|| disagreement(&walked));
     if session.options.json {
         let object = Object::new().text("file", &input.name).plain("accepted", true);
         return session.line(with_disagreement(object, disagrees).end());
     }
-    let counts = [table.dimensions.len(), table.nodes.len(), table.cells.len()];
-    let [dimensions, nodes, cells] = counts;
-    let name = &input.name;
-    let line = format!("{name}: accepted {dimensions} dims {nodes} nodes {cells} cells");
+    let line = format!("{}: {answer}", input.name);
     session.line([vec![line], disagrees.into_iter().collect()].concat().join("\n"))
 }
 
@@ -62,7 +79,7 @@ fn is_same(refusal: &Refusal, stop: &Stop) -> bool {
 /// What the reader that keeps the path says, where the library says something else.
 fn disagreement(walked: &Walked) -> String {
     let says = match walked {
-        Ok(_) => "accepts the member".to_string(),
+        Ok(()) => "accepts the file".to_string(),
         Err(stop) => format!("says refused {} at {}", stop.number, stop.field.place),
     };
     format!(
@@ -86,7 +103,7 @@ fn json_refused(
 ) -> String {
     let object = Object::new().text("file", &input.name).plain("accepted", false);
     let object = object.plain("number", refusal.number).plain("place", refusal.place);
-    let object = object.text("words", words(Of::Member, refusal.number));
+    let object = object.text("words", refusal.text());
     let object = match stop {
         Some(stop) => {
             let path = path(session, input, stop);
@@ -106,7 +123,7 @@ fn text_refused(
     stop: Option<&Stop>,
     disagrees: Option<String>,
 ) -> String {
-    let mut lines = vec![format!("{}: {}", input.name, sentence(Of::Member, refusal))];
+    let mut lines = vec![format!("{}: {}", input.name, sentence(refusal))];
     let length = match stop {
         Some(stop) => {
             lines.push(format!("  path      {}", path(session, input, stop).join(" > ")));

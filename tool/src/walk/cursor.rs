@@ -107,7 +107,7 @@ impl<'a> Cursor<'a> {
     }
 
     /// A field of `length` bytes.
-    fn field(&mut self, name: &'static str, length: usize, what: &str) -> Answer<&'a [u8]> {
+    pub fn field(&mut self, name: &'static str, length: usize, what: &str) -> Answer<&'a [u8]> {
         if length > self.end - self.place {
             let field = Span { place: self.place, length };
             let expected =
@@ -158,7 +158,7 @@ impl<'a> Cursor<'a> {
     }
 
     /// A byte that `is` one of those expected.
-    fn tested_byte(
+    pub fn tested_byte(
         &mut self,
         name: &'static str,
         number: u32,

@@ -1,9 +1,10 @@
-//! A reader of members that keeps the path of productions to the place it reads.
+//! A reader of members and looks that keeps the path of productions to the place it reads.
 //!
-//! It says where a member stops being one and why, in words, and keeps the few fields that the
-//! library does not give. It decides nothing: what is accepted, the library says.
+//! It says where one stops being one and why, in words, and keeps the few fields of a member that
+//! the library does not give. It decides nothing: what is accepted, the library says.
 
 mod cursor;
+mod look;
 mod sections;
 mod table;
 #[cfg(test)]
@@ -11,6 +12,7 @@ mod tests;
 mod value;
 
 pub use cursor::{Span, Step, Stop};
+pub use look::walk_look;
 
 use cursor::{said, Cursor};
 

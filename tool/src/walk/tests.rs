@@ -1,11 +1,11 @@
 //! The reader that keeps the path against the library.
 
-use digarumbi::read_member;
+use digarumbi::{read_member, Look};
 use digarumbi_bench::damage::damaged;
-use digarumbi_bench::generate::member;
+use digarumbi_bench::generate::{look_bytes, member};
 use digarumbi_bench::random::Random;
 
-use super::walk;
+use super::{walk, walk_look};
 
 /// Both accept, or refuse with the same number at the same place.
 fn same(bytes: &[u8]) {
@@ -14,13 +14,23 @@ fn same(bytes: &[u8]) {
     assert_eq!(walked, library, "of {} bytes", bytes.len());
 }
 
-fn stored() -> Vec<Vec<u8>> {
-    let folder = concat!(env!("CARGO_MANIFEST_DIR"), "/../crates/corpus_main/data");
+fn same_look(bytes: &[u8]) {
+    let library = Look::read(bytes).map(drop).map_err(|no| (no.number, no.place as usize));
+    let walked = walk_look(bytes).map_err(|stop| (stop.number, stop.field.place));
+    assert_eq!(walked, library, "of {} bytes", bytes.len());
+}
+
+fn files(folder: &str) -> Vec<Vec<u8>> {
+    let folder = format!("{}/../crates/{folder}/data", env!("CARGO_MANIFEST_DIR"));
     let files = std::fs::read_dir(folder).expect("it is in the repository");
     let files: Vec<Vec<u8>> =
         files.map(|file| std::fs::read(file.unwrap().path()).expect("a file")).collect();
-    assert!(files.len() > 200);
+    assert!(files.len() > 20);
     files
+}
+
+fn stored() -> Vec<Vec<u8>> {
+    files("corpus_main")
 }
 
 #[test]
@@ -68,4 +78,19 @@ fn what_is_kept() {
     let kept = walk(member).expect("a real member");
     assert_eq!(kept.locale.of(member), b"en_US.ISO_8859-1:1987");
     assert_eq!(kept.charset_bytes(member), b"UTF-8");
+}
+
+#[test]
+fn looks() {
+    let mut random = Random::new(3);
+    let mut looks = files("looks_main");
+    looks.extend((0..300).map(|_| look_bytes(&mut random)));
+    for look in looks {
+        same_look(&look);
+        for _ in 0..50 {
+            same_look(&damaged(&look, &mut random));
+        }
+    }
+    let look = include_bytes!("../../../examples/look_02.tlo");
+    (0..look.len()).for_each(|length| same_look(&look[..length]));
 }
