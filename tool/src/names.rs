@@ -1,5 +1,7 @@
 //! The names of a table's dimensions and leaves.
 
+use std::rc::Rc;
+
 use digarumbi::{Node, NodeKind, Table};
 
 use crate::text::Texts;
@@ -10,7 +12,7 @@ pub const BETWEEN: &str = " > ";
 pub struct DimensionNames {
     pub name: String,
     /// By leaf index: the names of the groups, outer ones first, and of the leaf.
-    pub leaves: Vec<Vec<String>>,
+    pub leaves: Vec<Vec<Rc<str>>>,
     /// The leaf indexes in file order, which is the order in which they are shown.
     pub order: Vec<u32>,
 }
@@ -28,10 +30,10 @@ impl DimensionNames {
 
 /// The names of all dimensions.
 pub fn names(member: &[u8], table: &Table, texts: &Texts) -> Vec<DimensionNames> {
-    let shown: Vec<Option<String>> = table
+    let shown: Vec<Option<Rc<str>>> = table
         .nodes
         .iter()
-        .map(|node| (!is_merged(member, node)).then(|| texts.value_of(&node.name_bytes)))
+        .map(|node| (!is_merged(member, node)).then(|| texts.value_of(&node.name_bytes).into()))
         .collect();
     let names_of = |dimension: usize| {
         let mut leaves = vec![Vec::new(); table.dimensions[dimension].n as usize];
@@ -49,9 +51,9 @@ pub fn names(member: &[u8], table: &Table, texts: &Texts) -> Vec<DimensionNames>
 }
 
 /// The names of a node's groups and its own.
-fn path(table: &Table, shown: &[Option<String>], number: usize) -> Vec<String> {
+fn path(table: &Table, shown: &[Option<Rc<str>>], number: usize) -> Vec<Rc<str>> {
     let parent = |&number: &usize| table.nodes[number].parent;
-    let mut path: Vec<String> =
+    let mut path: Vec<Rc<str>> =
         std::iter::successors(Some(number), parent).filter_map(|i| shown[i].clone()).collect();
     path.reverse();
     path

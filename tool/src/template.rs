@@ -1,7 +1,9 @@
 //! Templates with their arguments put in (003, Value).
 
-/// A longer text is not made: a few bytes of nested templates could ask for gigabytes.
+/// A longer text is not made, and not with more steps: a few bytes of nested templates could ask for
+/// gigabytes, or for hours.
 const LONGEST: usize = 4_096;
+const MOST_STEPS: usize = 65_536;
 
 /// The template with the values of its arguments; None if the text would be too long.
 ///
@@ -12,14 +14,14 @@ pub fn expand(template: &[u8], arguments: &[Vec<Vec<u8>>]) -> Option<Vec<u8>> {
     let mut out = Text::default();
     let mut rest = template;
     while let Some(&byte) = rest.first() {
-        if out.bytes.len() > LONGEST {
+        if out.is_over() {
             return None;
         }
         rest = match byte {
             b'\\' => out.push_escape(rest),
             b'^' => match number_after(&rest[1..]) {
                 Some((i, after)) if i >= 1 && i <= arguments.len() => {
-                    arguments[i - 1].first().into_iter().for_each(|value| out.push(value));
+                    out.push(arguments[i - 1].first().map_or(&[], |value| value));
                     after
                 }
                 _ => out.push_byte(rest),
@@ -34,7 +36,7 @@ pub fn expand(template: &[u8], arguments: &[Vec<Vec<u8>>]) -> Option<Vec<u8>> {
             _ => out.push_byte(rest),
         };
     }
-    Some(out.bytes).filter(|bytes| bytes.len() <= LONGEST)
+    (!out.is_over()).then_some(out.bytes)
 }
 
 /// `[A:B:]I` after its first byte.
@@ -75,11 +77,17 @@ fn number_after(text: &[u8]) -> Option<(usize, &[u8])> {
 #[derive(Default)]
 struct Text {
     bytes: Vec<u8>,
+    steps: usize,
 }
 
 impl Text {
+    fn is_over(&self) -> bool {
+        self.bytes.len() > LONGEST || self.steps > MOST_STEPS
+    }
+
     fn push(&mut self, bytes: &[u8]) {
-        if self.bytes.len() <= LONGEST {
+        self.steps += 1;
+        if !self.is_over() {
             self.bytes.extend(bytes);
         }
     }
@@ -104,7 +112,7 @@ impl Text {
         if !list.first.is_empty() {
             left = self.push_some(list.first, b'%', left);
         }
-        while !left.is_empty() && self.bytes.len() <= LONGEST {
+        while !left.is_empty() && !self.is_over() {
             let before = left.len();
             left = self.push_some(list.others, b'^', left);
             if left.len() == before {
@@ -117,10 +125,10 @@ impl Text {
     fn push_some<'v>(&mut self, part: &[u8], sign: u8, values: &'v [Vec<u8>]) -> &'v [Vec<u8>] {
         let mut used = 0;
         let mut rest = part;
-        while let Some(&byte) = rest.first() {
+        while let Some(&byte) = rest.first().filter(|_| !self.is_over()) {
             rest = match number_after(&rest[1..]) {
                 Some((j, after)) if byte == sign && j >= 1 => {
-                    values.get(j - 1).into_iter().for_each(|value| self.push(value));
+                    self.push(values.get(j - 1).map_or(&[], |value| value));
                     used = used.max(j);
                     after
                 }
@@ -169,5 +177,8 @@ mod tests {
         let long = vec![vec![b'a'; 3_000]];
         assert!(expand(b"^1", &[long.clone()]).is_some());
         assert_eq!(expand(b"^1^1^1", &[long]), None);
+        let empty = vec![Vec::new(); 1_000];
+        let long_list = [b"[:", &b"^1".repeat(1_000)[..], b":]1"].concat();
+        assert_eq!(expand(&long_list, &[empty]), None);
     }
 }

@@ -117,8 +117,9 @@ fn compare(session: &mut Session, member: &Member, lines: &[&HandLine]) -> Writt
         return report(session, member.file, ".", ".", none);
     }
     let mut counts: Counts = HashMap::new();
+    let mut places = Places::new(member);
     for line in lines {
-        match place(member, line) {
+        match places.of(line) {
             Ok(Some(at)) => {
                 if let Some(first) = counts.insert(at, line) {
                     let (line, first) = (line.number, first.number);
@@ -180,33 +181,67 @@ fn difference<'w>(
     Some(Difference { hand, total: found, what })
 }
 
-/// The dimension and leaf of a line; none if the member has it not.
-fn place(member: &Member, line: &HandLine) -> Result<Option<(usize, usize)>, String> {
-    let named = member.names.iter().any(|names| same_name(&names.name, &line.dimension));
-    let numbered = line.dimension.parse().is_ok_and(|number: usize| number < member.names.len());
-    if !named && !numbered {
-        return Ok(None);
-    }
-    let dimension = dimension_named(member, &line.dimension)?;
-    let leaf = leaf_named(&member.names[dimension], &line.leaf)?;
-    Ok(leaf.map(|leaf| (dimension, leaf)))
+/// The dimensions and leaves of a member, as they may be typed.
+struct Places<'m, 'a> {
+    member: &'m Member<'a>,
+    /// The leaves of the dimensions that were asked for.
+    leaves: HashMap<usize, LeafNames>,
 }
 
-/// The leaf with this path, or else with this name, or else `#` and its leaf index.
-fn leaf_named(names: &DimensionNames, asked: &str) -> Result<Option<usize>, String> {
-    let all = || 0..names.leaves.len();
-    let by_path: Vec<usize> = all().filter(|&leaf| same_name(&names.path(leaf), asked)).collect();
-    let is_own =
-        |leaf: &usize| names.leaves[*leaf].last().is_some_and(|name| same_name(name, asked));
-    let found = if by_path.is_empty() { all().filter(is_own).collect() } else { by_path };
-    match found[..] {
-        [leaf] => Ok(Some(leaf)),
-        [] => {
-            let index = asked.strip_prefix('#').and_then(|index| index.parse().ok());
-            Ok(index.filter(|&index: &usize| index < names.leaves.len()))
+impl<'m, 'a> Places<'m, 'a> {
+    fn new(member: &'m Member<'a>) -> Places<'m, 'a> {
+        Places { member, leaves: HashMap::new() }
+    }
+
+    /// The dimension and leaf of a line; none if the member has it not.
+    fn of(&mut self, line: &HandLine) -> Result<Option<(usize, usize)>, String> {
+        let names = &self.member.names;
+        let named = names.iter().any(|names| same_name(&names.name, &line.dimension));
+        let numbered = line.dimension.parse().is_ok_and(|number: usize| number < names.len());
+        if !named && !numbered {
+            return Ok(None);
         }
-        _ => {
-            Err(format!("several leaves are named {asked}; give the path, or # and the leaf index"))
+        let dimension = dimension_named(self.member, &line.dimension)?;
+        let leaves =
+            self.leaves.entry(dimension).or_insert_with(|| LeafNames::new(&names[dimension]));
+        Ok(leaves.leaf(&line.leaf)?.map(|leaf| (dimension, leaf)))
+    }
+}
+
+/// The leaves of a dimension by their paths and by their own names, without spaces around.
+struct LeafNames {
+    count: usize,
+    by_path: HashMap<String, Vec<usize>>,
+    by_name: HashMap<String, Vec<usize>>,
+}
+
+impl LeafNames {
+    fn new(names: &DimensionNames) -> LeafNames {
+        let mut leaves = LeafNames {
+            count: names.leaves.len(),
+            by_path: HashMap::new(),
+            by_name: HashMap::new(),
+        };
+        for (leaf, path) in names.leaves.iter().enumerate() {
+            leaves.by_path.entry(names.path(leaf).trim().into()).or_default().push(leaf);
+            let name = path.last().map_or("", |name| name.trim());
+            leaves.by_name.entry(name.into()).or_default().push(leaf);
+        }
+        leaves
+    }
+
+    /// The leaf with this path, or else with this name, or else `#` and its leaf index.
+    fn leaf(&self, asked: &str) -> Result<Option<usize>, String> {
+        let named = self.by_path.get(asked).or(self.by_name.get(asked));
+        match named.map(Vec::as_slice) {
+            Some([leaf]) => Ok(Some(*leaf)),
+            Some(_) => Err(format!(
+                "several leaves are named {asked}; give the path, or # and the leaf index"
+            )),
+            None => {
+                let index = asked.strip_prefix('#').and_then(|index| index.parse().ok());
+                Ok(index.filter(|&index: &usize| index < self.count))
+            }
         }
     }
 }

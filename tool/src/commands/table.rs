@@ -2,6 +2,7 @@
 
 use std::collections::{BTreeSet, HashMap};
 use std::ffi::OsString;
+use std::rc::Rc;
 
 use super::{with_member, Member};
 use crate::grid::{Entry, Grid};
@@ -12,6 +13,8 @@ use crate::session::{Session, Status, Written};
 const ALL_PLACES: u64 = 65_536;
 /// More places are not drawn.
 const MOST_PLACES: usize = 1_000_000;
+/// Longer texts are cut in the table.
+const MOST_CHARACTERS: usize = 80;
 
 pub fn run(session: &mut Session, files: &[OsString]) -> Written {
     let headed = files.len() > 1;
@@ -53,6 +56,13 @@ fn text_table(session: &mut Session, member: &Member, headed: bool) -> Written {
     session.line(lines.join("\n"))
 }
 
+fn cut(text: &str) -> String {
+    match text.char_indices().nth(MOST_CHARACTERS) {
+        Some((end, _)) => format!("{}..", &text[..end]),
+        None => text.to_string(),
+    }
+}
+
 /// A leaf index for each dimension of an axis, outer ones first.
 type Position = Vec<u32>;
 
@@ -83,38 +93,38 @@ impl Axis {
     fn position_line(&self, member: &Member, position: &Position) -> Option<String> {
         let part = |(&dimension, &leaf): (&usize, &u32)| {
             let names = &member.names[dimension];
-            format!("{}: {}", names.name.trim(), names.path(leaf as usize))
+            format!("{}: {}", cut(names.name.trim()), cut(&names.path(leaf as usize)))
         };
         let parts: Vec<String> = self.dimensions.iter().zip(position).map(part).collect();
         (!parts.is_empty()).then(|| format!("layer: {}", parts.join(", ")).trim_end().to_string())
     }
 
     /// The labels of each position, one to a level; a short path ends in the first or the last.
-    fn labels(&self, member: &Member, ends_last: bool) -> Vec<Vec<String>> {
+    fn labels(&self, member: &Member, ends_last: bool) -> Vec<Vec<Rc<str>>> {
+        let depths: Vec<usize> = self.dimensions.iter().map(|&i| member.names[i].depth()).collect();
         let labels = |position: &Position| {
-            let part = |(&dimension, &leaf): (&usize, &u32)| {
-                let names = &member.names[dimension];
-                let path = names.leaves[leaf as usize].clone();
-                let fill = vec![String::new(); names.depth() - path.len()];
+            let part = |((&dimension, &leaf), &depth): ((&usize, &u32), &usize)| {
+                let path = member.names[dimension].leaves[leaf as usize].clone();
+                let fill = vec![Rc::from(""); depth - path.len()];
                 if ends_last {
                     [fill, path].concat()
                 } else {
                     [path, fill].concat()
                 }
             };
-            self.dimensions.iter().zip(position).flat_map(part).collect()
+            self.dimensions.iter().zip(position).zip(&depths).flat_map(part).collect()
         };
         without_repeats(self.positions.iter().map(labels).collect())
     }
 }
 
 /// Labels with those left out that the position before has too; the last one stays.
-fn without_repeats(labels: Vec<Vec<String>>) -> Vec<Vec<String>> {
+fn without_repeats(labels: Vec<Vec<Rc<str>>>) -> Vec<Vec<Rc<str>>> {
     let mut shown = labels.clone();
     for (i, pair) in labels.windows(2).enumerate() {
         let same = pair[0].iter().zip(&pair[1]).take_while(|(a, b)| a == b).count();
         let last = pair[1].len().saturating_sub(1);
-        shown[i + 1][..same.min(last)].fill(String::new());
+        shown[i + 1][..same.min(last)].fill(Rc::from(""));
     }
     shown
 }
@@ -168,7 +178,7 @@ impl<'m, 'a> Drawing<'m, 'a> {
         let cell = |cell: &digarumbi::Cell| {
             let value = cell.value().ok();
             let right = value.is_some_and(|value| value.bits().is_some());
-            let text = member.texts.value_of(&cell.value_bytes);
+            let text = cut(&member.texts.value_of(&cell.value_bytes));
             (cell.index, Entry { text, right })
         };
         Drawing {
@@ -186,11 +196,11 @@ impl<'m, 'a> Drawing<'m, 'a> {
         let corner = vec![Entry::default(); row_labels.first().map_or(0, Vec::len)];
         let levels = column_labels.first().map_or(0, Vec::len);
         let heading = |level: usize| {
-            let label = |labels: &Vec<String>| Entry { text: labels[level].clone(), right: true };
+            let label = |labels: &Vec<Rc<str>>| Entry { text: cut(&labels[level]), right: true };
             corner.iter().cloned().chain(column_labels.iter().map(label)).collect()
         };
-        let body = |(labels, row): (&Vec<String>, &Position)| {
-            let labels = labels.iter().map(|text| Entry { text: text.clone(), right: false });
+        let body = |(labels, row): (&Vec<Rc<str>>, &Position)| {
+            let labels = labels.iter().map(|text| Entry { text: cut(text), right: false });
             let cells = self.columns.positions.iter().map(|column| self.cell(layer, row, column));
             labels.chain(cells).collect()
         };
@@ -216,7 +226,7 @@ impl<'m, 'a> Drawing<'m, 'a> {
 }
 
 fn json_table(member: &Member) -> String {
-    let texts = |texts: &[String]| json::list(texts.iter().map(|text| json::text(text)));
+    let texts = |texts: &[Rc<str>]| json::list(texts.iter().map(|text| json::text(text)));
     let dimensions = member.names.iter().map(|names| {
         let leaves = json::list(names.leaves.iter().map(|path| texts(path)));
         let order = json::list(names.order.iter().map(u32::to_string));
