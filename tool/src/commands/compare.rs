@@ -28,8 +28,8 @@ pub fn run(session: &mut Session, files: &[OsString]) -> Written {
 /// The hand counts, each with the file that it speaks of.
 struct Hand {
     lines: Vec<HandLine>,
-    /// By line: the number of its file on the command line.
-    files: Vec<Option<usize>>,
+    /// By line: its file as on the command line.
+    files: Vec<Option<String>>,
 }
 
 fn hand_lines(hand_file: &OsStr, files: &[OsString]) -> Result<Hand, String> {
@@ -40,17 +40,17 @@ fn hand_lines(hand_file: &OsStr, files: &[OsString]) -> Result<Hand, String> {
 }
 
 /// The file of a line: as on the command line, or by its last part.
-fn file_of(line: &HandLine, files: &[OsString]) -> Result<Option<usize>, String> {
-    let Some(name) = &line.file else { return Ok(Some(0)) };
-    if let Some(file) = files.iter().position(|file| input::shown(file) == *name) {
-        return Ok(Some(file));
+fn file_of(line: &HandLine, files: &[OsString]) -> Result<Option<String>, String> {
+    let Some(name) = &line.file else { return Ok(files.first().map(|file| input::shown(file))) };
+    if files.iter().any(|file| input::shown(file) == *name) {
+        return Ok(Some(name.clone()));
     }
     let last = |file: &OsString| Path::new(file).file_name().map(input::shown);
-    let named: Vec<usize> =
-        (0..files.len()).filter(|&i| last(&files[i]).as_ref() == Some(name)).collect();
+    let named: Vec<&OsString> =
+        files.iter().filter(|file| last(file).as_ref() == Some(name)).collect();
     match named[..] {
         [] => Ok(None),
-        [file] => Ok(Some(file)),
+        [file] => Ok(Some(input::shown(file))),
         _ => Err(format!(
             "line {}: several files are named {name}; give it as on the command line",
             line.number
@@ -60,15 +60,14 @@ fn file_of(line: &HandLine, files: &[OsString]) -> Result<Option<usize>, String>
 
 fn run_with(session: &mut Session, hand: &Hand, files: &[OsString]) -> Written {
     session.header(&["file", "dimension", "leaf", "hand count", "total", "what"])?;
-    let of_file = |file: Option<usize>| -> Vec<&HandLine> {
-        hand.lines.iter().zip(&hand.files).filter(|(_, of)| **of == file).map(|(l, _)| l).collect()
+    let of_file = |file: Option<&str>| -> Vec<&HandLine> {
+        let lines = hand.lines.iter().zip(&hand.files);
+        lines.filter(|(_, of)| of.as_deref() == file).map(|(line, _)| line).collect()
     };
-    for (number, file) in files.iter().enumerate() {
-        let lines = of_file(Some(number));
-        session.each_input(std::slice::from_ref(file), |session, input| {
-            with_member(session, input, |session, member| compare(session, member, &lines))
-        })?;
-    }
+    session.each_input(files, |session, input| {
+        let lines = of_file(Some(&input.name));
+        with_member(session, input, |session, member| compare(session, member, &lines))
+    })?;
     for line in of_file(None) {
         let none = Difference { hand: Some(line.count), total: None, what: NO_FILE };
         let file = line.file.as_deref().unwrap_or(".");
