@@ -39,8 +39,7 @@ uint32_t digarumbi_abi(void);
 /* Bytes of stack in which a thread can call any function. docs/BENCHMARKS.md has what each was measured to need. */
 #define DIGARUMBI_STACK 262144
 
-/* Refusal numbers (01, "Refusal numbers"). A place is an offset in the input. 0 is no refusal. digarumbi_refusal_text gives the words of the
- * second column.
+/* Refusal numbers (01, "Refusal numbers"). A place is an offset in the input. 0 is no refusal.
  *
  *   No.  When                                                                     Place
  *    1   member too long                                                          0

@@ -1,7 +1,7 @@
 //! The C functions, as `include/digarumbi.h` declares them.
 //!
-//! A pointer with a length points to that many elements and is not null. An area that is written
-//! overlaps nothing else that the call is given.
+//! A pointer with a length points to that many elements; where the length is 0 it may be null. An
+//! area that is written overlaps nothing else that the call is given.
 
 extern "C" {
     pub fn digarumbi_abi() -> u32;
