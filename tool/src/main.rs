@@ -16,7 +16,6 @@ mod replace;
 mod session;
 mod template;
 mod text;
-mod total;
 mod walk;
 
 use std::ffi::OsString;

@@ -4,7 +4,7 @@ use std::collections::HashMap;
 use std::ffi::{OsStr, OsString};
 use std::path::Path;
 
-use digarumbi::Refusal;
+use digarumbi::{Refusal, Total};
 
 use super::{dimension_named, same_name, with_member, Member};
 use crate::hand::{self, HandLine};
@@ -12,7 +12,6 @@ use crate::input;
 use crate::json::Object;
 use crate::names::DimensionNames;
 use crate::session::{reason, Session, Status, Written};
-use crate::total::{totals, Total};
 
 pub fn run(session: &mut Session, files: &[OsString]) -> Written {
     let (hand_file, files) = (&files[0], &files[1..]);
@@ -153,7 +152,7 @@ fn compare_dimension(
 ) -> Written {
     let names = &member.names[dimension];
     // the dimension is there, so nothing is refused
-    for (leaf, total) in totals(member, dimension).unwrap_or_default().iter().enumerate() {
+    for (leaf, total) in member.table.totals(dimension).unwrap_or_default().iter().enumerate() {
         let hand = counts.get(&(dimension, leaf)).map(|line| line.count);
         let refused = total.as_ref().err().map(Refusal::to_string);
         if let Some(difference) = difference(hand, total, refused.as_deref()) {

@@ -18,7 +18,6 @@ use crate::text::Texts;
 
 /// An accepted member with its names.
 pub struct Member<'a> {
-    pub bytes: &'a [u8],
     pub file: &'a str,
     pub table: Table<'a>,
     pub texts: Texts<'a>,
@@ -36,7 +35,7 @@ fn with_member(
         Ok(table) => {
             let texts = Texts::new(bytes, session.options.encoding);
             let names = names(bytes, &table, &texts);
-            then(session, &Member { bytes, file: &input.name, table, texts, names })
+            then(session, &Member { file: &input.name, table, texts, names })
         }
         Err(refusal) => {
             session.say_refused(&input.name, &sentence(&refusal));

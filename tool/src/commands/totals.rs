@@ -2,13 +2,12 @@
 
 use std::ffi::OsString;
 
-use digarumbi::Refusal;
+use digarumbi::{Refusal, Total};
 
 use super::{dimension_named, with_member, Member};
 use crate::json::{self, Object};
 use crate::number::shortest;
 use crate::session::{Session, Status, Written};
-use crate::total::{totals, Total};
 
 const COLUMNS: [&str; 10] = [
     "file",
@@ -43,7 +42,7 @@ fn member_totals(session: &mut Session, member: &Member) -> Written {
 }
 
 fn dimension_totals(session: &mut Session, member: &Member, dimension: usize) -> Written {
-    let totals = match totals(member, dimension) {
+    let totals = match member.table.totals(dimension) {
         Ok(totals) => totals,
         Err(refusal) => {
             session.say_refused(member.file, &refusal.to_string());
