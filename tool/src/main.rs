@@ -16,6 +16,7 @@ mod replace;
 mod session;
 mod template;
 mod text;
+mod typed;
 mod walk;
 
 use std::ffi::OsString;

@@ -59,7 +59,7 @@ fn path(table: &Table, shown: &[Option<Rc<str>>], number: usize) -> Vec<Rc<str>>
     path
 }
 
-/// Whether a node is a group whose name is not shown (003, Group: `merge`, the byte after the name).
+/// Whether a node is a group whose name is not shown (003, Group: `merge`, after the name).
 fn is_merged(member: &[u8], node: &Node) -> bool {
     let name = node.name_bytes.bytes;
     let place = (name.as_ptr() as usize).wrapping_sub(member.as_ptr() as usize);

@@ -4,8 +4,8 @@ use std::fs::{self, File, OpenOptions};
 use std::io::{self, Write};
 use std::path::{Path, PathBuf};
 
-/// Puts bytes in the place of a file: they are written beside it, and the file is then renamed. What
-/// is no plain file, such as a device or a pipe, is written as it is.
+/// Puts bytes in the place of a file: they are written beside it, and that file is then renamed.
+/// What is no plain file, such as a device or a pipe, is written as it is.
 pub fn replace(path: &Path, bytes: &[u8]) -> io::Result<()> {
     // a link stays one
     let path = fs::canonicalize(path).unwrap_or(path.to_owned());

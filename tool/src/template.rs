@@ -1,7 +1,7 @@
 //! Templates with their arguments put in (003, Value).
 
-/// A longer text is not made, and not with more steps: a few bytes of nested templates could ask for
-/// gigabytes, or for hours.
+/// A longer text is not made, and not with more steps: a few bytes of nested templates could ask
+/// for gigabytes, or for hours.
 const LONGEST: usize = 4_096;
 const MOST_STEPS: usize = 65_536;
 

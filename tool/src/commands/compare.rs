@@ -1,17 +1,17 @@
 //! `compare`: hand counts beside the totals.
 
-use std::collections::HashMap;
+use std::collections::{HashMap, HashSet};
 use std::ffi::{OsStr, OsString};
 use std::path::Path;
 
 use digarumbi::{Refusal, Total};
 
-use super::{dimension_named, same_name, with_member, Member};
+use super::{with_member, Member};
 use crate::hand::{self, HandLine};
 use crate::input;
 use crate::json::Object;
-use crate::names::DimensionNames;
 use crate::session::{reason, Session, Status, Written};
+use crate::typed::Places;
 
 pub fn run(session: &mut Session, files: &[OsString]) -> Written {
     let (hand_file, files) = (&files[0], &files[1..]);
@@ -24,48 +24,61 @@ pub fn run(session: &mut Session, files: &[OsString]) -> Written {
     }
 }
 
-/// The hand counts, each with the file that it speaks of.
-struct Hand {
-    lines: Vec<HandLine>,
-    /// By line: its file as on the command line.
-    files: Vec<Option<String>>,
-}
+/// The hand counts by their files, as these are on the command line.
+type ByFile = HashMap<Option<String>, Vec<HandLine>>;
 
-fn hand_lines(hand_file: &OsStr, files: &[OsString]) -> Result<Hand, String> {
+fn hand_lines(hand_file: &OsStr, files: &[OsString]) -> Result<ByFile, String> {
     let bytes = input::read_whole(hand_file).map_err(|error| reason(&error))?;
-    let lines = hand::read(&bytes, files.len() == 1)?;
-    let files = lines.iter().map(|line| file_of(line, files)).collect::<Result<_, _>>()?;
-    Ok(Hand { lines, files })
+    let names = FileNames::new(files);
+    let mut by_file = ByFile::new();
+    for line in hand::read(&bytes, files.len() == 1)? {
+        let file = names.of(&line)?;
+        by_file.entry(file).or_default().push(line);
+    }
+    Ok(by_file)
 }
 
-/// The file of a line: as on the command line, or by its last part.
-fn file_of(line: &HandLine, files: &[OsString]) -> Result<Option<String>, String> {
-    let Some(name) = &line.file else { return Ok(files.first().map(|file| input::shown(file))) };
-    if files.iter().any(|file| input::shown(file) == *name) {
-        return Ok(Some(name.clone()));
+/// The files of the command line by what people type for them.
+struct FileNames {
+    first: Option<String>,
+    whole: HashSet<String>,
+    by_last_part: HashMap<String, Vec<String>>,
+}
+
+impl FileNames {
+    fn new(files: &[OsString]) -> FileNames {
+        let mut by_last_part: HashMap<String, Vec<String>> = HashMap::new();
+        for file in files {
+            let last = Path::new(file).file_name().map(input::shown).unwrap_or_default();
+            by_last_part.entry(last).or_default().push(input::shown(file));
+        }
+        let whole = || files.iter().map(|file| input::shown(file));
+        FileNames { first: whole().next(), whole: whole().collect(), by_last_part }
     }
-    let last = |file: &OsString| Path::new(file).file_name().map(input::shown);
-    let named: Vec<&OsString> =
-        files.iter().filter(|file| last(file).as_ref() == Some(name)).collect();
-    match named[..] {
-        [] => Ok(None),
-        [file] => Ok(Some(input::shown(file))),
-        _ => Err(format!(
-            "line {}: several files are named {name}; give it as on the command line",
-            line.number
-        )),
+
+    /// The file of a line: as on the command line, or by its last part; none if it is not there.
+    fn of(&self, line: &HandLine) -> Result<Option<String>, String> {
+        let Some(name) = &line.file else { return Ok(self.first.clone()) };
+        if self.whole.contains(name) {
+            return Ok(Some(name.clone()));
+        }
+        match self.by_last_part.get(name).map(Vec::as_slice) {
+            None => Ok(None),
+            Some([file]) => Ok(Some(file.clone())),
+            Some(_) => Err(format!(
+                "line {}: several files are named {name}; give it as on the command line",
+                line.number
+            )),
+        }
     }
 }
 
-fn run_with(session: &mut Session, hand: &Hand, files: &[OsString]) -> Written {
+fn run_with(session: &mut Session, hand: &ByFile, files: &[OsString]) -> Written {
     session.header(&["file", "dimension", "leaf", "hand count", "total", "what"])?;
-    let of_file = |file: Option<&str>| -> Vec<&HandLine> {
-        let lines = hand.lines.iter().zip(&hand.files);
-        lines.filter(|(_, of)| of.as_deref() == file).map(|(line, _)| line).collect()
-    };
+    let of_file = |file: Option<String>| hand.get(&file).map_or(&[][..], Vec::as_slice);
     session.each_input(files, |session, input| {
-        let lines = of_file(Some(&input.name));
-        with_member(session, input, |session, member| compare(session, member, &lines))
+        let lines = of_file(Some(input.name.clone()));
+        with_member(session, input, |session, member| compare(session, member, lines))
     })?;
     for line in of_file(None) {
         let none = Difference { hand: Some(line.count), total: None, what: NO_FILE };
@@ -109,7 +122,7 @@ fn report(
 /// The hand counts of one member, by dimension and leaf.
 type Counts<'h> = HashMap<(usize, usize), &'h HandLine>;
 
-fn compare(session: &mut Session, member: &Member, lines: &[&HandLine]) -> Written {
+fn compare(session: &mut Session, member: &Member, lines: &[HandLine]) -> Written {
     if lines.is_empty() {
         let none = Difference { hand: None, total: None, what: NOT_COUNTED };
         return report(session, member.file, ".", ".", none);
@@ -117,7 +130,7 @@ fn compare(session: &mut Session, member: &Member, lines: &[&HandLine]) -> Writt
     let mut counts: Counts = HashMap::new();
     let mut places = Places::new(member);
     for line in lines {
-        match places.of(line) {
+        match places.of(&line.dimension, &line.leaf) {
             Ok(Some(at)) => {
                 if let Some(first) = counts.insert(at, line) {
                     let (line, first) = (line.number, first.number);
@@ -177,69 +190,4 @@ fn difference<'w>(
         (None, Some(_)) => return None,
     };
     Some(Difference { hand, total: found, what })
-}
-
-/// The dimensions and leaves of a member, as they may be typed.
-struct Places<'m, 'a> {
-    member: &'m Member<'a>,
-    /// The leaves of the dimensions that were asked for.
-    leaves: HashMap<usize, LeafNames>,
-}
-
-impl<'m, 'a> Places<'m, 'a> {
-    fn new(member: &'m Member<'a>) -> Places<'m, 'a> {
-        Places { member, leaves: HashMap::new() }
-    }
-
-    /// The dimension and leaf of a line; none if the member has it not.
-    fn of(&mut self, line: &HandLine) -> Result<Option<(usize, usize)>, String> {
-        let names = &self.member.names;
-        let named = names.iter().any(|names| same_name(&names.name, &line.dimension));
-        let numbered = line.dimension.parse().is_ok_and(|number: usize| number < names.len());
-        if !named && !numbered {
-            return Ok(None);
-        }
-        let dimension = dimension_named(self.member, &line.dimension)?;
-        let leaves =
-            self.leaves.entry(dimension).or_insert_with(|| LeafNames::new(&names[dimension]));
-        Ok(leaves.leaf(&line.leaf)?.map(|leaf| (dimension, leaf)))
-    }
-}
-
-/// The leaves of a dimension by their paths and by their own names, without spaces around.
-struct LeafNames {
-    count: usize,
-    by_path: HashMap<String, Vec<usize>>,
-    by_name: HashMap<String, Vec<usize>>,
-}
-
-impl LeafNames {
-    fn new(names: &DimensionNames) -> LeafNames {
-        let mut leaves = LeafNames {
-            count: names.leaves.len(),
-            by_path: HashMap::new(),
-            by_name: HashMap::new(),
-        };
-        for (leaf, path) in names.leaves.iter().enumerate() {
-            leaves.by_path.entry(names.path(leaf).trim().into()).or_default().push(leaf);
-            let name = path.last().map_or("", |name| name.trim());
-            leaves.by_name.entry(name.into()).or_default().push(leaf);
-        }
-        leaves
-    }
-
-    /// The leaf with this path, or else with this name, or else `#` and its leaf index.
-    fn leaf(&self, asked: &str) -> Result<Option<usize>, String> {
-        let named = self.by_path.get(asked).or(self.by_name.get(asked));
-        match named.map(Vec::as_slice) {
-            Some([leaf]) => Ok(Some(*leaf)),
-            Some(_) => Err(format!(
-                "several leaves are named {asked}; give the path, or # and the leaf index"
-            )),
-            None => {
-                let index = asked.strip_prefix('#').and_then(|index| index.parse().ok());
-                Ok(index.filter(|&index: &usize| index < self.count))
-            }
-        }
-    }
 }

@@ -43,20 +43,3 @@ fn with_member(
         }
     }
 }
-
-/// The dimension with this name, or else with this number.
-fn dimension_named(member: &Member, asked: &str) -> Result<usize, String> {
-    let named: Vec<usize> =
-        (0..member.names.len()).filter(|&i| same_name(&member.names[i].name, asked)).collect();
-    match (&named[..], asked.parse()) {
-        ([dimension], _) => Ok(*dimension),
-        ([], Ok(number)) if number < member.names.len() => Ok(number),
-        ([], _) => Err(format!("refused 19 at 0: no dimension {asked}")),
-        (_, _) => Err(format!("several dimensions are named {asked}; give its number")),
-    }
-}
-
-/// Whether a name is the one that was typed; spaces around it don't count.
-fn same_name(name: &str, typed: &str) -> bool {
-    name.trim() == typed.trim()
-}

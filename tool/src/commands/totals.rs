@@ -4,10 +4,11 @@ use std::ffi::OsString;
 
 use digarumbi::{Refusal, Total};
 
-use super::{dimension_named, with_member, Member};
+use super::{with_member, Member};
 use crate::json::{self, Object};
 use crate::number::shortest;
 use crate::session::{Session, Status, Written};
+use crate::typed::dimension_named;
 
 const COLUMNS: [&str; 10] = [
     "file",
