@@ -29,11 +29,10 @@ const USAGE: &str = include_str!("usage.txt");
 const VERSION: &str = concat!("digarumbi ", env!("CARGO_PKG_VERSION"), "\n");
 
 fn main() -> ExitCode {
-    let (options, asked) = match parse(std::env::args_os().skip(1)) {
-        Ok(Asked::Run { command, options, files }) => (options, Ok((command, files))),
-        Ok(Asked::Help) => (Options::default(), Err(Ok(USAGE))),
-        Ok(Asked::Version) => (Options::default(), Err(Ok(VERSION))),
-        Err(wrong) => (Options::default(), Err(Err(wrong))),
+    let asked = parse(std::env::args_os().skip(1));
+    let options = match &asked {
+        Ok(Asked::Run { options, .. }) => options.clone(),
+        _ => Options::default(),
     };
     let mut session = match Session::new(options) {
         Ok(session) => session,
@@ -43,16 +42,21 @@ fn main() -> ExitCode {
         }
     };
     // where writing stopped, the status says so
-    let _ = match asked {
-        Ok((command, files)) => run(&mut session, command, &files),
-        Err(Ok(text)) => session.write(text.as_bytes()),
-        Err(Err(wrong)) => {
+    let _ = answer(&mut session, asked);
+    ExitCode::from(session.status() as u8)
+}
+
+fn answer(session: &mut Session, asked: Result<Asked, String>) -> Written {
+    match asked {
+        Ok(Asked::Run { command, files, .. }) => run(session, command, &files),
+        Ok(Asked::Help) => session.write(USAGE.as_bytes()),
+        Ok(Asked::Version) => session.write(VERSION.as_bytes()),
+        Err(wrong) => {
             session.say(&format!("{wrong}; digarumbi --help has the commands"));
             session.set(Status::Failed);
             Ok(())
         }
-    };
-    ExitCode::from(session.status() as u8)
+    }
 }
 
 fn run(session: &mut Session, command: Command, files: &[OsString]) -> Written {

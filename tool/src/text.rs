@@ -23,9 +23,9 @@ impl<'a> Texts<'a> {
         Texts { member, asked, kept: OnceCell::new() }
     }
 
-    /// The fields that the library does not give; none of a refused member.
+    /// The fields that the library does not give, as far as the member can be read.
     fn kept(&self) -> &Kept {
-        self.kept.get_or_init(|| walk(self.member).unwrap_or_default())
+        self.kept.get_or_init(|| walk(self.member).kept)
     }
 
     fn encoding(&self) -> Encoding {

@@ -16,7 +16,7 @@ pub fn run(session: &mut Session, files: &[OsString]) -> Written {
     session.each_input(files, |session, input| {
         let (library, walked) = match is_look(input) {
             true => (look_answer(input), walk_look(&input.bytes)),
-            false => (member_answer(input), walk(&input.bytes).map(drop)),
+            false => (member_answer(input), walk(&input.bytes).answer),
         };
         match library {
             Ok(answer) => accepted(session, input, &answer, walked),

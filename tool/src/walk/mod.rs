@@ -66,29 +66,41 @@ pub struct Kept {
     pub show_values: u8,
 }
 
-/// Reads a member: gives what is kept of it, or where it stops being one.
-pub fn walk(member: &[u8]) -> Result<Kept, Box<Stop>> {
+/// What was read of a member.
+pub struct Walked {
+    /// As far as it was read.
+    pub kept: Kept,
+    /// Where it stops being one.
+    pub answer: Result<(), Box<Stop>>,
+}
+
+/// Reads a member.
+pub fn walk(member: &[u8]) -> Walked {
+    let mut kept = Kept::default();
+    let answer = walk_sections(member, &mut kept);
+    Walked { kept, answer }
+}
+
+fn walk_sections(member: &[u8], kept: &mut Kept) -> Result<(), Box<Stop>> {
     let mut cursor = Cursor::new(member);
     if member.len() > MEMBER_BYTES {
         let said = said(format!("{MEMBER_BYTES} bytes at most"), "more");
         return Err(cursor.stop(1, "whole file", Span { place: 0, length: 1 }, said));
     }
-    let mut kept = Kept::default();
     let part = Step::Part;
     let version = cursor.inside(part("Header"), sections::header)?;
-    cursor.inside(part("Titles"), |cursor| sections::titles(cursor, version, &mut kept))?;
+    cursor.inside(part("Titles"), |cursor| sections::titles(cursor, version, kept))?;
     cursor.inside(part("Footnotes"), |cursor| sections::footnotes(cursor, version))?;
     cursor.inside(part("Areas"), |cursor| sections::areas(cursor, version))?;
     cursor.inside(part("Borders"), sections::borders)?;
     cursor.inside(part("PrintSettings"), sections::print_settings)?;
     cursor.inside(part("TableSettings"), |cursor| sections::table_settings(cursor, version))?;
-    cursor.inside(part("Formats"), |cursor| sections::formats(cursor, version, &mut kept))?;
+    cursor.inside(part("Formats"), |cursor| sections::formats(cursor, version, kept))?;
     let leaves = cursor.inside(part("Dimensions"), |cursor| table::dimensions(cursor, version))?;
     let places = cursor.inside(part("Axes"), |cursor| table::axes(cursor, &leaves))?;
     cursor.inside(part("Cells"), |cursor| table::cells(cursor, version, places))?;
     cursor.optional_byte(0x01);
-    cursor.input_end()?;
-    Ok(kept)
+    cursor.input_end()
 }
 
 impl Kept {

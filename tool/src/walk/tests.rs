@@ -10,7 +10,7 @@ use super::{walk, walk_look};
 /// Both accept, or refuse with the same number at the same place.
 fn same(bytes: &[u8]) {
     let library = read_member(bytes).map(drop).map_err(|no| (no.number, no.place as usize));
-    let walked = walk(bytes).map(drop).map_err(|stop| (stop.number, stop.field.place));
+    let walked = walk(bytes).answer.map_err(|stop| (stop.number, stop.field.place));
     assert_eq!(walked, library, "of {} bytes", bytes.len());
 }
 
@@ -75,9 +75,11 @@ fn members_at_the_largest_size() {
 #[test]
 fn what_is_kept() {
     let member = include_bytes!("../../../examples/spine_18.bin");
-    let kept = walk(member).expect("a real member");
+    let kept = walk(member).kept;
     assert_eq!(kept.locale.of(member), b"en_US.ISO_8859-1:1987");
     assert_eq!(kept.charset_bytes(member), b"UTF-8");
+    // also where something after it is refused
+    assert_eq!(walk(&member[..member.len() - 1]).kept, kept);
 }
 
 #[test]
