@@ -175,7 +175,7 @@ mod tests {
     #[test]
     fn too_long() {
         let long = vec![vec![b'a'; 3_000]];
-        assert!(expand(b"^1", &[long.clone()]).is_some());
+        assert!(expand(b"^1", std::slice::from_ref(&long)).is_some());
         assert_eq!(expand(b"^1^1^1", &[long]), None);
         let empty = vec![Vec::new(); 1_000];
         let long_list = [b"[:", &b"^1".repeat(1_000)[..], b":]1"].concat();

@@ -152,3 +152,24 @@ fn path(session: &Session, input: &Input, stop: &Stop) -> Vec<String> {
     };
     stop.path.iter().map(step).collect()
 }
+
+#[cfg(test)]
+mod tests {
+    use super::*;
+    use crate::arguments::Options;
+
+    /// The library's refusal stands, and the other reader's is said, with no path.
+    #[test]
+    fn a_disagreement() {
+        let session = Session::new(Options::default()).expect("standard output");
+        let input = Input { name: "m.bin".into(), bytes: vec![1, 0, 2] };
+        let refusal = Refusal { number: 4, place: 2, nodes: 0, cells: 0 };
+        let walked = walk(&input.bytes).answer;
+        assert!(walked.as_ref().is_err_and(|stop| !is_same(&refusal, stop)));
+        let text = text_refused(&session, &input, &refusal, None, Some(disagreement(&walked)));
+        let lines: Vec<&str> = text.lines().collect();
+        assert!(lines[0].starts_with("m.bin: refused 4 at 2: "), "{text}");
+        assert!(lines[1].starts_with("  the reader that keeps the path says refused 2 at 2: "));
+        assert!(lines[2].contains("01 00[02]") && lines.len() == 3, "{text}");
+    }
+}
