@@ -1,6 +1,6 @@
 /* Prints each cell of a member that is a number, and how many cells are numbers, missing and texts. A NaN is none of these.
  *
- *   gcc -std=c99 -Iinclude examples/count_cells.c target/staticlib/libapi.a -o target/count_cells
+ *   gcc -std=c99 -Iinclude examples/count_cells.c target/lib/libdigarumbi.a -o target/count_cells
  *   target/count_cells examples/spine_1.bin
  */
 #include <stdio.h>
@@ -8,7 +8,7 @@
 #include "digarumbi.h"
 
 /* One byte more than is accepted, so that a longer file is refused for its length. */
-static uint8_t member[1048576 + 1];
+static uint8_t member[DIGARUMBI_MEMBER_BYTES + 1];
 static uint32_t nodes[DIGARUMBI_NODE_AREA];
 static uint32_t cells[DIGARUMBI_CELL_AREA];
 
@@ -28,14 +28,14 @@ static void count_cell(uint32_t version, const uint32_t *cell, struct counts *co
     double number;
 
     /* The record of an accepted member says where its Value stands: nothing is refused of it. */
-    digarumbi_value(version, member + cell[1], cell[2], value, DIGARUMBI_VALUE_WORDS);
+    digarumbi_value(version, member + cell[DIGARUMBI_CELL_VALUE], cell[DIGARUMBI_CELL_VALUE_LENGTH], value, DIGARUMBI_VALUE_WORDS);
     if (value[DIGARUMBI_VALUE_FORM] != DIGARUMBI_NUMBER && value[DIGARUMBI_VALUE_FORM] != DIGARUMBI_LABELLED_NUMBER) {
         counts->texts++;
     } else if (is_missing(value)) {
         counts->missing++;
     } else if (digarumbi_number(value[DIGARUMBI_VALUE_BITS_LOW], value[DIGARUMBI_VALUE_BITS_HIGH], &number)) {
         counts->numbers++;
-        printf("cell %lu: %g\n", (unsigned long)cell[0], number);
+        printf("cell %lu: %g\n", (unsigned long)cell[DIGARUMBI_CELL_INDEX], number);
     }
 }
 
@@ -66,7 +66,8 @@ int main(int argc, char **argv)
 
     digarumbi_read_member(member, length, answer, DIGARUMBI_MEMBER_ANSWER, nodes, DIGARUMBI_NODE_AREA, cells, DIGARUMBI_CELL_AREA);
     if (answer[DIGARUMBI_REFUSAL] != 0) {
-        printf("refused %lu at %lu\n", (unsigned long)answer[DIGARUMBI_REFUSAL], (unsigned long)answer[DIGARUMBI_PLACE]);
+        printf("refused %lu at %lu: %s\n", (unsigned long)answer[DIGARUMBI_REFUSAL], (unsigned long)answer[DIGARUMBI_PLACE],
+               digarumbi_refusal_text(answer[DIGARUMBI_REFUSAL]));
         return 1;
     }
     /* The version of an accepted member, 1 or 3, is in its bytes 2 to 5. */

@@ -1,6 +1,6 @@
 /* Prints the number of dimensions, categories and cells of a member, or its refusal.
  *
- *   gcc -std=c99 -Iinclude examples/read_member.c target/staticlib/libapi.a -o target/read_member
+ *   gcc -std=c99 -Iinclude examples/read_member.c target/lib/libdigarumbi.a -o target/read_member
  *   target/read_member examples/spine_18.bin
  */
 #include <stdio.h>
@@ -8,7 +8,7 @@
 #include "digarumbi.h"
 
 /* One byte more than is accepted, so that a longer file is refused for its length. */
-static uint8_t member[1048576 + 1];
+static uint8_t member[DIGARUMBI_MEMBER_BYTES + 1];
 static uint32_t nodes[DIGARUMBI_NODE_AREA];
 static uint32_t cells[DIGARUMBI_CELL_AREA];
 
@@ -19,7 +19,7 @@ static unsigned long leaves(const uint32_t *answer)
     uint32_t i;
 
     for (i = 0; i < answer[DIGARUMBI_DIMENSION_COUNT]; i++)
-        found += answer[DIGARUMBI_DIMENSIONS + 4 * i + 2];
+        found += answer[DIGARUMBI_DIMENSIONS + DIGARUMBI_DIMENSION_RECORD * i + DIGARUMBI_DIMENSION_N];
     return found;
 }
 
@@ -48,7 +48,8 @@ int main(int argc, char **argv)
 
     digarumbi_read_member(member, length, answer, DIGARUMBI_MEMBER_ANSWER, nodes, DIGARUMBI_NODE_AREA, cells, DIGARUMBI_CELL_AREA);
     if (answer[DIGARUMBI_REFUSAL] != 0) {
-        printf("refused %lu at %lu\n", (unsigned long)answer[DIGARUMBI_REFUSAL], (unsigned long)answer[DIGARUMBI_PLACE]);
+        printf("refused %lu at %lu: %s\n", (unsigned long)answer[DIGARUMBI_REFUSAL], (unsigned long)answer[DIGARUMBI_PLACE],
+               digarumbi_refusal_text(answer[DIGARUMBI_REFUSAL]));
         return 1;
     }
     printf("%lu dimensions, %lu categories in %lu nodes, %lu cells\n", (unsigned long)answer[DIGARUMBI_DIMENSION_COUNT],

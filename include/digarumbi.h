@@ -1,16 +1,18 @@
-/* Digarumbi: reads light detail members, version 1 and 3, and binary table looks (.tlo), converts names in old code pages, and decodes
- * compressed case data.
+/* Digarumbi: reads light detail members, version 1 and 3, and binary table looks (.tlo), totals the counts of members, converts names in
+ * old code pages, and decodes compressed case data.
  *
  * "01", "02", "002", "003" and "004" below are the papers that the library follows: document 01 (the rules), document 02 (changes to them),
  * source document 002 (looks), source document 003 (members) and source document 004 (case data).
  *
  * Any bytes and areas of any length get an answer. The functions allocate nothing, keep nothing between calls and are reentrant:
- * threads may call them at the same time, each with areas of its own. For the stack that they use see docs/BENCHMARKS.md.
+ * threads may call them at the same time, each with areas of its own. A thread with a stack of DIGARUMBI_STACK bytes has enough for all.
  *
  * The caller owes only what every C function with pointers asks: a pointer with a length points to that many elements, aligned for
- * their type. It is never NULL, also where the length is 0. An area that is written overlaps nothing else that the same call is given.
+ * their type; where the length is 0 it may be NULL. A pointer without a length is never NULL. An area that is written overlaps nothing else
+ * that the same call is given.
  *
- * Link with target/staticlib/libapi.a, which ./build writes (x86-64 Linux).
+ * Link with libdigarumbi.a or libdigarumbi.so, which ./build writes into target/lib (x86-64 Linux), or with the flags of
+ * `pkg-config --libs digarumbi` after ./install.
  */
 #ifndef DIGARUMBI_H
 #define DIGARUMBI_H
@@ -34,6 +36,9 @@ extern "C" {
 
 uint32_t digarumbi_abi(void);
 
+/* Bytes of stack in which a thread can call any function. docs/BENCHMARKS.md has what each was measured to need. */
+#define DIGARUMBI_STACK 262144
+
 /* Refusal numbers (01, "Refusal numbers"). A place is an offset in the input. 0 is no refusal.
  *
  *   No.  When                                                                     Place
@@ -52,10 +57,12 @@ uint32_t digarumbi_abi(void);
  *   12   node area shorter than 7 words a node                                    0
  *   13   cell area shorter than 3 words a cell                                    0
  *   14   look: a color's high byte not 0                                          the color
- *   15   look writer, text: output too short                                      0
+ *   15   look writer, text, totals of a dimension: output too short               0
  *   16   look writer: version 00 with V2 data not all zero, undrawn and with an   where V2 would stand
  *        empty continuation
  *   18   a zero byte inside a string of a member                                  its first length byte
+ *   19   totals: a dimension or leaf that isn't there                             0
+ *   20   totals: a number under the leaf that is no count                         the Value of the first such cell
  *   21   case data: a bad kind list or bias, or words that are no state           0
  *   22   case data: a code that its element can't have                            the code, in the whole stream
  *   23   case data: the end too soon                                              number of bytes taken
@@ -67,13 +74,104 @@ uint32_t digarumbi_abi(void);
  * Value or category that is too deep; for the product of all n at the first axis count; at a look's shading byte above 10; at 0 for
  * points, pixels and font sizes.
  *
- * Order: 1, then the file from front to back, then 11, 12, 13; for looks from front to back, then 11, then 15; for text 24, then 25 over
- * the whole input, then 15.
- * After a refusal every lent area but `answer` holds what it held before.
- *
- * Sizes accepted: member at most 1,048,576 bytes; dimensions 16; footnotes 256; category nodes 4,096 in the whole member; cells 4,096;
- * Values nested 8 deep; categories nested 8 deep; product of all n at most 4,294,967,295.
- */
+ * Order: 1, then the file from front to back, then 11, 12, 13, and for totals 19, then 15, then 20; for looks from front to back, then 11,
+ * then 15; for text 24, then 25 over the whole input, then 15.
+ * After a refusal every lent area but `answer` holds what it held before. */
+enum {
+    DIGARUMBI_REFUSED_TOO_LONG = 1,
+    DIGARUMBI_REFUSED_DOES_NOT_FIT = 2,
+    DIGARUMBI_REFUSED_FIXED_DIFFERS = 3,
+    DIGARUMBI_REFUSED_VERSION = 4,
+    DIGARUMBI_REFUSED_NOT_BOOL = 5,
+    DIGARUMBI_REFUSED_REGION_NOT_FILLED = 6,
+    DIGARUMBI_REFUSED_LIMIT = 7,
+    DIGARUMBI_REFUSED_LEAF_INDEX = 8,
+    DIGARUMBI_REFUSED_AXES = 9,
+    DIGARUMBI_REFUSED_CELL_INDEX = 10,
+    DIGARUMBI_REFUSED_BYTES_LEFT = 11,
+    DIGARUMBI_REFUSED_NODE_AREA = 12,
+    DIGARUMBI_REFUSED_CELL_AREA = 13,
+    DIGARUMBI_REFUSED_COLOR = 14,
+    DIGARUMBI_REFUSED_OUTPUT_TOO_SHORT = 15,
+    DIGARUMBI_REFUSED_V2_DATA = 16,
+    DIGARUMBI_REFUSED_ZERO_BYTE = 18,
+    DIGARUMBI_REFUSED_NO_SUCH_LEAF = 19,
+    DIGARUMBI_REFUSED_NO_COUNT = 20,
+    DIGARUMBI_REFUSED_CASE_STATE = 21,
+    DIGARUMBI_REFUSED_CASE_CODE = 22,
+    DIGARUMBI_REFUSED_CASE_END = 23,
+    DIGARUMBI_REFUSED_UNKNOWN_PAGE = 24,
+    DIGARUMBI_REFUSED_NO_CHARACTER = 25
+};
+
+/* What a refusal number says, in one line; never NULL. */
+static inline const char *digarumbi_refusal_text(uint32_t number)
+{
+    switch (number) {
+    case 0:
+        return "no refusal";
+    case DIGARUMBI_REFUSED_TOO_LONG:
+        return "member too long";
+    case DIGARUMBI_REFUSED_DOES_NOT_FIT:
+        return "a field doesn't fit in the input or its region";
+    case DIGARUMBI_REFUSED_FIXED_DIFFERS:
+        return "a fixed byte, fixed number, mark or area index differs";
+    case DIGARUMBI_REFUSED_VERSION:
+        return "a version that isn't read, or in version 1 a value's modifier that begins 31";
+    case DIGARUMBI_REFUSED_NOT_BOOL:
+        return "a bool neither 0 nor 1";
+    case DIGARUMBI_REFUSED_REGION_NOT_FILLED:
+        return "a region's content ends early";
+    case DIGARUMBI_REFUSED_LIMIT:
+        return "a limit passed";
+    case DIGARUMBI_REFUSED_LEAF_INDEX:
+        return "leaf index not below n, or seen before in this dimension";
+    case DIGARUMBI_REFUSED_AXES:
+        return "axis counts don't add up, or an entry is no dimension or is repeated";
+    case DIGARUMBI_REFUSED_CELL_INDEX:
+        return "cell index not below the product, or seen before";
+    case DIGARUMBI_REFUSED_BYTES_LEFT:
+        return "bytes left at the end";
+    case DIGARUMBI_REFUSED_NODE_AREA:
+        return "node area shorter than 7 words a node";
+    case DIGARUMBI_REFUSED_CELL_AREA:
+        return "cell area shorter than 3 words a cell";
+    case DIGARUMBI_REFUSED_COLOR:
+        return "a color's high byte not 0";
+    case DIGARUMBI_REFUSED_OUTPUT_TOO_SHORT:
+        return "output too short";
+    case DIGARUMBI_REFUSED_V2_DATA:
+        return "version 00 with V2 data not all zero, undrawn and with an empty continuation";
+    case DIGARUMBI_REFUSED_ZERO_BYTE:
+        return "a zero byte inside a string";
+    case DIGARUMBI_REFUSED_NO_SUCH_LEAF:
+        return "a dimension or leaf that isn't there";
+    case DIGARUMBI_REFUSED_NO_COUNT:
+        return "a number under the leaf that is no count";
+    case DIGARUMBI_REFUSED_CASE_STATE:
+        return "a bad kind list or bias, or words that are no state";
+    case DIGARUMBI_REFUSED_CASE_CODE:
+        return "a code that its element can't have";
+    case DIGARUMBI_REFUSED_CASE_END:
+        return "the end too soon";
+    case DIGARUMBI_REFUSED_UNKNOWN_PAGE:
+        return "an unknown page";
+    case DIGARUMBI_REFUSED_NO_CHARACTER:
+        return "a byte without an entry in the page, or a character that has none or isn't UTF-8 in its shortest form";
+    default:
+        return "no such refusal number";
+    }
+}
+
+/* Sizes accepted. The product of all n is at most DIGARUMBI_MOST_PLACES. */
+#define DIGARUMBI_MEMBER_BYTES 1048576
+#define DIGARUMBI_MOST_DIMENSIONS 16
+#define DIGARUMBI_MOST_FOOTNOTES 256
+#define DIGARUMBI_MOST_NODES 4096
+#define DIGARUMBI_MOST_CELLS 4096
+#define DIGARUMBI_VALUE_DEPTH 8
+#define DIGARUMBI_CATEGORY_DEPTH 8
+#define DIGARUMBI_MOST_PLACES UINT32_C(4294967295)
 
 /* ---- Members ---- */
 
@@ -96,25 +194,45 @@ enum {
     DIGARUMBI_MEMBER_ANSWER = 88   /* words in all */
 };
 
-/* The four words of dimension i stand at DIGARUMBI_DIMENSIONS + 4 * i: place and length of its name, a Value; n, its number of leaves
- * at any depth; its first node, which is the number of nodes before it. Words of dimensions that are not there are 0. */
+/* The four words of dimension i stand at DIGARUMBI_DIMENSIONS + DIGARUMBI_DIMENSION_RECORD * i. Those of dimensions that are not there are
+ * 0. */
+enum {
+    DIGARUMBI_DIMENSION_NAME = 0, /* place of its name, a Value */
+    DIGARUMBI_DIMENSION_NAME_LENGTH = 1,
+    DIGARUMBI_DIMENSION_N = 2,          /* n, its number of leaves at any depth */
+    DIGARUMBI_DIMENSION_FIRST_NODE = 3, /* which is the number of nodes before it */
+    DIGARUMBI_DIMENSION_RECORD = 4      /* words in all */
+};
 
-/* A node record has 7 words, in file order:
- *   0  0 for a leaf, 1 for a group
- *   1  dimension
- *   2  number of the parent node, or DIGARUMBI_NO_PARENT
- *   3  place of the name, a Value, its leading 00 bytes included
- *   4  length of the name
- *   5  leaf index of a leaf, number of direct children of a group
- *   6  number of nodes that it contains at any depth, itself included: 1 for a leaf and for an empty group
- * The nodes below node i are exactly the records directly after it, as many as word 6 less one.
- * A cell record has 3 words, in file order: index; place and length of its Value, its leading 00 bytes included (0 to 5 of them in
- * version 1, 0 to 4 in version 3).
+/* Words of a node record; nodes are in file order. The nodes below node i are exactly the records directly after it, as many as its size
+ * less one. */
+enum {
+    DIGARUMBI_NODE_KIND = 0, /* DIGARUMBI_LEAF or DIGARUMBI_GROUP */
+    DIGARUMBI_NODE_DIMENSION = 1,
+    DIGARUMBI_NODE_PARENT = 2, /* number of the parent node, or DIGARUMBI_NO_PARENT */
+    DIGARUMBI_NODE_NAME = 3,   /* place of the name, a Value, its leading 00 bytes included */
+    DIGARUMBI_NODE_NAME_LENGTH = 4,
+    DIGARUMBI_NODE_INDEX = 5, /* leaf index of a leaf, number of direct children of a group */
+    DIGARUMBI_NODE_SIZE = 6,  /* nodes that it contains at any depth, itself included: 1 for a leaf and for an empty group */
+    DIGARUMBI_NODE_RECORD = 7 /* words in all */
+};
+
+enum {
+    DIGARUMBI_LEAF = 0,
+    DIGARUMBI_GROUP = 1
+};
+
+/* Words of a cell record; cells are in file order.
  *
  * A cell's index (003, Cells): k = 0; for each dimension i from the first to the last, k = n_i * k + x_i. The coordinate x_i is the leaf
  * index of the cell's category in dimension i. */
-#define DIGARUMBI_NODE_RECORD 7
-#define DIGARUMBI_CELL_RECORD 3
+enum {
+    DIGARUMBI_CELL_INDEX = 0,
+    DIGARUMBI_CELL_VALUE = 1, /* place of its Value, its leading 00 bytes included: 0 to 5 of them in version 1, 0 to 4 in version 3 */
+    DIGARUMBI_CELL_VALUE_LENGTH = 2,
+    DIGARUMBI_CELL_RECORD = 3 /* words in all */
+};
+
 #define DIGARUMBI_NO_PARENT UINT32_C(4294967295)
 
 /* Words that always suffice for the two record areas: 4,096 records each. */
@@ -237,46 +355,155 @@ uint32_t digarumbi_number(uint32_t low, uint32_t high, double *number);
 #define DIGARUMBI_MISSING_LOW UINT32_C(0xffffffff)
 #define DIGARUMBI_MISSING_HIGH UINT32_C(0xffefffff)
 
+/* ---- Totals under a leaf (02, T-01) ---- */
+
+/* A cell is under a leaf of a dimension when its coordinate there is the leaf's index. Values of form 1 and 2 are number cells, all others
+ * text cells. The double that stands for a missing value is counted apart and is no number. Every other double must be a count: a whole
+ * number from 0 to 4,294,967,295, minus zero as 0. The cells under other leaves don't matter. Where no cell of the table is refused, the
+ * totals over all leaves of any one dimension add up to the same.
+ *
+ * A dimension is given by its number in file order, a leaf by its leaf index. */
+
+/* Words of the answer of digarumbi_total. Doubles are given by their bits, low word first: see digarumbi_number. */
+enum {
+    DIGARUMBI_TOTAL_REFUSAL = 0,       /* 0 if there is a total */
+    DIGARUMBI_TOTAL_PLACE = 1,         /* place of the refusal */
+    DIGARUMBI_TOTAL_NODE_COUNT = 2,    /* of an accepted member, and with refusals 12 and 13 */
+    DIGARUMBI_TOTAL_CELL_COUNT = 3,    /* likewise */
+    DIGARUMBI_TOTAL_LOW = 4,           /* the sum of the number cells, 64 bits */
+    DIGARUMBI_TOTAL_HIGH = 5,
+    DIGARUMBI_TOTAL_NUMBERS = 6,       /* how many number cells, text cells and missing cells there are */
+    DIGARUMBI_TOTAL_TEXTS = 7,
+    DIGARUMBI_TOTAL_MISSING = 8,
+    DIGARUMBI_TOTAL_SMALLEST_LOW = 9,  /* the smallest number, 0 if there is none */
+    DIGARUMBI_TOTAL_SMALLEST_HIGH = 10,
+    DIGARUMBI_TOTAL_LARGEST_LOW = 11,  /* the largest number, 0 if there is none */
+    DIGARUMBI_TOTAL_LARGEST_HIGH = 12,
+    DIGARUMBI_TOTAL_ANSWER = 13        /* words in all */
+};
+
+/* Reads a member and totals the cells under a leaf.
+ *
+ * Refusals: the member's own; 19 at 0; 20 at the Value of the first cell under the leaf, in file order, whose number is no count. After a
+ * refusal both areas stay as they were, and every word of the answer is 0 but the number and the place, and with 12 and 13 the counts of
+ * nodes and cells. Else the areas hold the records, as after digarumbi_read_member.
+ *
+ * Returns 13, the words of the answer. Returns 0 if `answer` has fewer: then nothing is read and nothing changes. Words of `answer` beyond
+ * 13 stay. */
+size_t digarumbi_total(const uint8_t *member, size_t member_length, uint32_t dimension, uint32_t leaf, uint32_t *answer,
+                       size_t answer_words, uint32_t *nodes, size_t node_words, uint32_t *cells, size_t cell_words);
+
+/* Words of the answer of digarumbi_totals. */
+enum {
+    DIGARUMBI_TOTALS_REFUSAL = 0,    /* 0 if there are totals */
+    DIGARUMBI_TOTALS_PLACE = 1,      /* place of the refusal */
+    DIGARUMBI_TOTALS_NODE_COUNT = 2, /* of an accepted member, and with refusals 12 and 13 */
+    DIGARUMBI_TOTALS_CELL_COUNT = 3, /* likewise */
+    DIGARUMBI_TOTALS_LEAF_COUNT = 4, /* n of the dimension, when there are totals, and with refusal 15 */
+    DIGARUMBI_TOTALS_ANSWER = 5      /* words in all */
+};
+
+/* Words of a total record. Leaf i has the record that starts at word 11 * i of `totals`: what digarumbi_total answers for that leaf. After
+ * a 20 all but the refusal and the place are 0. */
+enum {
+    DIGARUMBI_LEAF_REFUSAL = 0, /* 0 or 20 */
+    DIGARUMBI_LEAF_PLACE = 1,
+    DIGARUMBI_LEAF_TOTAL_LOW = 2,
+    DIGARUMBI_LEAF_TOTAL_HIGH = 3,
+    DIGARUMBI_LEAF_NUMBERS = 4,
+    DIGARUMBI_LEAF_TEXTS = 5,
+    DIGARUMBI_LEAF_MISSING = 6,
+    DIGARUMBI_LEAF_SMALLEST_LOW = 7,
+    DIGARUMBI_LEAF_SMALLEST_HIGH = 8,
+    DIGARUMBI_LEAF_LARGEST_LOW = 9,
+    DIGARUMBI_LEAF_LARGEST_HIGH = 10,
+    DIGARUMBI_TOTAL_RECORD = 11 /* words in all */
+};
+
+/* Words that always suffice for the total records: 4,096 of them. */
+#define DIGARUMBI_TOTALS_AREA 45056
+
+/* Reads a member once and totals the cells under each leaf of a dimension.
+ *
+ * Refusals of the call: the member's own; 19 at 0 for a dimension that isn't there; 15 at 0 if `totals` has fewer than 11 words a leaf.
+ * After one of them `totals` and both areas stay as they were, and every word of the answer is 0 but the number and the place, with 12
+ * and 13 the counts of nodes and cells, and with 15 the number of leaves. Else `totals` holds the total records, of which each has its
+ * own refusal, and the areas hold the records. Words of `totals` after the last record stay.
+ *
+ * Returns 5, the words of the answer. Returns 0 if `answer` has fewer: then nothing is read and nothing changes. Words of `answer` beyond
+ * 5 stay. */
+size_t digarumbi_totals(const uint8_t *member, size_t member_length, uint32_t dimension, uint32_t *answer, size_t answer_words,
+                        uint32_t *totals, size_t total_words, uint32_t *nodes, size_t node_words, uint32_t *cells, size_t cell_words);
+
 /* ---- Looks ---- */
 
 /* Each class name that 002 quotes has its length before its letters, 16 bits, little-endian: PTTableLook 11, PVSeparatorStyle 16,
  * PVCellStyle 11, PVTextStyle 11. The length is one field and the letters are the next, so a wrong length is number 3 at its first byte
  * whatever follows it. */
 
-/* The answer of digarumbi_read_look has 264 words: refusal, place, and from word 2 on the look, in file order. Numbers below count from
- * the start of the look. After a refusal the look's words are all 0.
- *
- *     0         version, 0 or 2
- *     1         flags
- *     2         nested-row-labels, 0 or 1
- *     3         footnote-marker-subscripts, 0 or 1
- *     4 to 19   separators of rows: horizontal dimension, vertical dimension, horizontal category, vertical category (002, sep1)
- *    20 to 35   separators of columns, likewise (002, sep2)
- *    36 to 57   the title area
- *    58 to 211  the areas layers, corner, row labels, column labels, data, caption, footer
- *   212 to 255  separators of the title; inner frame left, right, top, bottom; outer frame left, right, top, bottom; left and top of
- *               the data area (002, sep3)
- *   256, 257    place and length of the continuation
- *   258, 259    min-col-width, max-col-width
- *   260, 261    min-row-height, max-row-height
- *
- * A look of version 00 has no words 212 to 261 in its file; they are 0.
- *
- * A separator has 4 words: 0 not drawn or 1 drawn; color; style; width (0 where it isn't drawn).
- *
- * An area has 22 words:
- *    0  color10, color0, shading
- *    3  valign, halign, decimal-offset
- *    6  left, right, top and bottom margin
- *   10  font-size (signed, two's complement), stretch, rotation-angle, weight
- *   14  italic, underline, strikethrough (0 or 1)
- *   17  rtf-charset-number, x
- *   19  place and length of the font-name
- *   21  text-color */
+/* The answer of digarumbi_read_look has 264 words: refusal, place, and from word DIGARUMBI_LOOK on the look, in file order. After a refusal
+ * the look's words are all 0. */
 enum {
     DIGARUMBI_LOOK = 2,          /* first word of the look */
     DIGARUMBI_LOOK_ANSWER = 264, /* words in all */
     DIGARUMBI_REWRITE_ANSWER = 3 /* words of the answer of digarumbi_rewrite_look */
+};
+
+/* Words of a look, counted from its first. Those from DIGARUMBI_LOOK_V2_SEPARATORS on are 0 in a look of version 00, whose file doesn't have
+ * them. */
+enum {
+    DIGARUMBI_LOOK_VERSION = 0, /* 0 or 2 */
+    DIGARUMBI_LOOK_FLAGS = 1,
+    DIGARUMBI_LOOK_NESTED_ROW_LABELS = 2,          /* 0 or 1 */
+    DIGARUMBI_LOOK_FOOTNOTE_MARKER_SUBSCRIPTS = 3, /* 0 or 1 */
+    DIGARUMBI_LOOK_ROW_SEPARATORS = 4,             /* horizontal dimension, vertical dimension, horizontal category, vertical category (sep1) */
+    DIGARUMBI_LOOK_COLUMN_SEPARATORS = 20,         /* likewise (sep2) */
+    DIGARUMBI_LOOK_TITLE = 36,                     /* the title area */
+    DIGARUMBI_LOOK_AREAS = 58,                     /* layers, corner, row labels, column labels, data, caption, footer */
+    DIGARUMBI_LOOK_V2_SEPARATORS = 212,            /* title; inner frame left, right, top, bottom; outer frame likewise; left and top of
+                                                      the data area (sep3) */
+    DIGARUMBI_LOOK_CONTINUATION = 256,             /* place of the continuation */
+    DIGARUMBI_LOOK_CONTINUATION_LENGTH = 257,
+    DIGARUMBI_LOOK_MIN_COL_WIDTH = 258,
+    DIGARUMBI_LOOK_MAX_COL_WIDTH = 259,
+    DIGARUMBI_LOOK_MIN_ROW_HEIGHT = 260,
+    DIGARUMBI_LOOK_MAX_ROW_HEIGHT = 261
+};
+
+/* Words of a separator. Color, style and width are 0 where it isn't drawn. */
+enum {
+    DIGARUMBI_SEPARATOR_DRAWN = 0, /* 0 or 1 */
+    DIGARUMBI_SEPARATOR_COLOR = 1,
+    DIGARUMBI_SEPARATOR_STYLE = 2,
+    DIGARUMBI_SEPARATOR_WIDTH = 3,
+    DIGARUMBI_SEPARATOR_RECORD = 4 /* words in all */
+};
+
+/* Words of an area. */
+enum {
+    DIGARUMBI_AREA_COLOR10 = 0,
+    DIGARUMBI_AREA_COLOR0 = 1,
+    DIGARUMBI_AREA_SHADING = 2,
+    DIGARUMBI_AREA_VALIGN = 3,
+    DIGARUMBI_AREA_HALIGN = 4,
+    DIGARUMBI_AREA_DECIMAL_OFFSET = 5,
+    DIGARUMBI_AREA_LEFT_MARGIN = 6,
+    DIGARUMBI_AREA_RIGHT_MARGIN = 7,
+    DIGARUMBI_AREA_TOP_MARGIN = 8,
+    DIGARUMBI_AREA_BOTTOM_MARGIN = 9,
+    DIGARUMBI_AREA_FONT_SIZE = 10, /* signed, two's complement */
+    DIGARUMBI_AREA_STRETCH = 11,
+    DIGARUMBI_AREA_ROTATION_ANGLE = 12,
+    DIGARUMBI_AREA_WEIGHT = 13,
+    DIGARUMBI_AREA_ITALIC = 14, /* 0 or 1, and so are the next two */
+    DIGARUMBI_AREA_UNDERLINE = 15,
+    DIGARUMBI_AREA_STRIKETHROUGH = 16,
+    DIGARUMBI_AREA_RTF_CHARSET_NUMBER = 17,
+    DIGARUMBI_AREA_X = 18,
+    DIGARUMBI_AREA_FONT_NAME = 19, /* place of the font's name */
+    DIGARUMBI_AREA_FONT_NAME_LENGTH = 20,
+    DIGARUMBI_AREA_TEXT_COLOR = 21,
+    DIGARUMBI_AREA_RECORD = 22 /* words in all */
 };
 
 /* Bytes of the longest look. */
@@ -304,10 +531,6 @@ enum {
     DIGARUMBI_WINDOWS_1250 = 1250,
     DIGARUMBI_WINDOWS_1251 = 1251,
     DIGARUMBI_WINDOWS_1252 = 1252,
-
-    DIGARUMBI_UNKNOWN_PAGE = 24, /* refusals of text */
-    DIGARUMBI_NO_CHARACTER = 25,
-    DIGARUMBI_OUTPUT_SHORT = 15,
 
     DIGARUMBI_TEXT_ANSWER = 3, /* words of the answer */
     DIGARUMBI_TEXT_LENGTH = 2  /* the word that is the length written; 0 and 1 are DIGARUMBI_REFUSAL and DIGARUMBI_PLACE */

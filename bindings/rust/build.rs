@@ -3,12 +3,12 @@
 use std::env;
 use std::path::{Path, PathBuf};
 
-const ARCHIVE: &str = "libapi.a";
+const ARCHIVE: &str = "libdigarumbi.a";
 
 fn directory() -> PathBuf {
     match env::var_os("DIGARUMBI_LIB_DIR") {
         Some(directory) => PathBuf::from(directory),
-        None => Path::new(env!("CARGO_MANIFEST_DIR")).join("../../target/staticlib"),
+        None => Path::new(env!("CARGO_MANIFEST_DIR")).join("../../target/lib"),
     }
 }
 
@@ -23,5 +23,5 @@ fn main() {
         std::process::exit(1);
     }
     println!("cargo:rustc-link-search=native={}", directory.display());
-    println!("cargo:rustc-link-lib=static=api");
+    println!("cargo:rustc-link-lib=static=digarumbi");
 }

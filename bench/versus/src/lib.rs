@@ -15,6 +15,7 @@ pub mod tally;
 pub mod text_check;
 pub mod texts;
 pub mod timing;
+pub mod totals_check;
 pub mod unit_check;
 pub mod value_check;
 pub mod words;

@@ -6,7 +6,7 @@ use std::path::Path;
 /// The root of the repository.
 const ROOT: &str = concat!(env!("CARGO_MANIFEST_DIR"), "/../..");
 /// Folders with members, from the root; one that is not there has none.
-const MEMBERS: [&str; 3] = ["examples", "crates/corpus_main/data", "../shared/corpus/members"];
+const MEMBERS: [&str; 2] = ["examples", "crates/corpus_main/data"];
 
 pub struct Stored {
     pub name: String,

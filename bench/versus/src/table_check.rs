@@ -17,6 +17,7 @@ pub fn check_table(
     let header = header(&mut Cursor::new(member)).expect("an accepted member");
     let version = header.number();
     let expected = Table {
+        member,
         version,
         dimensions: dimensions(version, member, answer),
         axes: axes(answer),

@@ -3,8 +3,9 @@
 use digarumbi_bench::contents::{ArgumentContents, Contents, Form, Number, Text};
 use digarumbi_bench::cursor::Span;
 use digarumbi_bench::look::{AreaColor, AreaStyle, Look, Name, Separator};
-use digarumbi_bench::member::Answer;
-use digarumbi_bench::refusal::Refusal;
+use digarumbi_bench::member::{Answer, Refused};
+use digarumbi_bench::refusal::{Refusal, OUTPUT_TOO_SHORT};
+use digarumbi_bench::totals::{Found, LeafTotal, Total};
 
 /// The words of a member's answer.
 pub fn member_answer(answer: &Answer) -> Vec<u32> {
@@ -105,6 +106,55 @@ pub fn argument_answer(result: &Result<ArgumentContents, Refusal>) -> [u32; 5] {
         Ok(argument) => [0, 0, argument.length as u32, argument.values, argument.first as u32],
         Err(refusal) => [refusal.number, refusal.place as u32, 0, 0, 0],
     }
+}
+
+/// The words of the answer for one leaf.
+pub fn total_answer(result: &Result<Found<Total>, Refused>) -> [u32; 13] {
+    let mut words = [0; 13];
+    words[..4].copy_from_slice(&call_words(result));
+    if let Ok(found) = result {
+        words[4..].copy_from_slice(&total_words(&found.found));
+    }
+    words
+}
+
+/// The words of the answer for all leaves of a dimension that has `n`.
+pub fn totals_answer(result: &Result<Found<Vec<LeafTotal>>, Refused>, n: u32) -> [u32; 5] {
+    let counted = match result {
+        Ok(_) => true,
+        Err(refused) => refused.refusal.number == OUTPUT_TOO_SHORT,
+    };
+    let [refusal, place, nodes, cells] = call_words(result);
+    [refusal, place, nodes, cells, if counted { n } else { 0 }]
+}
+
+/// A total record.
+pub fn total_record(leaf: &LeafTotal) -> [u32; 11] {
+    let mut words = [0; 11];
+    match leaf {
+        Ok(total) => words[2..].copy_from_slice(&total_words(total)),
+        Err(refusal) => words[..2].copy_from_slice(&refusal_words(refusal)),
+    }
+    words
+}
+
+/// Refusal, place, and the counts of nodes and cells.
+fn call_words<T>(result: &Result<Found<T>, Refused>) -> [u32; 4] {
+    match result {
+        Ok(Found { counts: [nodes, cells], .. }) => [0, 0, *nodes, *cells],
+        Err(Refused { refusal, counts: [nodes, cells] }) => {
+            [refusal.number, refusal.place as u32, *nodes, *cells]
+        }
+    }
+}
+
+fn total_words(total: &Total) -> [u32; 9] {
+    let pair = |number: u64| [number as u32, (number >> 32) as u32];
+    let [low, high] = pair(total.total);
+    let [smallest_low, smallest_high] = pair(total.smallest.to_bits());
+    let [largest_low, largest_high] = pair(total.largest.to_bits());
+    let Total { numbers, texts, missing, .. } = *total;
+    [low, high, numbers, texts, missing, smallest_low, smallest_high, largest_low, largest_high]
 }
 
 fn refusal_words(refusal: &Refusal) -> Vec<u32> {

@@ -44,7 +44,15 @@ impl fmt::Display for CaseError {
     }
 }
 
-impl Error for CaseError {}
+/// Its source is that of the error it holds, whose words it shows itself.
+impl Error for CaseError {
+    fn source(&self) -> Option<&(dyn Error + 'static)> {
+        match self {
+            CaseError::Read(error) => error.source(),
+            CaseError::Refused(refusal) => refusal.source(),
+        }
+    }
+}
 
 /// The cases of a compressed data record, one after the other.
 ///

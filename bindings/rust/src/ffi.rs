@@ -1,7 +1,7 @@
 //! The C functions, as `include/digarumbi.h` declares them.
 //!
-//! A pointer with a length points to that many elements and is not null. An area that is written
-//! overlaps nothing else that the call is given.
+//! A pointer with a length points to that many elements; where the length is 0 it may be null. An
+//! area that is written overlaps nothing else that the call is given.
 
 extern "C" {
     pub fn digarumbi_abi() -> u32;
@@ -58,6 +58,33 @@ extern "C" {
     ) -> usize;
 
     pub fn digarumbi_number(low: u32, high: u32, number: *mut f64) -> u32;
+
+    pub fn digarumbi_total(
+        member: *const u8,
+        member_length: usize,
+        dimension: u32,
+        leaf: u32,
+        answer: *mut u32,
+        answer_words: usize,
+        nodes: *mut u32,
+        node_words: usize,
+        cells: *mut u32,
+        cell_words: usize,
+    ) -> usize;
+
+    pub fn digarumbi_totals(
+        member: *const u8,
+        member_length: usize,
+        dimension: u32,
+        answer: *mut u32,
+        answer_words: usize,
+        totals: *mut u32,
+        total_words: usize,
+        nodes: *mut u32,
+        node_words: usize,
+        cells: *mut u32,
+        cell_words: usize,
+    ) -> usize;
 
     pub fn digarumbi_read_look(
         file: *const u8,

@@ -21,6 +21,10 @@ pub const MEMBER_ANSWER: usize = 88;
 pub const VALUE_WORDS: usize = 22;
 /// Words of an argument's answer.
 pub const ARGUMENT_WORDS: usize = 5;
+/// Words of the answer of [`total`].
+pub const TOTAL_ANSWER: usize = 13;
+/// Words of the answer of [`totals`].
+pub const TOTALS_ANSWER: usize = 5;
 /// Words of a look's answer.
 pub const LOOK_ANSWER: usize = 264;
 /// Words of the answer of [`rewrite_look`].
@@ -33,11 +37,15 @@ pub const TEXT_ANSWER: usize = 3;
 pub const NODE_RECORD: usize = 7;
 /// Words of a cell record.
 pub const CELL_RECORD: usize = 3;
+/// Words of a total record.
+pub const TOTAL_RECORD: usize = 11;
 
 /// Words that always suffice for the node records.
 pub const NODE_AREA: usize = 28_672;
 /// Words that always suffice for the cell records.
 pub const CELL_AREA: usize = 12_288;
+/// Words that always suffice for the total records.
+pub const TOTALS_AREA: usize = 45_056;
 
 /// Words of a state of case data.
 pub const CASES_STATE: usize = 268;
@@ -45,6 +53,9 @@ pub const CASES_STATE: usize = 268;
 pub const CASES_ANSWER: usize = 2;
 /// Words of the answer of [`cases_feed`].
 pub const CASES_FEED_ANSWER: usize = 4;
+
+/// Bytes of stack in which a thread can call any of these functions.
+pub const STACK: usize = 262_144;
 
 /// Bytes of the longest look.
 pub const LONGEST_LOOK: usize = 3_160;
@@ -212,6 +223,83 @@ pub fn number(low: u32, high: u32) -> (u32, f64) {
     let mut number = 0.0;
     let given = unsafe { ffi::digarumbi_number(low, high, &mut number) };
     (given, number)
+}
+
+/// Reads a member and totals the cells under a leaf. Returns [`TOTAL_ANSWER`], or 0 if `answer` has
+/// fewer words.
+///
+/// ```
+/// use digarumbi::lent::{total, CELL_AREA, NODE_AREA, TOTAL_ANSWER};
+/// let member = std::fs::read("../../examples/spine_18.bin")?;
+/// let (mut nodes, mut cells) = (vec![0; NODE_AREA], vec![0; CELL_AREA]);
+/// let mut answer = [7; TOTAL_ANSWER];
+/// assert_eq!(total(&member, 2, 0, &mut answer, &mut nodes, &mut cells), TOTAL_ANSWER);
+/// // there is no dimension 2
+/// assert_eq!(answer, [19, 0, 0, 0, 0, 0, 0, 0, 0, 0, 0, 0, 0]);
+/// # Ok::<(), std::io::Error>(())
+/// ```
+pub fn total(
+    member: &[u8],
+    dimension: u32,
+    leaf: u32,
+    answer: &mut [u32],
+    nodes: &mut [u32],
+    cells: &mut [u32],
+) -> usize {
+    test_abi();
+    unsafe {
+        ffi::digarumbi_total(
+            member.as_ptr(),
+            member.len(),
+            dimension,
+            leaf,
+            answer.as_mut_ptr(),
+            answer.len(),
+            nodes.as_mut_ptr(),
+            nodes.len(),
+            cells.as_mut_ptr(),
+            cells.len(),
+        )
+    }
+}
+
+/// Reads a member once and totals the cells under each leaf of a dimension, [`TOTAL_RECORD`] words
+/// a leaf. Returns [`TOTALS_ANSWER`], or 0 if `answer` has fewer words.
+///
+/// ```
+/// use digarumbi::lent::{totals, CELL_AREA, NODE_AREA, TOTALS_ANSWER};
+/// let member = std::fs::read("../../examples/spine_18.bin")?;
+/// let (mut nodes, mut cells) = (vec![0; NODE_AREA], vec![0; CELL_AREA]);
+/// let mut answer = [7; TOTALS_ANSWER];
+/// assert_eq!(totals(&member, 0, &mut answer, &mut [], &mut nodes, &mut cells), TOTALS_ANSWER);
+/// // 5 leaves have no place in an area without words
+/// assert_eq!(answer, [15, 0, 0, 0, 5]);
+/// # Ok::<(), std::io::Error>(())
+/// ```
+pub fn totals(
+    member: &[u8],
+    dimension: u32,
+    answer: &mut [u32],
+    totals: &mut [u32],
+    nodes: &mut [u32],
+    cells: &mut [u32],
+) -> usize {
+    test_abi();
+    unsafe {
+        ffi::digarumbi_totals(
+            member.as_ptr(),
+            member.len(),
+            dimension,
+            answer.as_mut_ptr(),
+            answer.len(),
+            totals.as_mut_ptr(),
+            totals.len(),
+            nodes.as_mut_ptr(),
+            nodes.len(),
+            cells.as_mut_ptr(),
+            cells.len(),
+        )
+    }
 }
 
 /// Reads a look. Returns [`LOOK_ANSWER`], or 0 if `answer` has fewer words.

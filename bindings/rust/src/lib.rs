@@ -1,5 +1,6 @@
-//! Reads light detail members, version 1 and 3, and binary table looks (.tlo), converts text in old
-//! code pages ([`codepage`]), and decodes compressed case data as it arrives ([`Cases`]).
+//! Reads light detail members, version 1 and 3, and binary table looks (.tlo), totals the counts of
+//! members ([`Table::totals`]), converts text in old code pages ([`codepage`]), and decodes
+//! compressed case data as it arrives ([`Cases`]).
 //!
 //! The work is done by a library in which every function is proved to meet its contract. This
 //! crate declares its functions ([`ffi`]), calls them on slices ([`lent`]), and turns their
@@ -14,12 +15,14 @@ pub mod lent;
 mod look;
 mod refusal;
 mod table;
+mod total;
 mod units;
 mod value;
 
 pub use cases::{CaseError, Cases, Element, Kind};
 pub use look::{rewrite_look, Area, Frame, Look, Separator, Separators, V2Styles};
-pub use refusal::Refusal;
+pub use refusal::{refusal_text, Reason, Refusal};
 pub use table::{part, read_member, Axes, Category, Cell, Dimension, Node, NodeKind, Table};
+pub use total::Total;
 pub use units::{font_height, Pt, Px};
 pub use value::{Arguments, Value, ValueBytes, Values};

@@ -20,6 +20,8 @@ const NO_PARENT: u32 = u32::MAX;
 /// stand in the member; what one says is read when it is asked for.
 #[derive(Clone, Debug, PartialEq, Eq)]
 pub struct Table<'a> {
+    /// The member that it was read from.
+    pub member: &'a [u8],
     /// The version of the member, 1 or 3. No word of the library's answer has it: it is read from
     /// the member's own bytes 2 to 5, which an accepted member has.
     pub version: u32,
@@ -144,6 +146,7 @@ pub fn read_member(member: &[u8]) -> Result<Table<'_>, Refusal> {
     cells.truncate(CELL_RECORD * cell_count as usize);
     let member = Member { bytes: member, version: version(member) };
     Ok(Table {
+        member: member.bytes,
         version: member.version,
         dimensions: dimensions(member, &answer, dimension_count as usize, node_count as usize),
         axes: axes(&answer),
@@ -237,14 +240,21 @@ fn cell<'a>(member: Member<'a>, record: &[u32]) -> Cell<'a> {
 }
 
 impl<'a> Table<'a> {
-    /// The categories of a dimension and their groups, in file order.
+    /// The categories of a dimension and their groups, in file order; none if there is no such
+    /// dimension.
     pub fn categories(&self, dimension: usize) -> &[Node<'a>] {
-        &self.nodes[self.dimensions[dimension].nodes.clone()]
+        self.nodes.get(self.dimension_nodes(dimension)).unwrap_or_default()
     }
 
-    /// The categories and groups that stand directly in a dimension, by their numbers.
+    /// The categories and groups that stand directly in a dimension, by their numbers; none if there
+    /// is no such dimension.
     pub fn top(&self, dimension: usize) -> impl Iterator<Item = usize> + '_ {
-        self.skipping(self.dimensions[dimension].nodes.clone())
+        self.skipping(self.dimension_nodes(dimension))
+    }
+
+    /// The nodes of a dimension; the empty range if there is no such dimension.
+    fn dimension_nodes(&self, dimension: usize) -> Range<usize> {
+        self.dimensions.get(dimension).map_or(0..0, |dimension| dimension.nodes.clone())
     }
 
     /// The direct children of a node, by their numbers.
@@ -262,24 +272,27 @@ impl<'a> Table<'a> {
 
     /// The nodes of a range, each skipped with all that is below it.
     fn skipping(&self, nodes: Range<usize>) -> impl Iterator<Item = usize> + '_ {
-        let inside = move |i: usize| (i < nodes.end).then_some(i);
-        successors(inside(nodes.start), move |&i| inside(self.nodes[i].below.end))
+        let end = nodes.end.min(self.nodes.len());
+        let inside = move |i: usize| (i < end).then_some(i);
+        successors(inside(nodes.start), move |&i| inside(self.nodes[i].below.end.max(i + 1)))
     }
 
     /// How many groups a node stands in.
     pub fn depth(&self, node: &Node) -> usize {
-        let parent = |node: &Node| node.parent.map(|parent| &self.nodes[parent]);
-        std::iter::successors(parent(node), |node| parent(node)).count()
+        let parent = |node: &Node| self.nodes.get(node.parent?);
+        // No node stands in more groups than there are nodes, whatever their parents say.
+        successors(parent(node), |node| parent(node)).take(self.nodes.len()).count()
     }
 
     /// The coordinates of a cell: in each dimension the leaf index of its category.
     /// The index is k = n_i * k + x_i, i from the first dimension to the last (003, Cells).
+    /// A cell of another table gets 0 in a dimension without leaves.
     pub fn coordinates(&self, cell: &Cell) -> Vec<u32> {
         let mut k = cell.index;
         let mut coordinates: Vec<u32> = Vec::with_capacity(self.dimensions.len());
         for dimension in self.dimensions.iter().rev() {
-            coordinates.push(k % dimension.n);
-            k /= dimension.n;
+            coordinates.push(k.checked_rem(dimension.n).unwrap_or_default());
+            k = k.checked_div(dimension.n).unwrap_or_default();
         }
         coordinates.reverse();
         coordinates

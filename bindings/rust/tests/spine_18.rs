@@ -130,3 +130,35 @@ fn parts() {
     assert_eq!(part(MEMBER, MEMBER.len(), 1), []);
     assert_eq!(part(MEMBER, usize::MAX, usize::MAX), []);
 }
+
+#[test]
+fn numbers_out_of_range_give_nothing() {
+    let table = table();
+    for dimension in [2, usize::MAX] {
+        assert!(table.categories(dimension).is_empty());
+        assert_eq!(table.top(dimension).count(), 0);
+        assert_eq!(table.cells_under(dimension, 0).count(), 0);
+    }
+    let mut node = table.nodes[0].clone();
+    node.below = 5..usize::MAX;
+    assert_eq!(table.children(&node).collect::<Vec<_>>(), [5, 6, 7, 8]);
+    node.below = usize::MAX..usize::MAX;
+    assert_eq!(table.children(&node).count(), 0);
+    node.parent = Some(usize::MAX);
+    assert_eq!(table.depth(&node), 0);
+}
+
+#[test]
+fn a_changed_table_is_gone_through_to_an_end() {
+    let mut table = table();
+    let cell = table.cells[0].clone();
+    table.dimensions[0].n = 0;
+    assert_eq!(table.coordinates(&cell), [0, 0]);
+    table.nodes[0].parent = Some(0);
+    assert_eq!(table.depth(&table.nodes[0]), table.nodes.len());
+    table.nodes[0].below = 0..0;
+    assert_eq!(table.top(0).collect::<Vec<_>>(), [0, 1, 2, 3, 5, 6]);
+    table.dimensions[0].nodes = 3..100;
+    assert!(table.categories(0).is_empty());
+    assert_eq!(table.top(0).collect::<Vec<_>>(), [3, 5, 6, 7, 8]);
+}

@@ -6,7 +6,8 @@ use std::hint::black_box;
 
 use digarumbi::lent::{
     self, CASES_FEED_ANSWER, CASES_STATE, CELL_AREA, CELL_RECORD, LONGEST_LOOK, LOOK_ANSWER,
-    MEMBER_ANSWER, NODE_AREA, NODE_RECORD, REWRITE_ANSWER, TEXT_ANSWER, VALUE_WORDS,
+    MEMBER_ANSWER, NODE_AREA, NODE_RECORD, REWRITE_ANSWER, TEXT_ANSWER, TOTALS_ANSWER, TOTALS_AREA,
+    TOTAL_ANSWER, TOTAL_RECORD, VALUE_WORDS,
 };
 use digarumbi_bench::codepages::{from_utf8, to_utf8};
 use digarumbi_bench::contents::contents;
@@ -16,6 +17,7 @@ use digarumbi_bench::look::{read_look, write_look};
 use digarumbi_bench::member::read_member;
 use digarumbi_bench::plain_cases::Plain;
 use digarumbi_bench::random::Random;
+use digarumbi_bench::totals::{total, totals};
 use digarumbi_versus::large::{
     alike_in_low_bits, ascending, large_unordered, member_of_strings, member_with_cells,
     member_with_large_indexes, member_with_nested_categories, shuffled,
@@ -34,6 +36,7 @@ fn main() {
     growth_with_bytes();
     growth_with_cells();
     values();
+    leaf_totals();
     looks();
     texts();
     case_data();
@@ -232,6 +235,85 @@ fn value_row(name: &str, members: &[&[u8]], values: &Values) {
         times.ratio(),
         beside.ratio()
     );
+}
+
+/// Totals of one leaf and of all leaves of a dimension, beside reading the members.
+fn leaf_totals() {
+    println!("### Totals under a leaf\n");
+    println!(
+        "The first leaf of the first dimension, and all leaves of that dimension in one call.\n"
+    );
+    println!("| members | asked | Rattle, µs | Rust, µs | Rattle : Rust | Rattle : reading |");
+    println!("|---|---|---:|---:|---:|---:|");
+    let members = stored::real_members();
+    let mut members: Vec<&[u8]> = members.iter().map(|member| &member.bytes[..]).collect();
+    members.retain(|member| leaves_of_first(member) > 0);
+    let large = member_with_cells(&shuffled(4_096));
+    let nested = member_with_nested_categories(4_096);
+    for (name, members) in [
+        (format!("{} real members in turn", members.len()), &members[..]),
+        ("4,096 cells, shuffled".to_string(), &[&large]),
+        ("4,096 nested categories".to_string(), &[&nested]),
+    ] {
+        let reading = member_times(members).rattle;
+        total_row(&format!("{name} | one leaf"), total_times(members), reading);
+        let leaves: u32 = members.iter().map(|member| leaves_of_first(member)).sum();
+        total_row(&format!("{name} | {leaves} leaves"), totals_times(members), reading);
+    }
+    println!();
+}
+
+/// The leaves of the first dimension, 0 if there is none.
+fn leaves_of_first(member: &[u8]) -> u32 {
+    let answer = read_member(member, &mut [0; NODE_AREA], &mut [0; CELL_AREA]);
+    assert_eq!(answer.refusal, 0);
+    answer.dimensions[0].leaves
+}
+
+fn total_row(start: &str, times: Times, reading: f64) {
+    println!(
+        "| {start} | {:.2} | {:.2} | {:.2} | {:.2} |",
+        times.rattle / 1e3,
+        times.rust / 1e3,
+        times.ratio(),
+        times.rattle / reading
+    );
+}
+
+fn total_times(members: &[&[u8]]) -> Times {
+    let mut areas = (vec![0; TOTAL_ANSWER], vec![0; NODE_AREA], vec![0; CELL_AREA]);
+    measure(
+        &mut areas,
+        |(answer, nodes, cells)| {
+            for member in members {
+                black_box(lent::total(black_box(member), 0, 0, answer, nodes, cells));
+            }
+        },
+        |(_, nodes, cells)| {
+            for member in members {
+                let _ = black_box(total(black_box(member), 0, 0, nodes, cells));
+            }
+        },
+    )
+}
+
+fn totals_times(members: &[&[u8]]) -> Times {
+    let answer = vec![0; TOTALS_ANSWER];
+    let mut areas = (answer, vec![0; TOTALS_AREA], vec![0; NODE_AREA], vec![0; CELL_AREA]);
+    measure(
+        &mut areas,
+        |(answer, totals, nodes, cells)| {
+            for member in members {
+                black_box(lent::totals(black_box(member), 0, answer, totals, nodes, cells));
+            }
+        },
+        |(_, _, nodes, cells)| {
+            for member in members {
+                let room = TOTALS_AREA / TOTAL_RECORD;
+                let _ = black_box(totals(black_box(member), 0, room, nodes, cells));
+            }
+        },
+    )
 }
 
 fn looks() {

@@ -6,7 +6,9 @@
 use std::env;
 use std::process::ExitCode;
 
-use digarumbi_bench::generate::{any_value, argument_of_value, look_bytes, member};
+use digarumbi_bench::generate::{
+    any_value, argument_of_value, look_bytes, member, member_with_counts,
+};
 use digarumbi_bench::limits::MEMBER_BYTES;
 use digarumbi_bench::random::Random;
 use digarumbi_bench::vectors;
@@ -23,12 +25,14 @@ use digarumbi_versus::member_check::MemberCheck;
 use digarumbi_versus::repeats::{members_with_repeats, CUT_BYTES};
 use digarumbi_versus::stored;
 use digarumbi_versus::text_check;
+use digarumbi_versus::totals_check::TotalsCheck;
 use digarumbi_versus::unit_check;
 use digarumbi_versus::value_check::{check_numbers, ValueCheck};
 
 /// Where the title stands in a member.
 const HEADER_BYTES: usize = 39;
 const GENERATED_MEMBERS: u64 = 70_000;
+const GENERATED_COUNTS: u64 = 20_000;
 const GENERATED_LOOKS: u64 = 25_000;
 const GENERATED_VALUES: u64 = 60_000;
 const GENERATED_ARGUMENTS: u64 = 20_000;
@@ -44,6 +48,10 @@ const VERSION_1_NUMBERS: [u32; 15] = [0, 1, 2, 3, 4, 5, 6, 7, 8, 9, 10, 11, 12, 
 const VALUE_NUMBERS: [u32; 9] = [0, 1, 2, 3, 4, 5, 6, 7, 18];
 /// Version 1 is without the modifiers in which 6 can be given.
 const VALUE_NUMBERS_VERSION_1: [u32; 8] = [0, 1, 2, 3, 4, 5, 7, 18];
+/// Those of totals: of calls for one leaf, of calls for all leaves of a dimension, and of their leaves.
+const ONE_LEAF_NUMBERS: [u32; 17] = [0, 1, 2, 3, 4, 5, 6, 7, 8, 9, 10, 11, 12, 13, 18, 19, 20];
+const ALL_LEAVES_NUMBERS: [u32; 17] = [0, 1, 2, 3, 4, 5, 6, 7, 8, 9, 10, 11, 12, 13, 15, 18, 19];
+const LEAF_NUMBERS: [u32; 2] = [0, 20];
 const LOOK_NUMBERS: [u32; 8] = [2, 3, 4, 5, 7, 11, 14, 15];
 const TEXT_NUMBERS: [u32; 4] = [0, 15, 24, 25];
 /// Those of case data: of calls, at the end, and for changed words.
@@ -78,6 +86,11 @@ fn run(seed: u64) -> Result<(), Difference> {
     println!("{} Values inside them", values.inside);
     println!("the same bytes as Arguments: {}", values.arguments);
     println!("{} bits as numbers", check_numbers(seed)?);
+    let totals = totals(seed)?;
+    println!("{} members for totals: {}", totals.members.total(), totals.members);
+    println!("{} calls for one leaf: {}", totals.one.total(), totals.one);
+    println!("{} calls for all leaves of a dimension: {}", totals.all.total(), totals.all);
+    println!("{} leaves of these: {}", totals.leaves.total(), totals.leaves);
     let looks = looks(seed)?;
     println!("{} looks: {}", looks.looks.total(), looks.looks);
     println!("{} rewritings of them: {}", looks.rewritten.total(), looks.rewritten);
@@ -101,6 +114,9 @@ fn run(seed: u64) -> Result<(), Difference> {
     values.version_1.all_seen(&VALUE_NUMBERS_VERSION_1)?;
     values.arguments.all_seen(&VALUE_NUMBERS)?;
     values.all_forms_seen()?;
+    totals.one.all_seen(&ONE_LEAF_NUMBERS)?;
+    totals.all.all_seen(&ALL_LEAVES_NUMBERS)?;
+    totals.leaves.all_seen(&LEAF_NUMBERS)?;
     looks.rewritten.all_seen(&LOOK_NUMBERS)?;
     texts.to.all_seen(&TEXT_NUMBERS)?;
     texts.from.all_seen(&TEXT_NUMBERS)?;
@@ -167,6 +183,21 @@ fn values(seed: u64) -> Result<ValueCheck, Difference> {
         let version = version(random);
         argument_of_value(random, version)
     })?;
+    Ok(inputs.check)
+}
+
+/// Totals of members with counts, of stored ones, and of some at the limits.
+fn totals(seed: u64) -> Result<TotalsCheck, Difference> {
+    let mut inputs = Inputs::new(TotalsCheck::new(seed), seed);
+    for case in vectors::cases() {
+        inputs.whole(&case.name, &case.bytes)?;
+    }
+    for (name, bytes) in large_members() {
+        inputs.whole(name, &bytes)?;
+    }
+    inputs.stored(&stored::real_members())?;
+    inputs.stored_cut(&stored::real_members())?;
+    inputs.generated(GENERATED_COUNTS, member_with_counts)?;
     Ok(inputs.check)
 }
 

@@ -1,14 +1,16 @@
-//! The smallest stack of a thread in which the library reads members, Values alone, and looks.
+//! The smallest stack of a thread in which the library reads members, totals their cells, reads Values
+//! alone and looks, converts texts and decodes case data. Fails if one is larger than `lent::STACK`.
 //!
 //! Usage: stack; it runs itself as `stack WORK KIB`, which ends without a result where a stack of
 //! that size is too small.
 
 use std::env;
-use std::process::{Command, Stdio};
+use std::process::{Command, ExitCode, Stdio};
 use std::thread;
 
 use digarumbi::lent::{
-    self, ARGUMENT_WORDS, CELL_AREA, LONGEST_LOOK, LOOK_ANSWER, MEMBER_ANSWER, NODE_AREA,
+    self, ARGUMENT_WORDS, CASES_FEED_ANSWER, CASES_STATE, CELL_AREA, LONGEST_LOOK, LOOK_ANSWER,
+    MEMBER_ANSWER, NODE_AREA, STACK, TEXT_ANSWER, TOTALS_ANSWER, TOTALS_AREA, TOTAL_ANSWER,
     VALUE_WORDS,
 };
 use digarumbi_bench::limits::MEMBER_BYTES;
@@ -23,15 +25,45 @@ const LEAST: usize = 16;
 const MOST: usize = 8_192;
 const STEP: usize = 4;
 
-const WORK: [&str; 4] = ["nothing", "members", "values", "looks"];
+/// Members of at most so many bytes are short.
+const SHORT: usize = 2_048;
 
-fn main() {
+const WORK: [&str; 9] = [
+    "nothing",
+    "members",
+    "short members",
+    "one leaf",
+    "all leaves",
+    "values",
+    "looks",
+    "texts",
+    "case data",
+];
+
+fn main() -> ExitCode {
     let arguments: Vec<String> = env::args().skip(1).collect();
     match arguments.as_slice() {
-        [] => WORK.iter().for_each(|work| println!("{work}: {} KiB", smallest_stack(work))),
-        [work, kib] => run(work, kib.parse().expect("a number of KiB")),
+        [] => measure_all(),
+        [work, kib] => {
+            run(work, kib.parse().expect("a number of KiB"));
+            ExitCode::SUCCESS
+        }
         _ => panic!("usage: stack"),
     }
+}
+
+fn measure_all() -> ExitCode {
+    let mut most = 0;
+    for work in WORK {
+        let kib = smallest_stack(work);
+        println!("{work}: {kib} KiB");
+        most = most.max(kib);
+    }
+    if 1_024 * most > STACK {
+        println!("more than the {STACK} bytes that the header says");
+        return ExitCode::FAILURE;
+    }
+    ExitCode::SUCCESS
 }
 
 /// The smallest stack with which the work ends, by bisection.
@@ -59,15 +91,21 @@ fn ends(work: &str, kib: usize) -> bool {
 fn run(work: &str, kib: usize) {
     // The inputs are made outside the small stack.
     let inputs = match work {
-        "members" => members(),
+        "members" | "one leaf" | "all leaves" => members(),
+        "short members" => short_members(),
         "values" => values(),
         "looks" => stored::looks().into_iter().map(|look| look.bytes).collect(),
         _ => Vec::new(),
     };
-    let read = match work {
-        "members" => read_members,
+    let read: fn(&[Vec<u8>]) = match work {
+        "members" | "short members" => read_members,
+        "one leaf" => total_one_leaf,
+        "all leaves" => total_all_leaves,
         "values" => read_values,
-        _ => read_looks,
+        "texts" => |_| convert_texts(),
+        "case data" => |_| decode_cases(),
+        "looks" => read_looks,
+        _ => |_| (),
     };
     let thread = thread::Builder::new().stack_size(1_024 * kib).spawn(move || read(&inputs));
     thread.expect("a thread").join().expect("a thread that ends");
@@ -82,6 +120,12 @@ fn members() -> Vec<Vec<u8>> {
     members.push(member_with_nested_categories(4_096));
     members.push(member_of_strings(MEMBER_BYTES));
     members
+}
+
+/// The stored ones that are short.
+fn short_members() -> Vec<Vec<u8>> {
+    let members = stored::members().into_iter().map(|member| member.bytes);
+    members.filter(|member| member.len() <= SHORT).collect()
 }
 
 /// A number, templates nested 8 deep, and an argument with templates nested 7 deep, which is also a
@@ -114,10 +158,48 @@ fn read_members(members: &[Vec<u8>]) {
     }
 }
 
+fn total_one_leaf(members: &[Vec<u8>]) {
+    let mut answer = vec![0; TOTAL_ANSWER];
+    let (mut nodes, mut cells) = (vec![0; NODE_AREA], vec![0; CELL_AREA]);
+    for member in members {
+        lent::total(member, 0, 0, &mut answer, &mut nodes, &mut cells);
+    }
+}
+
+fn total_all_leaves(members: &[Vec<u8>]) {
+    let (mut answer, mut totals) = (vec![0; TOTALS_ANSWER], vec![0; TOTALS_AREA]);
+    let (mut nodes, mut cells) = (vec![0; NODE_AREA], vec![0; CELL_AREA]);
+    for member in members {
+        lent::totals(member, 0, &mut answer, &mut totals, &mut nodes, &mut cells);
+    }
+}
+
 fn read_looks(looks: &[Vec<u8>]) {
     let (mut out, mut answer) = (vec![0; LONGEST_LOOK], vec![0; LOOK_ANSWER]);
     for look in looks {
         lent::read_look(look, &mut answer);
         lent::rewrite_look(look, &mut out, &mut answer);
     }
+}
+
+fn convert_texts() {
+    let text: Vec<u8> = (0..128).chain(0xe0..=0xff).collect();
+    let (mut utf8, mut back) = (vec![0; 3 * text.len()], vec![0; 3 * text.len()]);
+    let mut answer = vec![0; TEXT_ANSWER];
+    for page in 1250..=1252 {
+        lent::to_utf8(page, &text, &mut utf8, &mut answer);
+        let length = answer[2] as usize;
+        lent::from_utf8(page, &utf8[..length], &mut back, &mut answer);
+        assert_eq!(answer, [0, 0, text.len() as u32], "a text");
+    }
+}
+
+fn decode_cases() {
+    let (mut state, mut answer) = (vec![0; CASES_STATE], vec![0; CASES_FEED_ANSWER]);
+    let codes = [101, 253, 254, 255, 0, 253, 100, 252, 1, 2, 3, 4, 5, 6, 7, 8];
+    let mut output = vec![0; 64];
+    lent::cases_start(&[0, 0, 1], 100, &mut state, &mut answer);
+    lent::cases_feed(&mut state, &codes, &mut output, &mut answer);
+    assert_eq!(answer[0], 0, "codes");
+    lent::cases_end(&state, &mut answer);
 }

@@ -1,0 +1,199 @@
+/* Each function over real inputs, by the header's names of words and refusals.
+ *
+ * usage: functions EXAMPLES */
+#include "check.h"
+
+static uint32_t answer[DIGARUMBI_LOOK_ANSWER];
+static uint32_t nodes[DIGARUMBI_NODE_AREA];
+static uint32_t cells[DIGARUMBI_CELL_AREA];
+
+static double number_of(const uint32_t *low)
+{
+    double number;
+
+    CHECK(digarumbi_number(low[0], low[1], &number) == 1);
+    return number;
+}
+
+/* The double that a Value of a member says. */
+static double cell_number(const uint8_t *member, const uint32_t *cell)
+{
+    uint32_t value[DIGARUMBI_VALUE_WORDS];
+
+    digarumbi_value(member[2], member + cell[DIGARUMBI_CELL_VALUE], cell[DIGARUMBI_CELL_VALUE_LENGTH], value, DIGARUMBI_VALUE_WORDS);
+    CHECK(value[DIGARUMBI_VALUE_REFUSAL] == 0 && value[DIGARUMBI_VALUE_LENGTH] == cell[DIGARUMBI_CELL_VALUE_LENGTH]);
+    CHECK(value[DIGARUMBI_VALUE_FORM] == DIGARUMBI_NUMBER || value[DIGARUMBI_VALUE_FORM] == DIGARUMBI_LABELLED_NUMBER);
+    return number_of(value + DIGARUMBI_VALUE_BITS_LOW);
+}
+
+static void read_all(struct bytes member)
+{
+    digarumbi_read_member(member.at, member.length, answer, DIGARUMBI_MEMBER_ANSWER, nodes, DIGARUMBI_NODE_AREA, cells,
+                          DIGARUMBI_CELL_AREA);
+}
+
+/* Coefficients of a regression: 5 leaves in 7 nodes, then 2 leaves; 10 cells. */
+static void records(struct bytes member)
+{
+    const uint32_t *first = answer + DIGARUMBI_DIMENSIONS, *second = first + DIGARUMBI_DIMENSION_RECORD;
+    const uint32_t *group = nodes, *leaf = nodes + DIGARUMBI_NODE_RECORD;
+    size_t place;
+
+    read_all(member);
+    CHECK(answer[DIGARUMBI_REFUSAL] == 0 && answer[DIGARUMBI_PLACE] == 0);
+    CHECK(answer[DIGARUMBI_DIMENSION_COUNT] == 2 && answer[DIGARUMBI_NODE_COUNT] == 9 && answer[DIGARUMBI_CELL_COUNT] == 10);
+    CHECK(answer[DIGARUMBI_LAYER_COUNT] == 0 && answer[DIGARUMBI_ROW_COUNT] == 1 && answer[DIGARUMBI_COLUMN_COUNT] == 1);
+    CHECK(answer[DIGARUMBI_AXIS_ORDER] == 1 && answer[DIGARUMBI_AXIS_ORDER + 1] == 0);
+    CHECK(first[DIGARUMBI_DIMENSION_N] == 5 && first[DIGARUMBI_DIMENSION_FIRST_NODE] == 0);
+    CHECK(second[DIGARUMBI_DIMENSION_N] == 2 && second[DIGARUMBI_DIMENSION_FIRST_NODE] == 7);
+    CHECK(group[DIGARUMBI_NODE_KIND] == DIGARUMBI_GROUP && group[DIGARUMBI_NODE_PARENT] == DIGARUMBI_NO_PARENT);
+    CHECK(group[DIGARUMBI_NODE_INDEX] == 2 && group[DIGARUMBI_NODE_SIZE] == 3);
+    CHECK(leaf[DIGARUMBI_NODE_KIND] == DIGARUMBI_LEAF && leaf[DIGARUMBI_NODE_PARENT] == 0 && leaf[DIGARUMBI_NODE_DIMENSION] == 0);
+    CHECK(leaf[DIGARUMBI_NODE_INDEX] == 0 && leaf[DIGARUMBI_NODE_SIZE] == 1);
+    CHECK(digarumbi_node_name(member.at, member.length, nodes, DIGARUMBI_NODE_AREA, 9, 1, &place) == leaf[DIGARUMBI_NODE_NAME_LENGTH]);
+    CHECK(place == leaf[DIGARUMBI_NODE_NAME]);
+    CHECK(digarumbi_node_after(nodes, DIGARUMBI_NODE_AREA, 9, 0) == 3);
+    CHECK(cells[DIGARUMBI_CELL_INDEX] == 2);
+    CHECK(cell_number(member.at, cells + DIGARUMBI_CELL_RECORD * 9) == 0);
+    CHECK(digarumbi_part(member.at, member.length, 2, 4) == 4);
+    CHECK(digarumbi_part(member.at, member.length, member.length, 1) == 0);
+}
+
+static void refusals(struct bytes member)
+{
+    memset(nodes, 7, sizeof nodes);
+    digarumbi_read_member(member.at, 1000, answer, DIGARUMBI_MEMBER_ANSWER, nodes, DIGARUMBI_NODE_AREA, cells, DIGARUMBI_CELL_AREA);
+    CHECK(answer[DIGARUMBI_REFUSAL] == DIGARUMBI_REFUSED_DOES_NOT_FIT && answer[DIGARUMBI_PLACE] == 911);
+    CHECK(all(nodes, DIGARUMBI_NODE_AREA, 0x07070707));
+    digarumbi_read_member(member.at, member.length, answer, DIGARUMBI_MEMBER_ANSWER, nodes, 7 * 9 - 1, cells, DIGARUMBI_CELL_AREA);
+    CHECK(answer[DIGARUMBI_REFUSAL] == DIGARUMBI_REFUSED_NODE_AREA && answer[DIGARUMBI_NODE_COUNT] == 9);
+    CHECK(all(nodes, DIGARUMBI_NODE_AREA, 0x07070707));
+    CHECK(digarumbi_read_member(member.at, member.length, answer, DIGARUMBI_MEMBER_ANSWER - 1, nodes, 0, cells, 0) == 0);
+}
+
+/* Statistics of three variables: 3 leaves, then 16. */
+static void totals(struct bytes member)
+{
+    static uint32_t leaves[DIGARUMBI_TOTALS_AREA];
+    const uint32_t *mode = leaves + DIGARUMBI_TOTAL_RECORD * 5, *mean = leaves + DIGARUMBI_TOTAL_RECORD * 2;
+
+    CHECK(digarumbi_total(member.at, member.length, 1, 5, answer, DIGARUMBI_TOTAL_ANSWER, nodes, DIGARUMBI_NODE_AREA, cells,
+                          DIGARUMBI_CELL_AREA) == DIGARUMBI_TOTAL_ANSWER);
+    CHECK(answer[DIGARUMBI_TOTAL_REFUSAL] == 0);
+    CHECK(answer[DIGARUMBI_TOTAL_NODE_COUNT] == 20 && answer[DIGARUMBI_TOTAL_CELL_COUNT] == 48);
+    CHECK(answer[DIGARUMBI_TOTAL_LOW] == 3 && answer[DIGARUMBI_TOTAL_HIGH] == 0);
+    CHECK(answer[DIGARUMBI_TOTAL_NUMBERS] == 2 && answer[DIGARUMBI_TOTAL_TEXTS] == 0 && answer[DIGARUMBI_TOTAL_MISSING] == 1);
+    CHECK(number_of(answer + DIGARUMBI_TOTAL_SMALLEST_LOW) == 1 && number_of(answer + DIGARUMBI_TOTAL_LARGEST_LOW) == 2);
+    CHECK(digarumbi_totals(member.at, member.length, 1, answer, DIGARUMBI_TOTALS_ANSWER, leaves, DIGARUMBI_TOTALS_AREA, nodes,
+                           DIGARUMBI_NODE_AREA, cells, DIGARUMBI_CELL_AREA) == DIGARUMBI_TOTALS_ANSWER);
+    CHECK(answer[DIGARUMBI_TOTALS_REFUSAL] == 0 && answer[DIGARUMBI_TOTALS_LEAF_COUNT] == 16);
+    CHECK(mode[DIGARUMBI_LEAF_REFUSAL] == 0 && mode[DIGARUMBI_LEAF_TOTAL_LOW] == 3 && mode[DIGARUMBI_LEAF_MISSING] == 1);
+    CHECK(number_of(mode + DIGARUMBI_LEAF_SMALLEST_LOW) == 1 && number_of(mode + DIGARUMBI_LEAF_LARGEST_LOW) == 2);
+    CHECK(mean[DIGARUMBI_LEAF_REFUSAL] == DIGARUMBI_REFUSED_NO_COUNT && mean[DIGARUMBI_LEAF_PLACE] == 2690);
+    CHECK(all(mean + DIGARUMBI_LEAF_TOTAL_LOW, DIGARUMBI_TOTAL_RECORD - DIGARUMBI_LEAF_TOTAL_LOW, 0));
+    digarumbi_total(member.at, member.length, 1, 16, answer, DIGARUMBI_TOTAL_ANSWER, nodes, DIGARUMBI_NODE_AREA, cells,
+                    DIGARUMBI_CELL_AREA);
+    CHECK(answer[DIGARUMBI_TOTAL_REFUSAL] == DIGARUMBI_REFUSED_NO_SUCH_LEAF);
+}
+
+static void looks(struct bytes look)
+{
+    static uint8_t out[DIGARUMBI_LONGEST_LOOK];
+
+    CHECK(digarumbi_read_look(look.at, look.length, answer, DIGARUMBI_LOOK_ANSWER) == DIGARUMBI_LOOK_ANSWER);
+    CHECK(answer[DIGARUMBI_REFUSAL] == 0 && answer[DIGARUMBI_LOOK + DIGARUMBI_LOOK_VERSION] == 2);
+    CHECK(digarumbi_rewrite_look(look.at, look.length, out, sizeof out, answer, DIGARUMBI_REWRITE_ANSWER) == DIGARUMBI_REWRITE_ANSWER);
+    CHECK(answer[DIGARUMBI_REFUSAL] == 0 && answer[2] == look.length && memcmp(out, look.at, look.length) == 0);
+}
+
+static void texts(void)
+{
+    const uint8_t name[] = {0xa3, 0xf3, 'd', 0x9f};
+    uint8_t utf8[12], back[12];
+
+    digarumbi_to_utf8(DIGARUMBI_WINDOWS_1250, name, sizeof name, utf8, sizeof utf8, answer, DIGARUMBI_TEXT_ANSWER);
+    CHECK(answer[DIGARUMBI_REFUSAL] == 0 && answer[DIGARUMBI_TEXT_LENGTH] == 7);
+    CHECK(memcmp(utf8, "\xc5\x81\xc3\xb3\x64\xc5\xba", 7) == 0);
+    digarumbi_from_utf8(DIGARUMBI_WINDOWS_1250, utf8, 7, back, sizeof back, answer, DIGARUMBI_TEXT_ANSWER);
+    CHECK(answer[DIGARUMBI_REFUSAL] == 0 && answer[DIGARUMBI_TEXT_LENGTH] == 4 && memcmp(back, name, 4) == 0);
+    digarumbi_to_utf8(1253, name, sizeof name, utf8, sizeof utf8, answer, DIGARUMBI_TEXT_ANSWER);
+    CHECK(answer[DIGARUMBI_REFUSAL] == DIGARUMBI_REFUSED_UNKNOWN_PAGE);
+}
+
+static void cases(void)
+{
+    static uint32_t state[DIGARUMBI_CASES_STATE];
+    const uint8_t kinds[] = {DIGARUMBI_CASES_NUMERIC, DIGARUMBI_CASES_STRING};
+    const uint8_t codes[] = {101, 254, 252, 0, 0, 0, 0, 0};
+    uint8_t out[16];
+
+    digarumbi_cases_start(kinds, sizeof kinds, 100, state, DIGARUMBI_CASES_STATE, answer, DIGARUMBI_CASES_ANSWER);
+    CHECK(answer[DIGARUMBI_REFUSAL] == 0);
+    digarumbi_cases_feed(state, DIGARUMBI_CASES_STATE, codes, sizeof codes, out, sizeof out, answer, DIGARUMBI_CASES_FEED_ANSWER);
+    CHECK(answer[0] == 0 && answer[2] == 8 && answer[3] == 2);
+    CHECK(memcmp(out, "\0\0\0\0\0\0\xf0\x3f        ", 16) == 0);
+    /* The first call stopped at its last element; in the second the 252 acts. */
+    digarumbi_cases_feed(state, DIGARUMBI_CASES_STATE, NULL, 0, out, sizeof out, answer, DIGARUMBI_CASES_FEED_ANSWER);
+    CHECK(all(answer, DIGARUMBI_CASES_FEED_ANSWER, 0));
+    digarumbi_cases_end(state, DIGARUMBI_CASES_STATE, answer, DIGARUMBI_CASES_ANSWER);
+    CHECK(answer[DIGARUMBI_REFUSAL] == 0);
+}
+
+static void units(void)
+{
+    uint32_t result;
+
+    CHECK(digarumbi_pt_to_px(72, &result) == 0 && result == 96);
+    CHECK(digarumbi_px_to_pt(96, &result) == 0 && result == 72);
+    CHECK(digarumbi_font_height(-12, &result) == 0 && result == 12);
+    CHECK(digarumbi_font_height(0, &result) == DIGARUMBI_REFUSED_LIMIT && result == 0);
+}
+
+/* Whether the number has the text of those that are no refusal's. */
+static int is_no_refusal(uint32_t number)
+{
+    return strcmp(digarumbi_refusal_text(number), digarumbi_refusal_text(UINT32_MAX)) == 0;
+}
+
+/* Names that must agree with one another. */
+static void names(void)
+{
+    uint32_t number, other;
+
+    CHECK(digarumbi_abi() == DIGARUMBI_ABI);
+    CHECK(DIGARUMBI_DIMENSIONS + DIGARUMBI_MOST_DIMENSIONS * DIGARUMBI_DIMENSION_RECORD == DIGARUMBI_AXIS_ORDER);
+    CHECK(DIGARUMBI_AXIS_ORDER + DIGARUMBI_MOST_DIMENSIONS == DIGARUMBI_MEMBER_ANSWER);
+    CHECK(DIGARUMBI_NODE_AREA == DIGARUMBI_NODE_RECORD * DIGARUMBI_MOST_NODES);
+    CHECK(DIGARUMBI_CELL_AREA == DIGARUMBI_CELL_RECORD * DIGARUMBI_MOST_CELLS);
+    CHECK(DIGARUMBI_TOTALS_AREA == DIGARUMBI_TOTAL_RECORD * DIGARUMBI_MOST_NODES);
+    CHECK(strcmp(digarumbi_refusal_text(DIGARUMBI_REFUSED_CELL_INDEX), "cell index not below the product, or seen before") == 0);
+    CHECK(is_no_refusal(17) && !is_no_refusal(0) && !is_no_refusal(DIGARUMBI_REFUSED_NO_CHARACTER));
+    for (number = 0; number < 64; number++)
+        for (other = 0; other < number; other++)
+            CHECK(is_no_refusal(number) || strcmp(digarumbi_refusal_text(number), digarumbi_refusal_text(other)) != 0);
+}
+
+int main(int argc, char **argv)
+{
+    struct bytes coefficients, statistics, look;
+
+    if (argc != 2) {
+        fprintf(stderr, "usage: functions EXAMPLES\n");
+        return 2;
+    }
+    coefficients = file(argv[1], "spine_18.bin");
+    statistics = file(argv[1], "spine_1.bin");
+    look = file(argv[1], "look_02.tlo");
+    names();
+    records(coefficients);
+    refusals(coefficients);
+    totals(statistics);
+    looks(look);
+    texts();
+    cases();
+    units();
+    free(coefficients.at);
+    free(statistics.at);
+    free(look.at);
+    return failures != 0;
+}

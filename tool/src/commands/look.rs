@@ -1,0 +1,67 @@
+//! `look`: a table look in words, or written back.
+
+use std::ffi::{OsStr, OsString};
+
+use digarumbi::{rewrite_look, Look, Refusal};
+
+use crate::encoding::Encoding;
+use crate::input::{self, Input};
+use crate::json::Object;
+use crate::look_words::{fields, Field};
+use crate::refusal::sentence;
+use crate::replace::replace;
+use crate::session::{reason, Session, Status, Written};
+
+pub fn run(session: &mut Session, files: &[OsString]) -> Written {
+    let output = session.options.output.clone();
+    let headed = files.len() > 1;
+    session.each_input(files, |session, input| match &output {
+        Some(output) => write_back(session, input, output),
+        None => in_words(session, input, headed),
+    })
+}
+
+/// Nothing is written after a refusal.
+fn write_back(session: &mut Session, input: &Input, output: &OsStr) -> Written {
+    let look = match rewrite_look(&input.bytes) {
+        Ok(look) => look,
+        Err(refusal) => {
+            session.say_refused(&input.name, &sentence(&refusal));
+            return Ok(());
+        }
+    };
+    if output == "-" {
+        return session.write(&look);
+    }
+    if let Err(error) = replace(output.as_ref(), &look) {
+        session.say_failed(&input::shown(output), &reason(&error));
+    }
+    Ok(())
+}
+
+fn in_words(session: &mut Session, input: &Input, headed: bool) -> Written {
+    let look = match Look::read(&input.bytes) {
+        Ok(look) => look,
+        Err(refusal) => return refused(session, input, &refusal),
+    };
+    let fields = fields(&look, session.options.encoding.unwrap_or(Encoding::Utf8));
+    if session.options.json {
+        let object = Object::new().text("file", &input.name).plain("accepted", true);
+        let with = |object: Object, (name, value): &Field| object.text(name, value);
+        return session.line(fields.iter().fold(object, with).end());
+    }
+    let heading = headed.then(|| format!("{}:", input.name));
+    let lines = fields.iter().map(|(name, value)| format!("{name:<32}{value}").trim_end().into());
+    session.line(heading.into_iter().chain(lines).collect::<Vec<String>>().join("\n"))
+}
+
+fn refused(session: &mut Session, input: &Input, refusal: &Refusal) -> Written {
+    if session.options.json {
+        session.set(Status::Refused);
+        let object = Object::new().text("file", &input.name).plain("accepted", false);
+        let object = object.plain("number", refusal.number).plain("place", refusal.place);
+        return session.line(object.text("words", refusal.text()).end());
+    }
+    session.say_refused(&input.name, &sentence(refusal));
+    Ok(())
+}
