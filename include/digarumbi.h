@@ -37,7 +37,7 @@ extern "C" {
 uint32_t digarumbi_abi(void);
 
 /* Bytes of stack in which a thread can call any function. docs/BENCHMARKS.md has what each was measured to need. */
-#define DIGARUMBI_STACK 262144
+#define DIGARUMBI_STACK 524288
 
 /* Refusal numbers (01, "Refusal numbers"). A place is an offset in the input. 0 is no refusal.
  *

@@ -55,7 +55,7 @@ pub const CASES_ANSWER: usize = 2;
 pub const CASES_FEED_ANSWER: usize = 4;
 
 /// Bytes of stack in which a thread can call any of these functions.
-pub const STACK: usize = 262_144;
+pub const STACK: usize = 524_288;
 
 /// Bytes of the longest look.
 pub const LONGEST_LOOK: usize = 3_160;
