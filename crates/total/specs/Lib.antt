@@ -1,4 +1,3 @@
-pub mod Count
 pub mod Total
 pub mod Words
 pub mod Answers

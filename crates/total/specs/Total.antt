@@ -3,17 +3,17 @@ use mathlib.Core.Bool.{Bool, true, false}
 use mathlib.Core.List.{List, [], _∷_, map}
 use Prim.Native.Nat.{ℕ, _+_, min, max}
 use lib.Dec.{eqb, ltb}
-use Rattle.layout.specs.Layout.{pick, among, Tree, size}
+use Rattle.layout.specs.Layout.{pick, Tree, size}
 use Rattle.index.specs.Index.{coordinate}
 use Rattle.table.specs.Table.{Cell}
 use Rattle.table.specs.Records.{cellIndex, cellValue}
 use Rattle.member.specs.Member.{Member, version, cells, cellsStart, dimensions, nodes, ns}
 use Rattle.contents.specs.declared.Contents.{Contents}
 use Rattle.contents.specs.Contents.{contents}
-use Rattle.total.specs.declared.sums.Kind.{Kind}
-use Rattle.total.specs.declared.sums.Kind.the-variants.{Text, Missing, Number, Bad}
+use Rattle.counts.specs.declared.Kind.{Kind}
+use Rattle.counts.specs.declared.Kind.the-variants.{Text, Missing, Number, Bad}
+use Rattle.counts.specs.Count.{kind}
 use Rattle.total.specs.declared.sums.Sums.{Sums}
-use Rattle.total.specs.Count.{missing-bits, no-count, count}
 
 -- ---- a cell
 
@@ -22,17 +22,6 @@ pub record CellSays : Type 0 where
   pub index : ℕ
   pub place : ℕ
   pub contents : Contents
-
--- what it is here, by its form and the bits of its double: "Value forms 01 and 02 count; others are counted as text cells"; a double may be
--- "missing, counted apart and no number here"; "Every other double there must be a whole number from 0 to 4,294,967,295"
-abbrev pub countKind : ℕ → Kind
-countKind n = pick (ltb n no-count) (Number n) Bad
-
-abbrev pub doubleKind : ℕ → Kind
-doubleKind bits = pick (eqb bits missing-bits) Missing (countKind (count bits))
-
-unfoldable pub kind : ℕ → ℕ → Kind
-kind form bits = pick (among form (1 ∷ 2 ∷ [])) (doubleKind bits) Text
 
 -- ---- sums over cells, in file order
 

@@ -2,7 +2,6 @@
 mod all; // a call for all leaves of a dimension
 pub mod answers; // the answers as words
 mod call; // a call for a leaf
-mod count; // which doubles are counts
 mod leaf; // a leaf of an accepted member
 mod rows; // all leaves of a dimension, in rows of words
 mod sums; // sums over cells

@@ -4,15 +4,7 @@ ghost use Prim.Native.Nat.{_+_, _≤_, _<_, _^_, min, max};
 ghost use lib.Dec.{eqb};
 ghost use Rattle.layout.specs.Layout.{pick};
 ghost use Rattle.total.specs.Total as spec;
-use crate::count::count;
-
-// What a cell is here.
-pub enum Kind {
-    Text,
-    Missing,
-    Number(u32),
-    Bad,
-}
+use counts::Kind;
 
 // How many of the cells are numbers, texts and missing; the total of the numbers, the smallest and the largest, 0 where there are none; and
 // whether a cell is bad, and the place of the first that is.
@@ -25,37 +17,6 @@ pub struct Sums {
     pub missing: u32,
     pub smallest: u32,
     pub largest: u32,
-}
-
-// What a double's bits make of a cell.
-fn double_kind(bits: u64) -> Kind
-    ensures { λ r. ⌜ r ≡ spec.doubleKind bits ⌝ }
-{
-    let missing = bits == 18442240474082181119;
-    if missing {
-        return Kind::Missing;
-    }
-    let n = count(bits);
-    let small = n < 4294967296;
-    if small {
-        Kind::Number(n as u32)
-    } else {
-        Kind::Bad
-    }
-}
-
-pub fn kind_of(form: u32, bits: u64) -> Kind
-    ensures { λ r. ⌜ r ≡ spec.kind form bits ⌝ }
-{
-    let number = form == 1;
-    let labelled = form == 2;
-    if number {
-        double_kind(bits)
-    } else if labelled {
-        double_kind(bits)
-    } else {
-        Kind::Text
-    }
 }
 
 // The smaller of two, and n where there is no other.

@@ -7,10 +7,11 @@ use native.Mathlib.Omega.{arith}
 use lib.Dec.{eqb}
 use borrow.Author.Tests.{eqb-true, eqb-false, eq-eqb, ne-eqb}
 use Rattle.layout.specs.Layout.{pick, All, all-none, all-more}
-use Rattle.total.specs.declared.sums.Kind.{Kind}
-use Rattle.total.specs.declared.sums.Kind.the-variants.{Text, Missing, Number, Bad}
+use Rattle.counts.specs.declared.Kind.{Kind}
+use Rattle.counts.specs.declared.Kind.the-variants.{Text, Missing, Number, Bad}
 use Rattle.total.specs.declared.sums.Sums.{Sums}
-use Rattle.total.specs.Total.{CellSays, kind, add, withCell, sums}
+use Rattle.counts.specs.Count.{kind}
+use Rattle.total.specs.Total.{CellSays, add, withCell, sums}
 
 -- f 0 + f 1 + ... + f (n - 1)
 unfoldable pub sumTo : ℕ → (ℕ → ℕ) → ℕ

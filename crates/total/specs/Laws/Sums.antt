@@ -9,11 +9,12 @@ use lib.ListN.{length}
 use lib.Dec.{eqb, ltb}
 use borrow.Author.Tests.{ltb-true, eq-eqb, ne-eqb}
 use Rattle.layout.specs.Layout.{pick, among, All, all-none, all-more}
-use Rattle.total.specs.declared.sums.Kind.{Kind}
-use Rattle.total.specs.declared.sums.Kind.the-variants.{Text, Missing, Number, Bad}
+use Rattle.counts.specs.declared.Kind.{Kind}
+use Rattle.counts.specs.declared.Kind.the-variants.{Text, Missing, Number, Bad}
 use Rattle.total.specs.declared.sums.Sums.{Sums}
-use Rattle.total.specs.Count.{missing-bits, no-count, count}
-use Rattle.total.specs.Total.{CellSays, countKind, doubleKind, kind, add, no-sums, withCell, sums}
+use Rattle.counts.specs.Count.{missing-bits, no-count, count}
+use Rattle.counts.specs.Count.{countKind, doubleKind, kind}
+use Rattle.total.specs.Total.{CellSays, add, no-sums, withCell, sums}
 
 -- ---- how large
 

@@ -11,10 +11,11 @@ use Rattle.index.specs.Index.{coordinate}
 use Rattle.index.specs.Laws.Coordinates.{coordinate-below}
 use Rattle.table.specs.Records.{dimLeaves}
 use Rattle.member.specs.Member.{Member, version, dimensions, nodes, cells, cellsStart, ns, places, AsDemanded}
-use Rattle.total.specs.declared.sums.Kind.{Kind}
-use Rattle.total.specs.declared.sums.Kind.the-variants.{Text, Missing, Number, Bad}
+use Rattle.counts.specs.declared.Kind.{Kind}
+use Rattle.counts.specs.declared.Kind.the-variants.{Text, Missing, Number, Bad}
 use Rattle.total.specs.declared.sums.Sums.{Sums}
-use Rattle.total.specs.Total.{CellSays, kind, add, withCell, sums, memberCells, leafSums, tableSums}
+use Rattle.counts.specs.Count.{kind}
+use Rattle.total.specs.Total.{CellSays, add, withCell, sums, memberCells, leafSums, tableSums}
 use Rattle.total.specs.Answers.{leafAnswer}
 use Rattle.total.specs.Laws.Under.{all-say}
 use Rattle.total.specs.Laws.Leaves.{sumTo, sum-same, leaves-add-up}

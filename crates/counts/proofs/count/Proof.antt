@@ -4,9 +4,9 @@ use native.Mathlib.Omega.{arith}
 use borrow.Author.Needs.{needs}
 use borrow.Author.Tests.{leb-true}
 use Rattle.layout.specs.Layout.{pick}
-use Rattle.total.specs.Count.{count}
-use Rattle.total.proofs.count.count.Statement.{statement}
-use Rattle.total.proofs.count.count.Tie as tie
+use Rattle.counts.specs.Count.{count}
+use Rattle.counts.proofs.count.Statement.{statement}
+use Rattle.counts.proofs.count.Tie as tie
 
 pub count-spec : {M : Type 1} → statement M
 unfolding count pick

@@ -1,7 +1,15 @@
-// Which doubles are counts, by their bits.
+// What a cell counts as (document 02, T-01): which doubles are counts, by their bits.
 ghost use mathlib.Core.Path.{_≡_};
 ghost use Prim.Native.Nat.{_-_, _^_, _≤_};
-ghost use Rattle.total.specs.Count as spec;
+ghost use Rattle.counts.specs.Count as spec;
+
+// What a cell is here.
+pub enum Kind {
+    Text,
+    Missing,
+    Number(u32),
+    Bad,
+}
 
 // 2 to the power k.
 fn power(k: u64) -> u64
@@ -12,7 +20,7 @@ fn power(k: u64) -> u64
 }
 
 // The whole number that a double's bits are, if it is one from 0 to 4,294,967,295; else the number after that.
-pub fn count(bits: u64) -> u64
+fn count(bits: u64) -> u64
     ensures { λ r. ⌜ r ≡ spec.count bits ⌝ }
 {
     let magnitude = bits % 9223372036854775808;
@@ -40,4 +48,35 @@ pub fn count(bits: u64) -> u64
         return 4294967296;
     }
     4294967296
+}
+
+// What a double's bits make of a cell.
+fn double_kind(bits: u64) -> Kind
+    ensures { λ r. ⌜ r ≡ spec.doubleKind bits ⌝ }
+{
+    let missing = bits == 18442240474082181119;
+    if missing {
+        return Kind::Missing;
+    }
+    let n = count(bits);
+    let small = n < 4294967296;
+    if small {
+        Kind::Number(n as u32)
+    } else {
+        Kind::Bad
+    }
+}
+
+pub fn kind_of(form: u32, bits: u64) -> Kind
+    ensures { λ r. ⌜ r ≡ spec.kind form bits ⌝ }
+{
+    let number = form == 1;
+    let labelled = form == 2;
+    if number {
+        double_kind(bits)
+    } else if labelled {
+        double_kind(bits)
+    } else {
+        Kind::Text
+    }
 }

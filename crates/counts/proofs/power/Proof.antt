@@ -2,8 +2,8 @@ use mathlib.Core.Path.{_≡_, _∙_}
 use Prim.Native.Nat.{ℕ, _*_, _%_, _^_, _≤_, _<_}
 use native.Mathlib.Nat.{one-mul, mod-eq-of-lt, pow-le-pow-right}
 use native.Mathlib.Omega.{arith}
-use Rattle.total.proofs.count.power.Statement.{statement}
-use Rattle.total.proofs.count.power.Tie as tie
+use Rattle.counts.proofs.power.Statement.{statement}
+use Rattle.counts.proofs.power.Tie as tie
 
 -- no digit is lost
 shifted : (k : ℕ) → k ≤ 52 → 1 * 2 ^ k % 2 ^ 64 ≡ 2 ^ k

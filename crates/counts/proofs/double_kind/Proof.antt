@@ -1,7 +1,7 @@
 use borrow.Author.Tests.{ltb-true}
 use Rattle.layout.specs.Layout.{pick}
-use Rattle.total.proofs.sums.double_kind.Statement.{statement}
-use Rattle.total.proofs.sums.double_kind.Tie as tie
+use Rattle.counts.proofs.double_kind.Statement.{statement}
+use Rattle.counts.proofs.double_kind.Tie as tie
 
 pub double-kind-spec : {M : Type 1} → statement M
 unfolding pick

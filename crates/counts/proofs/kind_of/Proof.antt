@@ -1,8 +1,8 @@
 use borrow.Author.Needs.{needs}
 use Rattle.layout.specs.Layout.{pick, among}
-use Rattle.total.specs.Total.{kind}
-use Rattle.total.proofs.sums.kind_of.Statement.{statement}
-use Rattle.total.proofs.sums.kind_of.Tie as tie
+use Rattle.counts.specs.Count.{kind}
+use Rattle.counts.proofs.kind_of.Statement.{statement}
+use Rattle.counts.proofs.kind_of.Tie as tie
 
 pub kind-of-spec : {M : Type 1} → statement M
 unfolding kind pick among

@@ -1,8 +1,12 @@
--- Which doubles are counts (document 02, T-01), by their bits: IEEE 754's binary64 is a sign, 11 bits of exponent and 52 of fraction.
+-- What a cell counts as (document 02, T-01), by the form of its Value and the bits of its double: IEEE 754's binary64 is a sign, 11 bits of
+-- exponent and 52 of fraction.
 use mathlib.Core.Bool.{Bool, _&&_}
+use mathlib.Core.List.{[], _∷_}
 use Prim.Native.Nat.{ℕ, _+_, _-_, _*_, _/_, _%_, _^_}
 use lib.Dec.{eqb, leb, ltb}
-use Rattle.layout.specs.Layout.{pick}
+use Rattle.layout.specs.Layout.{pick, among}
+use Rattle.counts.specs.declared.Kind.{Kind}
+use Rattle.counts.specs.declared.Kind.the-variants.{Text, Missing, Number, Bad}
 
 -- "A double equal to minus the largest finite one is missing"
 abbrev pub missing-bits : ℕ
@@ -29,3 +33,14 @@ count bits =
     pick (eqb (bits % 2 ^ 63) 0) 0
     (pick (ltb bits (2 ^ 63) && leb 1023 (exponent bits) && leb (exponent bits) 1054 && eqb (significand bits % divisor bits) 0)
     (significand bits / divisor bits) no-count)
+
+-- what a cell is here, by its form and the bits of its double: "Value forms 01 and 02 count; others are counted as text cells"; a double may be
+-- "missing, counted apart and no number here"; "Every other double there must be a whole number from 0 to 4,294,967,295"
+abbrev pub countKind : ℕ → Kind
+countKind n = pick (ltb n no-count) (Number n) Bad
+
+abbrev pub doubleKind : ℕ → Kind
+doubleKind bits = pick (eqb bits missing-bits) Missing (countKind (count bits))
+
+unfoldable pub kind : ℕ → ℕ → Kind
+kind form bits = pick (among form (1 ∷ 2 ∷ [])) (doubleKind bits) Text
