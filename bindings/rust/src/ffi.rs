@@ -59,6 +59,34 @@ extern "C" {
 
     pub fn digarumbi_number(low: u32, high: u32, number: *mut f64) -> u32;
 
+    pub fn digarumbi_position(
+        ns: *const u32,
+        dimensions: usize,
+        layers: u32,
+        rows: u32,
+        columns: u32,
+        order: *const u32,
+        order_words: usize,
+        index: u32,
+        answer: *mut u32,
+        answer_words: usize,
+    ) -> usize;
+
+    pub fn digarumbi_index(
+        ns: *const u32,
+        dimensions: usize,
+        layers: u32,
+        rows: u32,
+        columns: u32,
+        order: *const u32,
+        order_words: usize,
+        layer: u32,
+        row: u32,
+        column: u32,
+        answer: *mut u32,
+        answer_words: usize,
+    ) -> usize;
+
     pub fn digarumbi_read_look(
         file: *const u8,
         file_length: usize,
