@@ -1,7 +1,6 @@
 -- Positions by computation.
 use mathlib.Core.Path.{_≡_, refl}
 use mathlib.Core.List.{[], _∷_}
-use Prim.Native.Nat.{ℕ}
 use Rattle.layout.specs.Layout.{among, pick}
 use Rattle.once.specs.Once.{word, fresh}
 use Rattle.index.specs.Index.{product, coordinate}

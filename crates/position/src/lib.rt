@@ -8,7 +8,7 @@ ghost use Rattle.sizes.specs.Sizes.{most-dimensions, most-places};
 ghost use Rattle.layout.specs.Layout.{among};
 ghost use Rattle.once.specs.Once.{word};
 ghost use Rattle.index.specs.Index.{product};
-ghost use Rattle.position.specs.Axes.{positionOn, coordinateOn, coordinateAt, part, axesOf, indexAt};
+ghost use Rattle.position.specs.Axes.{coordinateOn, coordinateAt, part, axesOf, indexAt};
 ghost use Rattle.position.specs.Answers as answers;
 ghost use Rattle.position.specs.Laws.Table.{down};
 ghost use Rattle.position.specs.Laws.Turned.{Fits};

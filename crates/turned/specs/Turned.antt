@@ -1,6 +1,6 @@
 -- A member's cells at their layer, row and column positions, on its own axes or on any others (document 02, T-11).
 use mathlib.Core.Path.{_≡_}
-use mathlib.Core.Bool.{Bool}
+use mathlib.Core.Bool.{Bool, true}
 use mathlib.Core.List.{List, [], _∷_, map}
 use Prim.Native.Nat.{ℕ}
 use lib.Dec.{eqb}
@@ -9,7 +9,8 @@ use Rattle.once.specs.Once.{word}
 use Rattle.member.specs.Member as member
 use Rattle.member.specs.Member.{Member}
 use Rattle.contents.specs.declared.Contents.{Contents}
-use Rattle.total.specs.Total.{CellSays}
+use Rattle.total.specs.declared.sums.Sums.{Sums}
+use Rattle.total.specs.Total.{CellSays, sums}
 use Rattle.position.specs.Axes.{coordinateAt, axesOf}
 use Rattle.position.specs.Answers.{refusal, position, indexOf}
 
@@ -65,3 +66,7 @@ turn ns x y cs = map (λ c. toPosition ns y (toIndex ns x c)) cs
 unfoldable pub chosen : (CellAt → Bool) → List CellAt → List CellAt
 chosen test [] = []
 chosen test (c ∷ cs) = pick (test c) (c ∷ chosen test cs) (chosen test cs)
+
+-- T-01's sums of the cells that are under a leaf by their positions
+abbrev pub sumsAt : List ℕ → AxisOrder → ℕ → ℕ → List CellAt → Sums
+sumsAt ns x dimension leaf cs = sums (λ _. true) (map (toIndex ns x) (chosen (underAt ns x dimension leaf) cs))

@@ -1,6 +1,6 @@
 -- The loop keeps the answer: the coordinate of what is left of the position, on the entries that are left.
 use Prim.Native.Nat.{_+_, _≤_}
-use mathlib.Core.Path.{_≡_, refl, ap, _∙_}
+use mathlib.Core.Path.{_≡_, refl}
 use native.Mathlib.Omega.{arith}
 use Rattle.sizes.specs.Sizes.{most-dimensions}
 use Rattle.once.specs.Once.{word}

@@ -1,6 +1,6 @@
 -- The loop keeps the product in all, as far as one too large: p times the n that are left.
 use Prim.Native.Nat.{_≤_, _+_, _-_, _*_, min}
-use mathlib.Core.Path.{_≡_, refl}
+use mathlib.Core.Path.{_≡_}
 use native.Mathlib.Omega.{arith}
 use native.Mathlib.Nat.{one-mul}
 use lib.Dec.{lit≤}

@@ -15,7 +15,7 @@ use Rattle.layout.specs.Laws.Tests.{and-is-true}
 use Rattle.once.specs.Once.{word, fresh, Distinct, OnceEach}
 use Rattle.once.specs.Laws.{one-more}
 use Rattle.index.specs.Index.{product, coordinate}
-use Rattle.position.specs.Axes.{positionOn, span, coordinateOn, coordinateAt, part, axesOf}
+use Rattle.position.specs.Axes.{positionOn, coordinateOn, coordinateAt, part, axesOf}
 use Rattle.position.specs.Answers.{onceEach, tooLarge, axesMatch, refusal}
 use Rattle.position.specs.Laws.Among.{on-first, on-later, parted}
 use Rattle.position.specs.Laws.Axis.{position-below, position-same, coordinate-inside}

@@ -10,7 +10,7 @@ use lib.Dec.{eqb}
 use Rattle.layout.specs.Layout.{among, pick}
 use Rattle.once.specs.Once.{Distinct}
 use Rattle.index.specs.Index.{product}
-use Rattle.position.specs.Axes.{span, coordinateOn}
+use Rattle.position.specs.Axes.{span}
 use Rattle.position.specs.Laws.Among.{first-among, later-among}
 use Rattle.position.specs.Laws.Axis.{coordinate-inside}
 use Rattle.position.specs.Laws.Table.{down, below-down, down-below, down-distinct}

@@ -2,7 +2,7 @@
 -- column position, each below its axis's product, correspond one to one": each index below the product has a position (`each-index`), each
 -- such triple an index (`each-position`), and each answer is turned back by the other (`position-index`, `index-position`).
 use mathlib.Core.Path.{_≡_, refl, sym, ap, _∙_}
-use mathlib.Core.Bool.{Bool, true, false, _&&_, false≢true}
+use mathlib.Core.Bool.{Bool, true, false, _&&_}
 use mathlib.Core.List.{List, [], _∷_}
 use Prim.Native.Nat.{ℕ, _+_, _<_}
 use native.Mathlib.Omega.{arith}
@@ -15,7 +15,7 @@ use Rattle.once.specs.Once.{word}
 use Rattle.index.specs.Index.{product, coordinate}
 use Rattle.position.specs.declared.Position.{Position}
 use Rattle.position.specs.declared.CellIndex.{CellIndex}
-use Rattle.position.specs.Axes.{span, positions, coordinateAt, part, axesOf, indexAt}
+use Rattle.position.specs.Axes.{positions, coordinateAt, axesOf, indexAt}
 use Rattle.position.specs.Answers.{refusal, along, at, noPosition, position, spanOf, within, found, noIndex, indexOf}
 use Rattle.position.specs.Laws.Turned.{Fits, fits-none, fits-more}
 use Rattle.position.specs.Laws.Table.{table-fits, index-back, coordinate-kept, index-below, positions-back}

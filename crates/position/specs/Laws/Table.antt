@@ -2,20 +2,20 @@
 -- holds of an index and its positions.
 use mathlib.Core.Path.{_≡_, refl, sym, ap, _∙_}
 use mathlib.Core.Bool.{Bool, true, false}
-use mathlib.Core.List.{List, [], _∷_, map, append-nil}
+use mathlib.Core.List.{List, [], _∷_, append-nil}
 use Prim.Native.Nat.{ℕ, zero, suc, _+_, _*_, _%_, _≤_, _<_}
-use native.Mathlib.Nat.{add-zero, zero-add, mul-comm, mul-assoc, mul-one, one-mul}
+use native.Mathlib.Nat.{add-zero, zero-add, mul-comm, mul-assoc}
 use native.Mathlib.Omega.{arith}
 use borrow.Author.Tests.{eqb-false}
 use lib.Dec.{eqb}
 use lib.ListN.{length, getD, List·getD-map}
-use Rattle.layout.specs.Layout.{among, pick, All, all-none, all-more}
+use Rattle.layout.specs.Layout.{among, All, all-none, all-more}
 use Rattle.once.specs.Once.{word, Distinct}
-use Rattle.index.specs.Index.{product, index-from, index, shape, coordinates, coordinate}
+use Rattle.index.specs.Index.{product, index-from, index, coordinates, coordinate}
 use Rattle.index.specs.Laws.Coordinates.{coordinates-shape, index-of-coordinates, coordinate-of, coordinate-below}
 use Rattle.position.specs.Axes.{positionOn, span, coordinateOn, positions, coordinateAt, turned, pairs, indexAt}
 use Rattle.position.specs.Laws.Among.{none-among, first-or-later}
-use Rattle.position.specs.Laws.Axis.{Inside, Same, position-same, coordinate-position}
+use Rattle.position.specs.Laws.Axis.{Inside, Same, coordinate-position}
 use Rattle.position.specs.Laws.Turned.{Axes, joined, Fits, fits-none, fits-more, from-first, positions-same, in-table, turned-fits, turned-coordinate, turned-back}
 
 -- d dimensions, the last first

@@ -1,17 +1,18 @@
 -- Cells to positions and back, one by one.
 use mathlib.Core.Path.{_≡_, refl, ap, _∙_}
 use mathlib.Core.Bool.{Bool, true, false}
-use mathlib.Core.List.{List, [], _∷_, map}
+use mathlib.Core.List.{List, _∷_, map}
 use Prim.Native.Nat.{ℕ, _+_, _<_}
 use lib.Dec.{eqb}
 use lib.ListN.{length}
 use Rattle.layout.specs.Layout.{pick, All, all-none, all-more}
 use Rattle.index.specs.Index.{product, coordinate}
 use Rattle.total.specs.Total.{CellSays, withCell, sums}
+use Rattle.position.specs.declared.Position.{Position}
 use Rattle.position.specs.declared.CellIndex.{CellIndex}
 use Rattle.position.specs.Answers.{along, at, position}
 use Rattle.position.specs.Laws.OneToOne.{each-index, position-index, same-leaf}
-use Rattle.turned.specs.Turned.{AxisOrder, CellAt, Fitting, toPosition, toIndex, underAt, turn, chosen}
+use Rattle.turned.specs.Turned.{AxisOrder, CellAt, Fitting, toPosition, toIndex, underAt, turn, chosen, sumsAt}
 
 module _ (ns : List ℕ) where
   -- each is inside the table
@@ -23,6 +24,11 @@ module _ (ns : List ℕ) (x : AxisOrder) (f : Fitting ns x) where
       → position ns (x .layers) (x .rows) (x .columns) (x .order) (c .index)
       ≡ at (along ns (x .order) (c .index) 0 (x .layers)) (along ns (x .order) (c .index) (x .layers) (x .rows)) (along ns (x .order) (c .index) (x .layers + x .rows) (x .columns))
   placed c h = each-index ns (x .layers) (x .rows) (x .columns) (x .order) f (c .index) h .0
+
+  -- Placed: no position is refused
+  pub none-refused : {cs : List CellSays} → AllInside ns cs → All (λ (c : CellSays). position ns (x .layers) (x .rows) (x .columns) (x .order) (c .index) .refusal ≡ 0) cs
+  none-refused all-none = all-none
+  none-refused (all-more {x = c} h hs) = all-more {x = c} (ap (λ (p : Position). p .refusal) (placed c h)) (none-refused hs)
 
   -- a cell turned to its position and back is the cell
   pub cell-back : (c : CellSays) → c .index < product ns → toIndex ns x (toPosition ns x c) ≡ c
@@ -45,7 +51,7 @@ module _ (ns : List ℕ) (x : AxisOrder) (f : Fitting ns x) where
         rw e (ap (λ k. eqb k leaf) (same-leaf ns (x .layers) (x .rows) (x .columns) (x .order) (c .index) _ _ _ e dimension there))
 
     by-test : (c : CellSays) (cs : List CellSays) → c .index < product ns → (b : Bool) → eqb (coordinate ns dimension (c .index)) leaf ≡ b
-        → sums (λ _. true) (map (toIndex ns x) (chosen (underAt ns x dimension leaf) (map (toPosition ns x) cs))) ≡ sums (λ k. eqb (coordinate ns dimension k) leaf) cs
+        → sumsAt ns x dimension leaf (map (toPosition ns x) cs) ≡ sums (λ k. eqb (coordinate ns dimension k) leaf) cs
         → sums (λ _. true) (map (toIndex ns x) (pick b (toPosition ns x c ∷ chosen (underAt ns x dimension leaf) (map (toPosition ns x) cs)) (chosen (underAt ns x dimension leaf) (map (toPosition ns x) cs))))
         ≡ sums (λ k. eqb (coordinate ns dimension k) leaf) (c ∷ cs)
     unfolding sums withCell pick
@@ -55,7 +61,7 @@ module _ (ns : List ℕ) (x : AxisOrder) (f : Fitting ns x) where
 
     -- Sums: those chosen by their positions have the sums of those under the leaf by their indexes
     pub chosen-sums : {cs : List CellSays} → AllInside ns cs
-        → sums (λ _. true) (map (toIndex ns x) (chosen (underAt ns x dimension leaf) (map (toPosition ns x) cs))) ≡ sums (λ k. eqb (coordinate ns dimension k) leaf) cs
+        → sumsAt ns x dimension leaf (map (toPosition ns x) cs) ≡ sums (λ k. eqb (coordinate ns dimension k) leaf) cs
     unfolding chosen sums
     chosen-sums all-none = refl
     chosen-sums (all-more {x = c} {xs = cs} h hs) =

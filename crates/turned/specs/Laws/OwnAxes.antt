@@ -1,7 +1,6 @@
 -- A member's own axes fit its n, and its cells are inside the table.
-use mathlib.Core.Path.{_≡_, refl, sym, _∙_}
-use mathlib.Core.Bool.{true}
-use mathlib.Core.List.{List, [], _∷_, _++_, map}
+use mathlib.Core.Path.{_≡_, sym, _∙_}
+use mathlib.Core.List.{List, _++_}
 use Prim.Native.Nat.{ℕ, _+_, _≤_, _<_}
 use native.Mathlib.Omega.{arith}
 use borrow.Author.Tests.{leb-true}
@@ -15,10 +14,10 @@ use Rattle.total.specs.Laws.Under.{all-say}
 use Rattle.position.specs.Laws.Accepted.{Accepted, not-refused}
 use Rattle.turned.specs.Turned.{ownAxes, Fitting}
 
-module _ {bs : List ℕ} (d : MemberDerivation bs) (a : AsDemanded (d .tree)) where
-  n-count : length (ns (d .tree)) ≡ length (dimensions (d .tree))
-  n-count = length-map (dimensions (d .tree)) (λ x. length (dimLeaves (version (d .tree)) x))
+pub n-count : (t : Tree Member) → length (ns t) ≡ length (dimensions t)
+n-count t = length-map (dimensions t) (λ x. length (dimLeaves (version t) x))
 
+module _ {bs : List ℕ} (d : MemberDerivation bs) (a : AsDemanded (d .tree)) where
   few : length (dimensions (d .tree)) ≤ most-dimensions
   unfolding passes
   few = rw (d .valid .1 .2 .0 .0 .1 .2 .0) (leb-true (dimensionsSection (d .tree) .0) most-dimensions (d .valid .1 .2 .0 .0 .1 .1))
@@ -34,11 +33,11 @@ module _ {bs : List ℕ} (d : MemberDerivation bs) (a : AsDemanded (d .tree)) wh
 
   own : Accepted (ns (d .tree)) (layers (d .tree)) (rows (d .tree)) (columns (d .tree)) (order (d .tree))
   own = record {
-    few = omega (arith, few, n-count);
+    few = omega (arith, few, n-count (d .tree));
     small = d .few-places;
-    sum = a .counts ∙ sym n-count;
-    long = entry-count ∙ a .counts ∙ sym n-count;
-    once = rw n-count (a .entries);
+    sum = a .counts ∙ sym (n-count (d .tree));
+    long = entry-count ∙ a .counts ∙ sym (n-count (d .tree));
+    once = rw (n-count (d .tree)) (a .entries);
   }
 
   -- Own: a member's own axes fit
