@@ -435,6 +435,45 @@ enum {
 size_t digarumbi_totals(const uint8_t *member, size_t member_length, uint32_t dimension, uint32_t *answer, size_t answer_words,
                         uint32_t *totals, size_t total_words, uint32_t *nodes, size_t node_words, uint32_t *cells, size_t cell_words);
 
+/* ---- Positions of cells (02, T-11) ---- */
+
+/* Where a cell stands in the table. The member's answer has what is asked here: the n of the dimensions, how many of them are on the layer,
+ * row and column axis, and the axis order: the dimensions of the layers, then of the rows, then of the columns, inner ones first. With other
+ * counts and another order the same cell stands elsewhere, and its index is the same.
+ *
+ * A position on an axis is built from the axis's last dimension to its first: k = n * k + x, x being the coordinate. An axis with no
+ * dimensions has position 0. Indexes below the product of all n and triples of positions, each below its axis's product, correspond one to one.
+ *
+ * Refusals, all at place 0, in this order: 7 for more than 16 dimensions or a product of all n above 4,294,967,295 (an n of 0 makes it 0);
+ * 9 for counts that don't add up to the number of dimensions or an order that isn't each dimension once, also where order_words is another
+ * number; 10 for an index not below the product, or a position not below its axis's product, so for every one if an n is 0. */
+enum {
+    DIGARUMBI_POSITION_REFUSAL = 0,
+    DIGARUMBI_POSITION_PLACE = 1,
+    DIGARUMBI_POSITION_LAYER = 2,
+    DIGARUMBI_POSITION_ROW = 3,
+    DIGARUMBI_POSITION_COLUMN = 4,
+    DIGARUMBI_POSITION_WORDS = 5
+};
+
+/* The position of the cell with that index.
+ *
+ * Returns 5, with the words above at the front of `answer`; all but the refusal are 0 after one. Returns 0 if `answer` has fewer: then
+ * nothing changes. */
+size_t digarumbi_position(const uint32_t *ns, size_t dimensions, uint32_t layers, uint32_t rows, uint32_t columns, const uint32_t *order,
+                          size_t order_words, uint32_t index, uint32_t *answer, size_t answer_words);
+
+enum {
+    DIGARUMBI_INDEX_REFUSAL = 0,
+    DIGARUMBI_INDEX_PLACE = 1,
+    DIGARUMBI_INDEX_INDEX = 2,
+    DIGARUMBI_INDEX_WORDS = 3
+};
+
+/* The index of the cell at that position. Returns 3, likewise. */
+size_t digarumbi_index(const uint32_t *ns, size_t dimensions, uint32_t layers, uint32_t rows, uint32_t columns, const uint32_t *order,
+                       size_t order_words, uint32_t layer, uint32_t row, uint32_t column, uint32_t *answer, size_t answer_words);
+
 /* ---- Looks ---- */
 
 /* Each class name that 002 quotes has its length before its letters, 16 bits, little-endian: PTTableLook 11, PVSeparatorStyle 16,

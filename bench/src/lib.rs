@@ -18,6 +18,7 @@ pub mod look;
 pub mod member;
 pub mod parts;
 pub mod plain_cases;
+pub mod positions;
 pub mod random;
 pub mod refusal;
 pub mod sections;

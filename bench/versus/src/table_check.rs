@@ -1,8 +1,9 @@
-//! The table that the Rust bindings make of an accepted member.
+//! The table that the Rust bindings make of an accepted member, and the positions of its cells.
 
-use digarumbi::{Axes, Cell, Dimension, Node, NodeKind, Table, ValueBytes};
+use digarumbi::{Axes, Cell, Dimension, Node, NodeKind, Position, Table, ValueBytes};
 use digarumbi_bench::cursor::Cursor;
 use digarumbi_bench::member::{Answer, CELL_WORDS, NODE_WORDS};
+use digarumbi_bench::positions::position;
 use digarumbi_bench::titles::header;
 
 use crate::difference::Difference;
@@ -28,7 +29,40 @@ pub fn check_table(
             .collect(),
         cells: cells.chunks(CELL_WORDS).map(|record| cell(version, member, record)).collect(),
     };
-    Difference::compare("the bindings' table", &Ok(expected), &digarumbi::read_member(member))
+    let found = digarumbi::read_member(member);
+    Difference::compare("the bindings' table", &Ok(&expected), &found.as_ref())?;
+    let turned = expected.turned(other_axes(&expected.axes));
+    let turned = turned.map_err(|refusal| Difference::missing(format!("turned: {refusal}")))?;
+    for table in [&expected, &turned] {
+        check_positions(table)?;
+    }
+    Difference::compare("turned back", &Ok(expected.clone()), &turned.turned(expected.axes))
+}
+
+/// The rows on the layers, the layers on the columns, the columns on the rows, each the other way round.
+fn other_axes(axes: &Axes) -> Axes {
+    let reversed = |axis: &[usize]| axis.iter().rev().copied().collect();
+    Axes {
+        layers: reversed(&axes.rows),
+        rows: reversed(&axes.columns),
+        columns: reversed(&axes.layers),
+    }
+}
+
+/// The positions of all cells, and the indexes of these positions.
+fn check_positions(table: &Table) -> Result<(), Difference> {
+    let ns: Vec<u32> = table.dimensions.iter().map(|dimension| dimension.n).collect();
+    let axes = [&table.axes.layers, &table.axes.rows, &table.axes.columns];
+    let order: Vec<u32> = axes.into_iter().flatten().map(|&dimension| dimension as u32).collect();
+    let counts = axes.map(|axis| axis.len() as u32);
+    for cell in &table.cells {
+        let [layer, row, column] = position(&ns, counts, &order, cell.index)
+            .map_err(|refusal| Difference::missing(format!("cell {}: {refusal}", cell.index)))?;
+        let expected = Position { layer, row, column };
+        Difference::compare("a cell's position", &Ok(expected), &table.position(cell))?;
+        Difference::compare("a position's index", &Ok(cell.index), &table.index(expected))?;
+    }
+    Ok(())
 }
 
 fn span(version: u32, member: &[u8], place: u32, length: u32) -> ValueBytes<'_> {

@@ -86,6 +86,34 @@ extern "C" {
         cell_words: usize,
     ) -> usize;
 
+    pub fn digarumbi_position(
+        ns: *const u32,
+        dimensions: usize,
+        layers: u32,
+        rows: u32,
+        columns: u32,
+        order: *const u32,
+        order_words: usize,
+        index: u32,
+        answer: *mut u32,
+        answer_words: usize,
+    ) -> usize;
+
+    pub fn digarumbi_index(
+        ns: *const u32,
+        dimensions: usize,
+        layers: u32,
+        rows: u32,
+        columns: u32,
+        order: *const u32,
+        order_words: usize,
+        layer: u32,
+        row: u32,
+        column: u32,
+        answer: *mut u32,
+        answer_words: usize,
+    ) -> usize;
+
     pub fn digarumbi_read_look(
         file: *const u8,
         file_length: usize,

@@ -21,6 +21,10 @@ pub const MEMBER_ANSWER: usize = 88;
 pub const VALUE_WORDS: usize = 22;
 /// Words of an argument's answer.
 pub const ARGUMENT_WORDS: usize = 5;
+/// Words of the answer of [`position`].
+pub const POSITION_WORDS: usize = 5;
+/// Words of the answer of [`index`].
+pub const INDEX_WORDS: usize = 3;
 /// Words of the answer of [`total`].
 pub const TOTAL_ANSWER: usize = 13;
 /// Words of the answer of [`totals`].
@@ -298,6 +302,80 @@ pub fn totals(
             nodes.len(),
             cells.as_mut_ptr(),
             cells.len(),
+        )
+    }
+}
+
+/// The position of the cell with this index, on axes that have so many of the order's entries:
+/// layers, rows, columns. Returns [`POSITION_WORDS`], or 0 if `answer` has fewer words.
+///
+/// ```
+/// use digarumbi::lent::{position, POSITION_WORDS};
+/// let mut answer = [7; POSITION_WORDS];
+/// // the second dimension in rows; in columns the other two, the third the inner one
+/// assert_eq!(position(&[3, 4, 5], [0, 1, 2], &[1, 2, 0], 33, &mut answer), POSITION_WORDS);
+/// assert_eq!(answer, [0, 0, 0, 2, 8]);
+/// position(&[3, 4, 5], [0, 1, 2], &[1, 2, 0], 60, &mut answer);
+/// assert_eq!(answer, [10, 0, 0, 0, 0]);
+/// ```
+pub fn position(
+    ns: &[u32],
+    counts: [u32; 3],
+    order: &[u32],
+    index: u32,
+    answer: &mut [u32],
+) -> usize {
+    let [layers, rows, columns] = counts;
+    unsafe {
+        ffi::digarumbi_position(
+            ns.as_ptr(),
+            ns.len(),
+            layers,
+            rows,
+            columns,
+            order.as_ptr(),
+            order.len(),
+            index,
+            answer.as_mut_ptr(),
+            answer.len(),
+        )
+    }
+}
+
+/// The index of the cell at this layer, row and column position. Returns [`INDEX_WORDS`], or 0 if
+/// `answer` has fewer words.
+///
+/// ```
+/// use digarumbi::lent::{index, INDEX_WORDS};
+/// let mut answer = [7; INDEX_WORDS];
+/// assert_eq!(index(&[3, 4, 5], [0, 1, 2], &[1, 2, 0], [0, 2, 8], &mut answer), INDEX_WORDS);
+/// assert_eq!(answer, [0, 0, 33]);
+/// index(&[3, 4, 5], [0, 1, 2], &[1, 2, 0], [1, 2, 8], &mut answer);
+/// assert_eq!(answer, [10, 0, 0]);
+/// ```
+pub fn index(
+    ns: &[u32],
+    counts: [u32; 3],
+    order: &[u32],
+    position: [u32; 3],
+    answer: &mut [u32],
+) -> usize {
+    let [layers, rows, columns] = counts;
+    let [layer, row, column] = position;
+    unsafe {
+        ffi::digarumbi_index(
+            ns.as_ptr(),
+            ns.len(),
+            layers,
+            rows,
+            columns,
+            order.as_ptr(),
+            order.len(),
+            layer,
+            row,
+            column,
+            answer.as_mut_ptr(),
+            answer.len(),
         )
     }
 }

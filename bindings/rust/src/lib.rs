@@ -13,6 +13,7 @@ pub mod codepage;
 pub mod ffi;
 pub mod lent;
 mod look;
+mod position;
 mod refusal;
 mod table;
 mod total;
@@ -20,6 +21,7 @@ mod units;
 mod value;
 
 pub use cases::{CaseError, Cases, Element, Kind};
+pub use position::Position;
 pub use look::{rewrite_look, Area, Frame, Look, Separator, Separators, V2Styles};
 pub use refusal::{refusal_text, Reason, Refusal};
 pub use table::{part, read_member, Axes, Category, Cell, Dimension, Node, NodeKind, Table};

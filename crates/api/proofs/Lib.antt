@@ -1,5 +1,6 @@
 mod Convert
 mod Names
+mod PositionCalls
 mod Read
 mod Rewrite
 mod ValueCalls

@@ -1,4 +1,5 @@
 pub mod Api
 pub mod Values
+pub mod Positions
 pub mod Encodings
 pub mod Laws

@@ -3,6 +3,7 @@
 mod answers; // answers as words
 mod case_data; // compressed case data
 mod encodings; // text in old code pages
+mod positions; // positions of cells
 mod totals; // totals under a leaf
 mod values; // what a Value says
 

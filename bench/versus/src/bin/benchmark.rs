@@ -5,9 +5,9 @@ use std::fs;
 use std::hint::black_box;
 
 use digarumbi::lent::{
-    self, CASES_FEED_ANSWER, CASES_STATE, CELL_AREA, CELL_RECORD, LONGEST_LOOK, LOOK_ANSWER,
-    MEMBER_ANSWER, NODE_AREA, NODE_RECORD, REWRITE_ANSWER, TEXT_ANSWER, TOTALS_ANSWER, TOTALS_AREA,
-    TOTAL_ANSWER, TOTAL_RECORD, VALUE_WORDS,
+    self, CASES_FEED_ANSWER, CASES_STATE, CELL_AREA, CELL_RECORD, INDEX_WORDS, LONGEST_LOOK,
+    LOOK_ANSWER, MEMBER_ANSWER, NODE_AREA, NODE_RECORD, POSITION_WORDS, REWRITE_ANSWER,
+    TEXT_ANSWER, TOTALS_ANSWER, TOTALS_AREA, TOTAL_ANSWER, TOTAL_RECORD, VALUE_WORDS,
 };
 use digarumbi_bench::codepages::{from_utf8, to_utf8};
 use digarumbi_bench::contents::contents;
@@ -16,6 +16,7 @@ use digarumbi_bench::limits::MEMBER_BYTES;
 use digarumbi_bench::look::{read_look, write_look};
 use digarumbi_bench::member::read_member;
 use digarumbi_bench::plain_cases::Plain;
+use digarumbi_bench::positions::{index, position};
 use digarumbi_bench::random::Random;
 use digarumbi_bench::totals::{total, totals};
 use digarumbi_versus::large::{
@@ -35,6 +36,7 @@ fn main() {
     large_members();
     growth_with_bytes();
     growth_with_cells();
+    positions();
     values();
     leaf_totals();
     looks();
@@ -311,6 +313,75 @@ fn totals_times(members: &[&[u8]]) -> Times {
             for member in members {
                 let room = TOTALS_AREA / TOTAL_RECORD;
                 let _ = black_box(totals(black_box(member), 0, room, nodes, cells));
+            }
+        },
+    )
+}
+
+/// The number of cells whose positions are asked for in turn.
+const CELLS_ASKED: u32 = 4_096;
+
+/// Positions of cells in tables of few and of many dimensions, and back.
+fn positions() {
+    println!("### Positions of cells\n");
+    println!("4,096 cells in turn, with the table's n and axes each time.\n");
+    println!("| table | dimensions | Rattle, ns a cell | Rust, ns a cell | Rattle : Rust |");
+    println!("|---|---:|---:|---:|---:|");
+    for (name, ns, counts) in [
+        ("64 rows, 64 columns", &[64, 64][..], [0, 1, 1]),
+        ("four dimensions on three axes", &[8, 8, 8, 8], [1, 1, 2]),
+        (
+            "sixteen dimensions on three axes",
+            &[2, 2, 2, 2, 2, 2, 2, 2, 2, 2, 2, 2, 1, 1, 1, 1],
+            [4, 6, 6],
+        ),
+    ] {
+        let order: Vec<u32> = (0..ns.len() as u32).rev().collect();
+        position_row(&format!("{name}, positions"), ns.len(), position_times(ns, counts, &order));
+        position_row(&format!("{name}, indexes"), ns.len(), index_times(ns, counts, &order));
+    }
+    println!();
+}
+
+fn position_row(name: &str, dimensions: usize, times: Times) {
+    let cell = |nanoseconds: f64| nanoseconds / f64::from(CELLS_ASKED);
+    println!(
+        "| {name} | {dimensions} | {:.0} | {:.0} | {:.2} |",
+        cell(times.rattle),
+        cell(times.rust),
+        times.ratio()
+    );
+}
+
+fn position_times(ns: &[u32], counts: [u32; 3], order: &[u32]) -> Times {
+    measure(
+        &mut [0; POSITION_WORDS],
+        |answer| {
+            for k in 0..CELLS_ASKED {
+                black_box(lent::position(black_box(ns), counts, order, k, answer));
+            }
+        },
+        |_| {
+            for k in 0..CELLS_ASKED {
+                let _ = black_box(position(black_box(ns), counts, order, k));
+            }
+        },
+    )
+}
+
+fn index_times(ns: &[u32], counts: [u32; 3], order: &[u32]) -> Times {
+    let at = |k| position(ns, counts, order, k).expect("a cell of the table");
+    let cells: Vec<[u32; 3]> = (0..CELLS_ASKED).map(at).collect();
+    measure(
+        &mut [0; INDEX_WORDS],
+        |answer| {
+            for &at in &cells {
+                black_box(lent::index(black_box(ns), counts, order, at, answer));
+            }
+        },
+        |_| {
+            for &at in &cells {
+                let _ = black_box(index(black_box(ns), counts, order, at));
             }
         },
     )

@@ -22,6 +22,7 @@ use digarumbi_versus::large::{
 };
 use digarumbi_versus::look_check::LookCheck;
 use digarumbi_versus::member_check::MemberCheck;
+use digarumbi_versus::position_check;
 use digarumbi_versus::repeats::{members_with_repeats, CUT_BYTES};
 use digarumbi_versus::stored;
 use digarumbi_versus::text_check;
@@ -54,6 +55,8 @@ const ALL_LEAVES_NUMBERS: [u32; 17] = [0, 1, 2, 3, 4, 5, 6, 7, 8, 9, 10, 11, 12,
 const LEAF_NUMBERS: [u32; 2] = [0, 20];
 const LOOK_NUMBERS: [u32; 8] = [2, 3, 4, 5, 7, 11, 14, 15];
 const TEXT_NUMBERS: [u32; 4] = [0, 15, 24, 25];
+/// Those of positions.
+const POSITION_NUMBERS: [u32; 4] = [0, 7, 9, 10];
 /// Those of case data: of calls, at the end, and for changed words.
 const CALL_NUMBERS: [u32; 3] = [0, 7, 22];
 const END_NUMBERS: [u32; 4] = [0, 7, 22, 23];
@@ -95,6 +98,9 @@ fn run(seed: u64) -> Result<(), Difference> {
     println!("{} looks: {}", looks.looks.total(), looks.looks);
     println!("{} rewritings of them: {}", looks.rewritten.total(), looks.rewritten);
     println!("{} numbers as points, pixels and font sizes", unit_check::check(seed)?);
+    let positions = position_check::check(seed)?;
+    println!("{} positions of cells: {}", positions.positions.total(), positions.positions);
+    println!("{} indexes of positions: {}", positions.indexes.total(), positions.indexes);
     let texts = text_check::check(seed)?;
     println!("{} texts to UTF-8: {}", texts.to.total(), texts.to);
     println!("{} texts from UTF-8: {}", texts.from.total(), texts.from);
@@ -118,6 +124,8 @@ fn run(seed: u64) -> Result<(), Difference> {
     totals.all.all_seen(&ALL_LEAVES_NUMBERS)?;
     totals.leaves.all_seen(&LEAF_NUMBERS)?;
     looks.rewritten.all_seen(&LOOK_NUMBERS)?;
+    positions.positions.all_seen(&POSITION_NUMBERS)?;
+    positions.indexes.all_seen(&POSITION_NUMBERS)?;
     texts.to.all_seen(&TEXT_NUMBERS)?;
     texts.from.all_seen(&TEXT_NUMBERS)?;
     println!("no difference");

@@ -1,0 +1,8 @@
+use borrow.Author.Needs.{needs}
+use mathlib.Core.Path.{sym}
+use native.Mathlib.Nat.{div-zero}
+use Rattle.position.proofs.quotient.Statement.{statement}
+use Rattle.position.proofs.quotient.Tie as tie
+
+pub quotient-spec : {M : Type 1} → statement M
+quotient-spec = tie.close (tie.spec (λ c. search needs) (λ c. rw (c .if1 .taken) (sym (div-zero _))) (λ c. search needs))

@@ -1,0 +1,8 @@
+use borrow.Author.Needs.{needs}
+use mathlib.Core.Path.{sym}
+use native.Mathlib.Nat.{mod-zero}
+use Rattle.position.proofs.remainder.Statement.{statement}
+use Rattle.position.proofs.remainder.Tie as tie
+
+pub remainder-spec : {M : Type 1} → statement M
+remainder-spec = tie.close (tie.spec (λ c. search needs) (λ c. rw (c .if1 .taken) (sym (mod-zero _))) (λ c. search needs))

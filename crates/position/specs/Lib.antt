@@ -1,0 +1,4 @@
+pub mod Axes
+pub mod Answers
+pub mod Examples
+pub mod Laws
