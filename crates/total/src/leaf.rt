@@ -91,10 +91,11 @@ pub fn grid_of(member: &[u8], a: Answer, dimension: u32) -> Grid
     let dims = a.dimensions;
     let d = a.dims as usize;
     let i = dimension as usize;
+    let next = i + 1;
     Grid {
         version: peek(member, Step::Next(2), LITTLE, 4),
         block: places_from(dims, d, i),
-        step: places_from(dims, d, i + 1),
+        step: places_from(dims, d, next),
         cells: at_most(a.cells as usize, MOST_CELLS),
     }
 }

@@ -9,5 +9,5 @@ unfolding gridOf
 grid-of-spec =
     tie.close
     (tie.spec
-    (λ c. search needs) (λ _ _. tt) (λ _ _. tt) (λ c. search needs) (λ _ _. tt) (λ c. search needs) (λ _ _. tt)
+    (λ c. search needs) (λ c. search needs) (λ _ _. tt) (λ _ _. tt) (λ _ _. tt) (λ c. search needs) (λ _ _. tt)
     (λ c. (rw (c .at-most .ensures, c .before .before .places-from2 .ensures, c .before .before .before .places-from .ensures, c .before .before .before .before .peek .ensures), omega (arith, c .at-most .ensures))))
