@@ -19,3 +19,5 @@ pub mod LeafRows
 pub mod Doubles
 pub mod AllCall
 pub mod Calls
+pub mod Places
+pub mod OneByOne

@@ -55,6 +55,15 @@ module _ (k : ℕ) (f : ℕ → List ℕ) (width : (j : ℕ) → length (f j) �
           rw (same, ← (rows-length n), getD-append-add (rows f n) (f n ++ rest) m 0) (List·getD-append (f n) rest 0 m inside)
       last false e earlier = let other : c ≡ n → ⊥ = eqb-false c n e in earlier (omega arith)
 
+  pub row-at : (n : ℕ) (rest : List ℕ) (c : ℕ) → c < n → take k (drop (k * c) (rows f n ++ rest)) ≡ f c
+  unfolding rows
+  row-at zero rest c h = absurd (omega arith)
+  row-at (suc n) rest c h = ap (λ (l : List ℕ). take k (drop (k * c) l)) (append-assoc (rows f n) (f n) rest) ∙ last (eqb c n) refl (λ below. row-at n (f n ++ rest) c below)
+    where
+      last : (b : Bool) → eqb c n ≡ b → (c < n → take k (drop (k * c) (rows f n ++ (f n ++ rest))) ≡ f c) → take k (drop (k * c) (rows f n ++ (f n ++ rest))) ≡ f c
+      last true e earlier = let same : c ≡ n = eqb-true c n e in rw (same, drop-at (rows f n) (f n ++ rest) (k * n) (rows-length n)) (take-at (f n) rest k (width n))
+      last false e earlier = let other : c ≡ n → ⊥ = eqb-false c n e in earlier (omega arith)
+
   -- one row replaced
   module _ (xs : List ℕ) (long : length xs ≡ k) where
     abbrev pub but : ℕ → ℕ → List ℕ
