@@ -12,6 +12,7 @@ pub mod codepage;
 pub mod ffi;
 pub mod lent;
 mod look;
+mod members;
 mod refusal;
 mod table;
 mod units;
@@ -19,6 +20,7 @@ mod value;
 
 pub use cases::{CaseError, Cases, Element, Kind};
 pub use look::{rewrite_look, Area, Frame, Look, Separator, Separators, V2Styles};
+pub use members::read_members;
 pub use refusal::Refusal;
 pub use table::{part, read_member, Axes, Category, Cell, Dimension, Node, NodeKind, Table};
 pub use units::{font_height, Pt, Px};

@@ -1,4 +1,5 @@
 pub mod Api
 pub mod Values
 pub mod Encodings
+pub mod Members
 pub mod Laws

@@ -1,30 +1,17 @@
--- A share that is lent, and what an area holds when it is back.
+-- What is read with a share of each area.
 use mathlib.Core.Path.{_≡_, ap, _∙_}
 use mathlib.Core.List.{List, _++_}
 use Prim.Native.Nat.{ℕ, _+_, _*_, _-_, _/_, _≤_, _<_}
-use native.Mathlib.Omega.{arith}
 use lib.ListN.{length, take, drop}
-use lib.Seq.{drop-drop}
 use Rattle.sizes.specs.Sizes.{member-bytes}
 use Rattle.layout.specs.Layout.{Tree}
 use Rattle.layout.specs.Read.{Got}
 use Rattle.member.specs.declared.Answer.{Answer}
 use Rattle.member.specs.Member.{Member}
 use Rattle.member.specs.Answer.{Delivered}
-use Rattle.members.specs.Members.{shareOf, withShare, shareAnswer, nodeShare, cellShare, InShare}
-use Rattle.members.specs.Laws.Shares.{share-inside, share-length}
+use Rattle.members.specs.Members.{withShare, shareAnswer, nodeShare, cellShare, InShare}
+use Rattle.members.specs.Laws.Shares.{share-inside, share-length, lent, back}
 
--- an area's share i of w words, from a to b
-module _ (w i : ℕ) (area : List ℕ) {a b : ℕ} (first : a ≡ w * i) (last : b ≡ w * i + w) where
-  pub lent : take (b - a) (drop a area) ≡ shareOf w i area
-  unfolding shareOf
-  lent = let e : b - a ≡ w = omega arith in rw (e, first)
-
-  pub back : (words : List ℕ) → take a area ++ (words ++ drop (b - a) (drop a area)) ≡ withShare w i area words
-  unfolding withShare
-  back words = let e : b - a ≡ w = omega arith in rw (e, first, drop-drop)
-
--- what is read with both shares
 pub in-share : (y : Got (Tree Member)) (n i : ℕ) (nodes cells : List ℕ) {a b c d : ℕ} → i < n → a ≡ length nodes / n * i → b ≡ length nodes / n * i + length nodes / n
     → c ≡ length cells / n * i → d ≡ length cells / n * i + length cells / n → {r : Answer} {ns cs : List ℕ}
     → Delivered y (take (b - a) (drop a nodes)) (take (d - c) (drop c cells)) r ns cs → r .place ≤ member-bytes

@@ -2,3 +2,4 @@
 pub mod Shares
 pub mod Reading
 pub mod Areas
+pub mod Turns

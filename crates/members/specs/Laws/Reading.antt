@@ -2,12 +2,12 @@
 use mathlib.Core.Path.{_≡_, refl, _∙_}
 use mathlib.Core.Bool.{Bool, true, false}
 use mathlib.Core.List.{List, [], _++_}
-use Prim.Native.Nat.{ℕ, _+_, _*_, _/_, _≤_, _<_}
+use Prim.Native.Nat.{ℕ, _+_, _*_, _/_, _%_, _≤_, _<_}
 use native.Mathlib.Omega.{arith}
 use lib.ListN.{length, take, drop, length-append, length-drop, List·getD-eq-default}
-use lib.Dec.{leb}
+use lib.Dec.{leb, eqb}
 use borrow.Author.Tests.{leb-true}
-use Rattle.sizes.specs.Sizes.{node-words, cell-words}
+use Rattle.sizes.specs.Sizes.{most-members, node-words, cell-words}
 use Rattle.layout.specs.Layout.{Tree, pick, size, spell, digits, le, spellAll, spellFill, passes, suits, among}
 use Rattle.layout.specs.Read.{Got, got, no, lead, read, refusal}
 use Rattle.layout.specs.Check.{check}
@@ -21,7 +21,7 @@ use Rattle.member.specs.Member.{Member, version, dimensions, dimensionsAt, cell
 use Rattle.member.specs.Refused.{memberRule, bodyRule}
 use Rattle.member.specs.Checked.{ended, checked}
 use Rattle.member.specs.Answer.{wide, long, nodesAfter, cellsAfter}
-use Rattle.members.specs.Members.{members, start, size as lengthOf, memberAt, shareOf, nodeShare, cellShare}
+use Rattle.members.specs.Members.{members, listRefusal, start, size as lengthOf, memberAt, shareOf, nodeShare, cellShare}
 use Rattle.members.specs.Laws.Shares.{share-inside, share-length}
 
 -- ---- an area has as many words as before
@@ -70,18 +70,27 @@ empty-refused = refl
 -- a member is what its part of the buffer is read as, and the part of one that is not inside is empty
 pub member-part : (buffer list : List ℕ) (i : ℕ) → checked (partOf buffer (start list i) (lengthOf list i)) ≡ memberAt buffer list i
 unfolding memberAt partOf pick
-member-part buffer list i = go (leb (start list i + lengthOf list i) (length buffer))
+member-part buffer list i = go (leb (start list i + lengthOf list i) (length buffer)) refl
   where
-    go : (b : Bool) → checked (pick b (take (lengthOf list i) (drop (start list i) buffer)) []) ≡ pick b (checked (take (lengthOf list i) (drop (start list i) buffer))) (no 2 0)
-    go true = refl
-    go false = empty-refused
+    go : (b : Bool) → leb (start list i + lengthOf list i) (length buffer) ≡ b → checked (partOf buffer (start list i) (lengthOf list i)) ≡ memberAt buffer list i
+    go true e = rw e
+    go false e = rw e empty-refused
 
 -- a member that the list has not is empty
 pub member-none : (buffer list : List ℕ) (i : ℕ) → members list ≤ i → memberAt buffer list i ≡ no 2 0
 unfolding memberAt pick
-member-none buffer list i h =
-    rw (List·getD-eq-default list 0 {n = 2 * i + 1} (omega arith)) (go (leb (start list i + 0) (length buffer)))
+member-none buffer list i h = rw (List·getD-eq-default list 0 {n = 2 * i + 1} (omega arith)) (go (leb (start list i + 0) (length buffer)))
   where
     go : (b : Bool) → pick b (checked (take 0 (drop (start list i) buffer))) (no 2 0) ≡ no 2 0
     go true = empty-refused
     go false = refl
+
+-- ---- a list that is not refused
+
+pub list-short : (list : List ℕ) → listRefusal list ≡ 0 → length list ≤ 2 * most-members
+unfolding listRefusal pick
+list-short list e = go (leb (length list) (2 * most-members)) refl e
+  where
+    go : (b : Bool) → leb (length list) (2 * most-members) ≡ b → _≡_ {A = ℕ} (pick b (pick (eqb (length list % 2) 0) 0 26) 26) 0 → length list ≤ 2 * most-members
+    go true t z = leb-true (length list) (2 * most-members) t
+    go false t z = absurd (omega arith)
