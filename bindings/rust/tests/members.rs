@@ -39,7 +39,7 @@ fn a_member_that_is_not_inside_is_2_at_0() {
     for entry in [[length, 1], [length + 1, 0], [0, length + 1], [u32::MAX, u32::MAX]] {
         assert_eq!(refusal(SPINE_18, entry), "refused 2 at 0");
     }
-    // No bytes, from inside and from the end: the first field does not fit.
+    // No bytes, at the end of the buffer: the first field does not fit.
     assert_eq!(refusal(SPINE_18, [length, 0]), "refused 2 at 0");
     // The sum of start and length is more than 32 bits hold.
     assert_eq!(refusal(SPINE_18, [2, u32::MAX]), "refused 2 at 0");

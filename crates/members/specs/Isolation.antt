@@ -28,8 +28,8 @@ pub record SameOf (i : ℕ) (buffer list nodes cells buffer′ list′ nodes′ 
   -- what share i held
   pub node-share : shareOf (length nodes / members list) i nodes ≡ shareOf (length nodes / members list) i nodes′
   pub cell-share : shareOf (length cells / members list) i cells ≡ shareOf (length cells / members list) i cells′
-  -- the bytes that lie in member i
-  pub bytes : (k : ℕ) → start list i ≤ k → k < start list i + size list i → getD buffer k 0 ≡ getD buffer′ k 0
+  -- the bytes that lie in member i, where it is inside the buffer
+  pub bytes : start list i + size list i ≤ length buffer → (k : ℕ) → start list i ≤ k → k < start list i + size list i → getD buffer k 0 ≡ getD buffer′ k 0
 
 -- the same bytes
 same-bytes : (first n : ℕ) (buffer buffer′ : List ℕ) → length buffer ≡ length buffer′ → first + n ≤ length buffer
@@ -53,7 +53,7 @@ module _ {i : ℕ} {buffer list nodes cells buffer′ list′ nodes′ cells′ 
       n = size list i
 
       go : (b : Bool) → leb (first + n) (length buffer) ≡ b → pick b (checked (take n (drop first buffer))) (no 2 0) ≡ pick b (checked (take n (drop first buffer′))) (no 2 0)
-      go true e = ap checked (same-bytes first n buffer buffer′ (s .buffer-length) (leb-true (first + n) (length buffer) e) (s .bytes))
+      go true e = let inside = leb-true (first + n) (length buffer) e in ap checked (same-bytes first n buffer buffer′ (s .buffer-length) inside (s .bytes inside))
       go false e = refl
 
   same-refusal : listRefusal list ≡ listRefusal list′

@@ -1,3 +1,4 @@
 pub mod Members
 pub mod Laws
+pub mod OneByOne
 pub mod Isolation

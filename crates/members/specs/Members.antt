@@ -46,10 +46,11 @@ withShare w i area words = take (w * i) area ++ (words ++ drop (w * i + w) area)
 
 -- "Each record area is cut into equal shares by whole division ... and member i gets share i": what is answered and what the two shares then
 -- hold, where y is what reading the member gives and n the number of members
-module _ (y : Got (Tree Member)) (n i : ℕ) where
+module _ (y : Got (Tree Member)) (n : ℕ) where
   unfoldable pub shareAnswer : ℕ → ℕ → Answer
   shareAnswer node-length cell-length = answerOf y (node-length / n) (cell-length / n)
 
+module _ (y : Got (Tree Member)) (n i : ℕ) where
   unfoldable pub nodeShare : List ℕ → ℕ → List ℕ
   nodeShare nodes cell-length = nodesAfter y (shareOf (length nodes / n) i nodes) (cell-length / n)
 
@@ -58,7 +59,7 @@ module _ (y : Got (Tree Member)) (n i : ℕ) where
 
 -- a call that reads member i alone: nothing but its two shares changes
 pub record InShare (y : Got (Tree Member)) (n i : ℕ) (nodes cells : List ℕ) (r : Answer) (nodes′ cells′ : List ℕ) : Type 0 where
-  pub answer : r ≡ shareAnswer y n i (length nodes) (length cells)
+  pub answer : r ≡ shareAnswer y n (length nodes) (length cells)
   pub node-area : nodes′ ≡ withShare (length nodes / n) i nodes (nodeShare y n i nodes (length cells))
   pub cell-area : cells′ ≡ withShare (length cells / n) i cells (cellShare y n i (length nodes) cells)
   pub place : r .place ≤ member-bytes
@@ -77,7 +78,7 @@ cut w n f area = joined f n ++ drop (w * n) area
 module _ (buffer list : List ℕ) where
   -- the answer of member i, for areas of those lengths
   unfoldable pub answerAt : ℕ → ℕ → ℕ → Answer
-  answerAt node-length cell-length i = shareAnswer (memberAt buffer list i) (members list) i node-length cell-length
+  answerAt node-length cell-length i = shareAnswer (memberAt buffer list i) (members list) node-length cell-length
 
   -- the node area after a call; "nothing read" where the list is refused
   unfoldable pub nodesThen : List ℕ → ℕ → List ℕ

@@ -1,4 +1,5 @@
-//! The smallest stack of a thread in which the library reads members, Values alone, and looks.
+//! The smallest stack of a thread in which the library reads members, lists of them, Values alone,
+//! and looks.
 //!
 //! Usage: stack; it runs itself as `stack WORK KIB`, which ends without a result where a stack of
 //! that size is too small.
@@ -8,8 +9,8 @@ use std::process::{Command, Stdio};
 use std::thread;
 
 use digarumbi::lent::{
-    self, ARGUMENT_WORDS, CELL_AREA, LONGEST_LOOK, LOOK_ANSWER, MEMBER_ANSWER, NODE_AREA,
-    VALUE_WORDS,
+    self, ARGUMENT_WORDS, CELL_AREA, LONGEST_LOOK, LOOK_ANSWER, MEMBERS, MEMBER_ANSWER,
+    MOST_MEMBERS, NODE_AREA, VALUE_WORDS,
 };
 use digarumbi_bench::limits::MEMBER_BYTES;
 use digarumbi_versus::large::{
@@ -23,7 +24,7 @@ const LEAST: usize = 16;
 const MOST: usize = 8_192;
 const STEP: usize = 4;
 
-const WORK: [&str; 4] = ["nothing", "members", "values", "looks"];
+const WORK: [&str; 5] = ["nothing", "members", "lists", "values", "looks"];
 
 fn main() {
     let arguments: Vec<String> = env::args().skip(1).collect();
@@ -59,13 +60,14 @@ fn ends(work: &str, kib: usize) -> bool {
 fn run(work: &str, kib: usize) {
     // The inputs are made outside the small stack.
     let inputs = match work {
-        "members" => members(),
+        "members" | "lists" => members(),
         "values" => values(),
         "looks" => stored::looks().into_iter().map(|look| look.bytes).collect(),
         _ => Vec::new(),
     };
     let read = match work {
         "members" => read_members,
+        "lists" => read_lists,
         "values" => read_values,
         _ => read_looks,
     };
@@ -111,6 +113,23 @@ fn read_members(members: &[Vec<u8>]) {
     let (mut nodes, mut cells) = (vec![0; NODE_AREA], vec![0; CELL_AREA]);
     for member in members {
         lent::read_member(member, &mut answer, &mut nodes, &mut cells);
+    }
+}
+
+/// The same members, in lists of up to 64.
+fn read_lists(members: &[Vec<u8>]) {
+    let mut answers = vec![0; MEMBERS + MOST_MEMBERS * MEMBER_ANSWER];
+    let mut nodes = vec![0; MOST_MEMBERS * NODE_AREA];
+    let mut cells = vec![0; MOST_MEMBERS * CELL_AREA];
+    for members in members.chunks(MOST_MEMBERS) {
+        let mut list = Vec::new();
+        let mut start = 0;
+        for member in members {
+            list.extend([start, member.len() as u32]);
+            start += member.len() as u32;
+        }
+        lent::read_members(&members.concat(), &list, &mut answers, &mut nodes, &mut cells);
+        assert_eq!(answers[0], 0, "a list that is read");
     }
 }
 
