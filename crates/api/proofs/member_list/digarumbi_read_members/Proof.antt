@@ -10,11 +10,11 @@ pub digarumbi-read-members-spec : {M : Type 1} → statement M
 digarumbi-read-members-spec =
     tie.close
     (tie.spec
-    (λ c κs. search needs)
+    (λ _ _. tt)
     (λ c. let a = c .before .before .before .before .before .before .before .args in omega (arith, words-below (a .buffer .now) (a .list .now) (a .answers .now) (a .nodes .now) (a .cells .now) (c .before .list-refusal .ensures) (c .if1 .taken)))
     (λ c. let a = c .before .before .before .before .before .before .before .args in omega (arith, words-below (a .buffer .now) (a .list .now) (a .answers .now) (a .nodes .now) (a .cells .now) (c .before .list-refusal .ensures) (c .if1 .taken)))
     (λ c. search needs)
-    (λ c κs. search needs)
+    (λ _ _. tt)
     (λ c. omega (arith, long-words (c .before .before .put .ensures), leb-true))
     (λ c. omega (arith, long-words (c .before .before .put .ensures), leb-true))
     (λ c. search needs)
@@ -23,7 +23,7 @@ digarumbi-read-members-spec =
     let a = p .before .before .before .before .before .before .before .before .before .before .before .args in
     room-after (a .buffer .now) (a .list .now) (a .answers .now) (a .nodes .now) (a .cells .now) (p .before .before .before .if2 .taken) (p .put .last .0) (long-words (p .put .ensures)))
     (λ c. search needs)
-    (λ c κs. search needs)
+    (λ _ _. tt)
     (λ c. search needs)
     (λ c. search needs)
     (λ c. search needs)
