@@ -69,6 +69,7 @@ uint32_t digarumbi_abi(void);
  *   24   text: an unknown page                                                    0
  *   25   text: a byte without an entry in the page; a character that has none,    that byte / first byte of that
  *        or isn't UTF-8 in its shortest form                                      character
+ *   26   a list of more than 64 members, or of an odd number of words             0
  *
  * Number 7 stands at the count for dimensions, footnotes and cells; at the first byte of the 4,097th category; at the first byte of a
  * Value or category that is too deep; for the product of all n at the first axis count; at a look's shading byte above 10; at 0 for
@@ -76,7 +77,7 @@ uint32_t digarumbi_abi(void);
  *
  * Order: 1, then the file from front to back, then 11, 12, 13, and for totals 19, then 15, then 20; for looks from front to back, then 11,
  * then 15; for text 24, then 25 over the whole input, then 15.
- * After a refusal every lent area but `answer` holds what it held before. */
+ * After a refusal every lent area but `answer` holds what it held before; of a list of members a refused one leaves its own shares so. */
 enum {
     DIGARUMBI_REFUSED_TOO_LONG = 1,
     DIGARUMBI_REFUSED_DOES_NOT_FIT = 2,
@@ -101,7 +102,8 @@ enum {
     DIGARUMBI_REFUSED_CASE_CODE = 22,
     DIGARUMBI_REFUSED_CASE_END = 23,
     DIGARUMBI_REFUSED_UNKNOWN_PAGE = 24,
-    DIGARUMBI_REFUSED_NO_CHARACTER = 25
+    DIGARUMBI_REFUSED_NO_CHARACTER = 25,
+    DIGARUMBI_REFUSED_BAD_LIST = 26
 };
 
 /* What a refusal number says, in one line; never NULL. */
@@ -158,6 +160,8 @@ static inline const char *digarumbi_refusal_text(uint32_t number)
         return "an unknown page";
     case DIGARUMBI_REFUSED_NO_CHARACTER:
         return "a byte without an entry in the page, or a character that has none or isn't UTF-8 in its shortest form";
+    case DIGARUMBI_REFUSED_BAD_LIST:
+        return "a list of more than 64 members, or of an odd number of words";
     default:
         return "no such refusal number";
     }
@@ -247,6 +251,25 @@ enum {
  * of nodes and cells. Words of `answer` beyond 88 stay. */
 size_t digarumbi_read_member(const uint8_t *member, size_t member_length, uint32_t *answer, size_t answer_words, uint32_t *nodes,
                              size_t node_words, uint32_t *cells, size_t cell_words);
+
+/* Reads up to 64 members of one buffer (02, T-09). `list` has two words for each member, its start in the buffer and its length; members may
+ * overlap. Each area is cut into as many equal shares of words as there are members, by whole division, and what is left over at its end
+ * stays as it was: with n members, member i has the words from (node_words / n) * i on of `nodes`, node_words / n of them, and likewise of
+ * `cells`. Each member is read as digarumbi_read_member reads it with its two shares, whatever the others are; places are its own, and so are
+ * the numbers of its nodes. A member that isn't inside the buffer is refused with 2 at 0, however long it is.
+ *
+ * Words of `answers`: 0 the refusal of the list, 26 or 0; 1 its place, 0; then the 88 words of each member's answer, in the order of the
+ * list: those of member i from DIGARUMBI_MEMBERS + DIGARUMBI_MEMBER_ANSWER * i on.
+ *
+ * Returns the words of the answer: 2 + 88 * n, and 2 where the list is refused: then nothing is read, and both areas stay. Returns 0 if
+ * `answers` has fewer: then nothing is read and nothing changes. Words of `answers` beyond them stay. An empty list has the answer 0, 0. */
+enum {
+    DIGARUMBI_MEMBERS = 2,      /* first word of the first member's answer */
+    DIGARUMBI_MOST_MEMBERS = 64
+};
+
+size_t digarumbi_read_members(const uint8_t *buffer, size_t buffer_length, const uint32_t *list, size_t list_words, uint32_t *answers,
+                              size_t answer_words, uint32_t *nodes, size_t node_words, uint32_t *cells, size_t cell_words);
 
 /* The name of node i: returns its length and stores its place in the member, for the member that was read, the node area and the count
  * of nodes in the answer. Of the area only the words of `count` records are looked at, 7 words a node; an area with fewer has none

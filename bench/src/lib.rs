@@ -16,6 +16,7 @@ pub mod limits;
 pub mod line;
 pub mod look;
 pub mod member;
+pub mod members;
 pub mod parts;
 pub mod plain_cases;
 pub mod positions;

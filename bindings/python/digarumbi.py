@@ -88,6 +88,7 @@ REFUSALS = {
     23: "the end too soon",
     24: "an unknown page",
     25: "a byte without an entry in the page, or a character that has none or isn't UTF-8 in its shortest form",
+    26: "a list of more than 64 members, or of an odd number of words",
 }
 
 

@@ -8,6 +8,7 @@ pub mod inputs;
 pub mod large;
 pub mod look_check;
 pub mod member_check;
+pub mod members_check;
 pub mod position_check;
 pub mod repeats;
 pub mod stored;

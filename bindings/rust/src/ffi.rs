@@ -17,6 +17,19 @@ extern "C" {
         cell_words: usize,
     ) -> usize;
 
+    pub fn digarumbi_read_members(
+        buffer: *const u8,
+        buffer_length: usize,
+        list: *const u32,
+        list_words: usize,
+        answers: *mut u32,
+        answer_words: usize,
+        nodes: *mut u32,
+        node_words: usize,
+        cells: *mut u32,
+        cell_words: usize,
+    ) -> usize;
+
     pub fn digarumbi_node_name(
         member: *const u8,
         member_length: usize,

@@ -17,6 +17,10 @@ pub const ABI: u32 = 2;
 
 /// Words of a member's answer.
 pub const MEMBER_ANSWER: usize = 88;
+/// Words of the answer of [`read_members`] before those of its members.
+pub const MEMBERS: usize = 2;
+/// Most members of a list.
+pub const MOST_MEMBERS: usize = 64;
 /// Words of a Value's answer.
 pub const VALUE_WORDS: usize = 22;
 /// Words of an argument's answer.
@@ -92,6 +96,44 @@ pub fn read_member(
             member.len(),
             answer.as_mut_ptr(),
             answer.len(),
+            nodes.as_mut_ptr(),
+            nodes.len(),
+            cells.as_mut_ptr(),
+            cells.len(),
+        )
+    }
+}
+
+/// Reads the members of a list, start and length in turn, each with its share of the two areas.
+/// Returns the words of the answer, [`MEMBERS`] and [`MEMBER_ANSWER`] for each member, or
+/// [`MEMBERS`] where the list is refused; 0 if `answers` has fewer.
+///
+/// ```
+/// use digarumbi::lent::read_members;
+/// let mut answers = [7; 2 + 88 + 1];
+/// // a member that is not inside the buffer
+/// assert_eq!(read_members(b"member", &[3, 4], &mut answers, &mut [], &mut []), 90);
+/// assert_eq!((&answers[..5], answers[90]), (&[0, 0, 2, 0, 0][..], 7));
+/// // a list of an odd number of words
+/// assert_eq!(read_members(b"member", &[3], &mut answers, &mut [], &mut []), 2);
+/// assert_eq!(answers[..2], [26, 0]);
+/// ```
+pub fn read_members(
+    buffer: &[u8],
+    list: &[u32],
+    answers: &mut [u32],
+    nodes: &mut [u32],
+    cells: &mut [u32],
+) -> usize {
+    test_abi();
+    unsafe {
+        ffi::digarumbi_read_members(
+            buffer.as_ptr(),
+            buffer.len(),
+            list.as_ptr(),
+            list.len(),
+            answers.as_mut_ptr(),
+            answers.len(),
             nodes.as_mut_ptr(),
             nodes.len(),
             cells.as_mut_ptr(),

@@ -12,6 +12,7 @@ mod cases;
 pub mod codepage;
 pub mod ffi;
 pub mod lent;
+mod members;
 mod look;
 mod position;
 mod refusal;
@@ -19,6 +20,7 @@ mod table;
 mod total;
 mod units;
 mod value;
+pub use members::read_members;
 
 pub use cases::{CaseError, Cases, Element, Kind};
 pub use position::Position;

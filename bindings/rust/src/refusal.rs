@@ -82,6 +82,7 @@ pub enum Reason {
     CaseEnd = 23,
     UnknownPage = 24,
     NoCharacter = 25,
+    BadList = 26,
 }
 
 impl Reason {
@@ -111,6 +112,7 @@ impl Reason {
         Reason::CaseEnd,
         Reason::UnknownPage,
         Reason::NoCharacter,
+        Reason::BadList,
     ];
 
     /// The reason with this number, if there is one.
@@ -161,6 +163,7 @@ impl Reason {
             Reason::NoCharacter => {
                 "a byte without an entry in the page, or a character that has none or isn't UTF-8 in its shortest form"
             }
+            Reason::BadList => "a list of more than 64 members, or of an odd number of words",
         }
     }
 }

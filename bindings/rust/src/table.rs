@@ -139,18 +139,28 @@ pub fn read_member(member: &[u8]) -> Result<Table<'_>, Refusal> {
     let mut nodes = vec![0; NODE_AREA];
     let mut cells = vec![0; CELL_AREA];
     lent::read_member(member, &mut answer, &mut nodes, &mut cells);
-    let [number, place, dimension_count, node_count, cell_count, ..] = answer;
+    table(member, &answer, &nodes, &cells)
+}
+
+/// The table of a member, by the words of its answer and its records.
+pub(crate) fn table<'a>(
+    member: &'a [u8],
+    answer: &[u32; MEMBER_ANSWER],
+    nodes: &[u32],
+    cells: &[u32],
+) -> Result<Table<'a>, Refusal> {
+    let [number, place, dimension_count, node_count, cell_count, ..] = *answer;
     if number != 0 {
         return Err(Refusal { number, place, nodes: node_count, cells: cell_count });
     }
-    cells.truncate(CELL_RECORD * cell_count as usize);
+    let cells = &cells[..CELL_RECORD * cell_count as usize];
     let member = Member { bytes: member, version: version(member) };
     Ok(Table {
         member: member.bytes,
         version: member.version,
-        dimensions: dimensions(member, &answer, dimension_count as usize, node_count as usize),
-        axes: axes(&answer),
-        nodes: node_records(member, &nodes, node_count as usize),
+        dimensions: dimensions(member, answer, dimension_count as usize, node_count as usize),
+        axes: axes(answer),
+        nodes: node_records(member, nodes, node_count as usize),
         cells: cells.chunks(CELL_RECORD).map(|record| cell(member, record)).collect(),
     })
 }

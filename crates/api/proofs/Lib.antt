@@ -1,4 +1,5 @@
 mod Convert
+mod MemberList
 mod Names
 mod PositionCalls
 mod Read

@@ -3,6 +3,7 @@
 mod answers; // answers as words
 mod case_data; // compressed case data
 mod encodings; // text in old code pages
+mod member_list; // a night's members in one call
 mod positions; // positions of cells
 mod totals; // totals under a leaf
 mod values; // what a Value says

@@ -6,7 +6,7 @@ use std::hint::black_box;
 
 use digarumbi::lent::{
     self, CASES_FEED_ANSWER, CASES_STATE, CELL_AREA, CELL_RECORD, INDEX_WORDS, LONGEST_LOOK,
-    LOOK_ANSWER, MEMBER_ANSWER, NODE_AREA, NODE_RECORD, POSITION_WORDS, REWRITE_ANSWER,
+    LOOK_ANSWER, MEMBERS, MEMBER_ANSWER, MOST_MEMBERS, NODE_AREA, NODE_RECORD, POSITION_WORDS, REWRITE_ANSWER,
     TEXT_ANSWER, TOTALS_ANSWER, TOTALS_AREA, TOTAL_ANSWER, TOTAL_RECORD, VALUE_WORDS,
 };
 use digarumbi_bench::codepages::{from_utf8, to_utf8};
@@ -33,6 +33,7 @@ const NUMBERS_OF_CELLS: [u64; 5] = [256, 512, 1_024, 2_048, 4_096];
 fn main() {
     println!("{}\n", conditions());
     real_members();
+    lists();
     large_members();
     growth_with_bytes();
     growth_with_cells();
@@ -165,6 +166,65 @@ fn growth_with_cells() {
         );
     }
     println!();
+}
+
+/// Words of a share for the nodes and for the cells of a real member.
+const NODE_SHARE: usize = 20 * NODE_RECORD;
+const CELL_SHARE: usize = 72 * CELL_RECORD;
+
+/// 64 members in one call, beside as many calls with the same shares.
+fn lists() {
+    println!("### 64 members in one call\n");
+    println!("| members | bytes | one call, µs | 64 calls, µs | one call : 64 calls |");
+    println!("|---|---:|---:|---:|---:|");
+    let members = stored::real_members();
+    let members = members.iter().map(|member| &member.bytes[..]);
+    let members: Vec<&[u8]> = members.cycle().take(MOST_MEMBERS).collect();
+    let mut list = Vec::new();
+    let mut buffer = Vec::new();
+    for member in &members {
+        list.extend([buffer.len() as u32, member.len() as u32]);
+        buffer.extend_from_slice(member);
+    }
+    let times = list_times(&buffer, &list, &members);
+    println!(
+        "| real members | {} | {:.2} | {:.2} | {:.2} |\n",
+        buffer.len(),
+        times.rattle / 1e3,
+        times.rust / 1e3,
+        times.ratio()
+    );
+}
+
+/// Both times are the library's: of one call, and of a call for each member.
+fn list_times(buffer: &[u8], list: &[u32], members: &[&[u8]]) -> Times {
+    let mut areas = (
+        vec![0; MEMBERS + MOST_MEMBERS * MEMBER_ANSWER],
+        vec![0; MOST_MEMBERS * NODE_SHARE],
+        vec![0; MOST_MEMBERS * CELL_SHARE],
+    );
+    lent::read_members(buffer, list, &mut areas.0, &mut areas.1, &mut areas.2);
+    let refusals = areas.0[MEMBERS..].chunks(MEMBER_ANSWER).filter(|answer| answer[0] != 0);
+    assert_eq!(refusals.count(), 0, "every member is accepted");
+    measure(
+        &mut areas,
+        |(answers, nodes, cells)| {
+            black_box(lent::read_members(
+                black_box(buffer),
+                black_box(list),
+                answers,
+                nodes,
+                cells,
+            ));
+        },
+        |(answers, nodes, cells)| {
+            let answers = answers[MEMBERS..].chunks_mut(MEMBER_ANSWER);
+            let areas = nodes.chunks_mut(NODE_SHARE).zip(cells.chunks_mut(CELL_SHARE));
+            for ((member, answer), (nodes, cells)) in members.iter().zip(answers).zip(areas) {
+                black_box(lent::read_member(black_box(member), answer, nodes, cells));
+            }
+        },
+    )
 }
 
 /// Values of members, each with its version and its bytes.

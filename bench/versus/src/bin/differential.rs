@@ -20,6 +20,7 @@ use digarumbi_versus::large::{
     ascending, deepest_member, member_of_strings, member_with_cells, member_with_nested_categories,
     shuffled, version_1_with_cells, version_1_with_free_bytes,
 };
+use digarumbi_versus::members_check;
 use digarumbi_versus::look_check::LookCheck;
 use digarumbi_versus::member_check::MemberCheck;
 use digarumbi_versus::position_check;
@@ -44,6 +45,9 @@ const GENERATED_STREAMS: u64 = 100_000;
 const MEMBER_NUMBERS: [u32; 14] = [1, 2, 3, 4, 5, 6, 7, 8, 9, 10, 11, 12, 13, 18];
 /// Those that a member can get whose version is 1; 4 is then that of a modifier that begins 31.
 const VERSION_1_NUMBERS: [u32; 15] = [0, 1, 2, 3, 4, 5, 6, 7, 8, 9, 10, 11, 12, 13, 18];
+/// Those of a list of members, and of its members, accepted ones too.
+const LIST_NUMBERS: [u32; 2] = [0, 26];
+const LISTED_NUMBERS: [u32; 15] = [0, 1, 2, 3, 4, 5, 6, 7, 8, 9, 10, 11, 12, 13, 18];
 /// Those of a Value and of an Argument. Without a count of nodes, cells or dimensions no other limit
 /// than that of depth can be passed.
 const VALUE_NUMBERS: [u32; 9] = [0, 1, 2, 3, 4, 5, 6, 7, 18];
@@ -83,6 +87,9 @@ fn run(seed: u64) -> Result<(), Difference> {
         members.values.accepted() - members.values.inside,
         members.values.inside
     );
+    let lists = members_check::check(seed)?;
+    println!("{} readings of lists: {}", lists.lists.total(), lists.lists);
+    println!("{} readings of their members: {}", lists.members.total(), lists.members);
     let values = values(seed)?;
     println!("{} Values alone, by six versions: {}", values.values.total(), values.values);
     println!("{} of these by version 1: {}", values.version_1.total(), values.version_1);
@@ -115,6 +122,8 @@ fn run(seed: u64) -> Result<(), Difference> {
     streams.changed.all_seen(&CHANGED_NUMBERS)?;
     members.readings.all_seen(&MEMBER_NUMBERS)?;
     members.version_1.all_seen(&VERSION_1_NUMBERS)?;
+    lists.lists.all_seen(&LIST_NUMBERS)?;
+    lists.members.all_seen(&LISTED_NUMBERS)?;
     members.values.all_forms_seen()?;
     values.values.all_seen(&VALUE_NUMBERS)?;
     values.version_1.all_seen(&VALUE_NUMBERS_VERSION_1)?;

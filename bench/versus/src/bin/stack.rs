@@ -1,4 +1,4 @@
-//! The smallest stack of a thread in which the library reads members, totals their cells, reads Values
+//! The smallest stack of a thread in which the library reads members and lists of them, totals their cells, reads Values
 //! alone and looks, converts texts and decodes case data. Fails if one is larger than `lent::STACK`.
 //!
 //! Usage: stack; it runs itself as `stack WORK KIB`, which ends without a result where a stack of
@@ -10,7 +10,7 @@ use std::thread;
 
 use digarumbi::lent::{
     self, ARGUMENT_WORDS, CASES_FEED_ANSWER, CASES_STATE, CELL_AREA, LONGEST_LOOK, LOOK_ANSWER,
-    MEMBER_ANSWER, NODE_AREA, STACK, TEXT_ANSWER, TOTALS_ANSWER, TOTALS_AREA, TOTAL_ANSWER,
+    MEMBERS, MEMBER_ANSWER, MOST_MEMBERS, NODE_AREA, STACK, TEXT_ANSWER, TOTALS_ANSWER, TOTALS_AREA, TOTAL_ANSWER,
     VALUE_WORDS,
 };
 use digarumbi_bench::limits::MEMBER_BYTES;
@@ -28,10 +28,11 @@ const STEP: usize = 4;
 /// Members of at most so many bytes are short.
 const SHORT: usize = 2_048;
 
-const WORK: [&str; 9] = [
+const WORK: [&str; 10] = [
     "nothing",
     "members",
     "short members",
+    "lists",
     "one leaf",
     "all leaves",
     "values",
@@ -91,7 +92,7 @@ fn ends(work: &str, kib: usize) -> bool {
 fn run(work: &str, kib: usize) {
     // The inputs are made outside the small stack.
     let inputs = match work {
-        "members" | "one leaf" | "all leaves" => members(),
+        "members" | "lists" | "one leaf" | "all leaves" => members(),
         "short members" => short_members(),
         "values" => values(),
         "looks" => stored::looks().into_iter().map(|look| look.bytes).collect(),
@@ -99,6 +100,7 @@ fn run(work: &str, kib: usize) {
     };
     let read: fn(&[Vec<u8>]) = match work {
         "members" | "short members" => read_members,
+        "lists" => read_lists,
         "one leaf" => total_one_leaf,
         "all leaves" => total_all_leaves,
         "values" => read_values,
@@ -171,6 +173,23 @@ fn total_all_leaves(members: &[Vec<u8>]) {
     let (mut nodes, mut cells) = (vec![0; NODE_AREA], vec![0; CELL_AREA]);
     for member in members {
         lent::totals(member, 0, &mut answer, &mut totals, &mut nodes, &mut cells);
+    }
+}
+
+/// The same members, in lists of up to 64.
+fn read_lists(members: &[Vec<u8>]) {
+    let mut answers = vec![0; MEMBERS + MOST_MEMBERS * MEMBER_ANSWER];
+    let mut nodes = vec![0; MOST_MEMBERS * NODE_AREA];
+    let mut cells = vec![0; MOST_MEMBERS * CELL_AREA];
+    for members in members.chunks(MOST_MEMBERS) {
+        let mut list = Vec::new();
+        let mut start = 0;
+        for member in members {
+            list.extend([start, member.len() as u32]);
+            start += member.len() as u32;
+        }
+        lent::read_members(&members.concat(), &list, &mut answers, &mut nodes, &mut cells);
+        assert_eq!(answers[0], 0, "a list that is read");
     }
 }
 

@@ -1,0 +1,5 @@
+pub mod Members
+pub mod Laws
+pub mod OneByOne
+pub mod Isolation
+pub mod Examples
