@@ -1,6 +1,7 @@
 //! The command `digarumbi`: members and looks on the screen, over the proved library.
 
 mod arguments;
+mod axis;
 mod commands;
 mod dump;
 mod encoding;

@@ -22,6 +22,15 @@ impl DimensionNames {
         self.leaves[leaf].join(BETWEEN)
     }
 
+    /// By leaf index: how many leaves stand before it in the file.
+    pub fn ranks(&self) -> Vec<usize> {
+        let mut ranks = vec![0; self.order.len()];
+        for (rank, &leaf) in self.order.iter().enumerate() {
+            ranks[leaf as usize] = rank;
+        }
+        ranks
+    }
+
     /// The most names in a path.
     pub fn depth(&self) -> usize {
         self.leaves.iter().map(Vec::len).max().unwrap_or(0)
