@@ -4,6 +4,7 @@ use std::collections::HashMap;
 
 use crate::commands::Member;
 use crate::names::DimensionNames;
+use crate::refusal::no_dimension;
 
 /// The dimension with this name, or else with this number.
 pub fn dimension_named(member: &Member, asked: &str) -> Result<usize, String> {
@@ -12,7 +13,7 @@ pub fn dimension_named(member: &Member, asked: &str) -> Result<usize, String> {
     match (&named[..], asked.parse()) {
         ([dimension], _) => Ok(*dimension),
         ([], Ok(number)) if number < member.names.len() => Ok(number),
-        ([], _) => Err(format!("refused 19 at 0: no dimension {asked}")),
+        ([], _) => Err(no_dimension(asked)),
         (_, _) => Err(format!("several dimensions are named {asked}; give its number")),
     }
 }

@@ -34,7 +34,8 @@ pub fn read_members<'a>(
     if answers[0] != 0 {
         return Err(Refusal::new(answers[0], answers[1]));
     }
-    let (answers, _) = answers[MEMBERS..].as_chunks();
+    let answers = answers[MEMBERS..].chunks_exact(MEMBER_ANSWER);
+    let answers = answers.map(|words| words.try_into().expect("as many words as an answer has"));
     let areas = nodes.chunks(NODE_AREA).zip(cells.chunks(CELL_AREA));
     let members = list.iter().map(|&[start, length]| part(buffer, start as usize, length as usize));
     let tables = members.zip(answers).zip(areas);

@@ -7,6 +7,7 @@ use digarumbi::{Refusal, Total};
 use super::{with_member, Member};
 use crate::json::{self, Object};
 use crate::number::shortest;
+use crate::refusal::sentence;
 use crate::session::{Session, Status, Written};
 use crate::typed::dimension_named;
 
@@ -46,7 +47,7 @@ fn dimension_totals(session: &mut Session, member: &Member, dimension: usize) ->
     let totals = match member.table.totals(dimension) {
         Ok(totals) => totals,
         Err(refusal) => {
-            session.say_refused(member.file, &refusal.to_string());
+            session.say_refused(member.file, &sentence(&refusal));
             return Ok(());
         }
     };
