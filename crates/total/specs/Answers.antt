@@ -40,22 +40,24 @@ refused n p node-count cell-count = record {
   largest = double 0;
 }
 
--- the sums of a leaf that is there, in a member with so many nodes and cells: "20 at the Value of the leaf's first bad cell in file order"
+-- the sums of a leaf that is there, in a member with so many nodes and cells
+abbrev pub totalled : ℕ → ℕ → Sums → LeafTotal
+totalled node-count cell-count s = record {
+  refusal = 0;
+  place = 0;
+  nodes = node-count;
+  cells = cell-count;
+  total = s .total;
+  numbers = s .numbers;
+  texts = s .texts;
+  missing = s .missing;
+  smallest = double (s .smallest);
+  largest = double (s .largest);
+}
+
+-- "20 at the Value of the leaf's first bad cell in file order"
 abbrev pub answered : ℕ → ℕ → Sums → LeafTotal
-answered node-count cell-count s =
-    pick (s .bad) (refused 20 (s .place) 0 0)
-    (record {
-      refusal = 0;
-      place = 0;
-      nodes = node-count;
-      cells = cell-count;
-      total = s .total;
-      numbers = s .numbers;
-      texts = s .texts;
-      missing = s .missing;
-      smallest = double (s .smallest);
-      largest = double (s .largest);
-    })
+answered node-count cell-count s = pick (s .bad) (refused 20 (s .place) 0 0) (totalled node-count cell-count s)
 
 -- "19 at place 0 for a dimension or leaf that isn't there"
 abbrev pub there : Tree Member → ℕ → ℕ → Bool

@@ -21,3 +21,4 @@ pub mod AllCall
 pub mod Calls
 pub mod Places
 pub mod OneByOne
+pub mod Below

@@ -38,7 +38,7 @@ module _ (version : ℕ) where
   dimensions-bytes (all-more {x = t} {xs = ts} v vs) = omega (arith, dimension-bytes t v, dimensions-bytes vs)
 
 module _ {bs : List ℕ} (d : MemberDerivation bs) where
-  few-cells : length (cells (d .tree)) ≤ most-cells
+  pub few-cells : length (cells (d .tree)) ≤ most-cells
   unfolding passes
   few-cells = rw (d .valid .1 .2 .1 .2 .0) (leb-true (cellsSection (d .tree) .0) most-cells (d .valid .1 .2 .1 .1))
 

@@ -2,7 +2,7 @@
 use mathlib.Core.Path.{_≡_, refl, sym, ap, _∙_}
 use mathlib.Core.Bool.{Bool, true, false}
 use mathlib.Core.List.{List, [], _∷_}
-use Prim.Native.Nat.{ℕ, zero, suc, _+_, _*_, _^_, _≤_, _<_}
+use Prim.Native.Nat.{ℕ, zero, suc, _+_, _-_, _*_, _^_, _≤_, _<_}
 use native.Mathlib.Nat.{mul-le-mul-right}
 use native.Mathlib.Omega.{arith}
 use lib.ListN.{length}
@@ -39,7 +39,7 @@ kind-small form bits =
 
 -- so many cells
 pub record Within (k : ℕ) (s : Sums) : Type 0 where
-  pub total : s .total ≤ k * 2 ^ 32
+  pub total : s .total ≤ k * (2 ^ 32 - 1)
   pub numbers : s .numbers ≤ k
   pub texts : s .texts ≤ k
   pub missing : s .missing ≤ k
@@ -72,7 +72,7 @@ room w = (omega (arith, w .total), omega (arith, w .numbers), omega (arith, w .t
 
 pub within-more : {k m : ℕ} {s : Sums} → k ≤ m → Within k s → Within m s
 within-more {k} {m} h w = record {
-  total = let l : k * 2 ^ 32 ≤ m * 2 ^ 32 = mul-le-mul-right (2 ^ 32) h in omega (arith, l, w .total);
+  total = let l : k * (2 ^ 32 - 1) ≤ m * (2 ^ 32 - 1) = mul-le-mul-right (2 ^ 32 - 1) h in omega (arith, l, w .total);
   numbers = omega (arith, w .numbers);
   texts = omega (arith, w .texts);
   missing = omega (arith, w .missing);
