@@ -26,6 +26,7 @@ __all__ = [
     "Table",
     "Look",
     "read_member",
+    "read_members",
     "read_look",
     "rewrite_look",
     "decode",
@@ -44,6 +45,8 @@ MEMBER_ANSWER = 88
 VALUE_WORDS = 22
 TOTAL_ANSWER = 13
 TOTALS_ANSWER = 5
+POSITION_WORDS = 5
+INDEX_WORDS = 3
 LOOK_ANSWER = 264
 REWRITE_ANSWER = 3
 TEXT_ANSWER = 3
@@ -58,8 +61,11 @@ TOTAL_RECORD = 11
 NODE_AREA = 28672
 CELL_AREA = 12288
 LONGEST_LOOK = 3160
+MEMBERS = 2
 
 NO_PARENT = 0xFFFFFFFF
+LAST_WORD = 0xFFFFFFFF
+CELL_INDEX = 10
 NO_SUCH_LEAF = 19
 
 # The refusal numbers, with document 01's words.
@@ -116,6 +122,9 @@ BYTES = [c_char_p, c_size_t]
 FUNCTIONS = {
     "digarumbi_abi": ([], c_uint32),
     "digarumbi_read_member": (BYTES + AREA + AREA + AREA, c_size_t),
+    "digarumbi_read_members": (BYTES + AREA + AREA + AREA + AREA, c_size_t),
+    "digarumbi_position": (AREA + [c_uint32] * 3 + AREA + [c_uint32] + AREA, c_size_t),
+    "digarumbi_index": (AREA + [c_uint32] * 3 + AREA + [c_uint32] * 3 + AREA, c_size_t),
     "digarumbi_value": ([c_uint32] + BYTES + AREA, c_size_t),
     "digarumbi_number": ([c_uint32, c_uint32, POINTER(c_double)], c_uint32),
     "digarumbi_total": (BYTES + [c_uint32, c_uint32] + AREA + AREA + AREA, c_size_t),
@@ -167,6 +176,16 @@ def _area(words):
     return (c_uint32 * words)(), words
 
 
+def _words(numbers):
+    """Numbers as an area, likewise. One that is no word is as the largest."""
+    words = [number if _is_word(number) else LAST_WORD for number in numbers]
+    return (c_uint32 * len(words))(*words), len(words)
+
+
+def _is_word(number):
+    return 0 <= number <= LAST_WORD
+
+
 def _input(data):
     """The bytes of an input, likewise."""
     data = bytes(data)
@@ -181,7 +200,7 @@ def _test(answer):
 
 
 def _records(area, width, count):
-    words = area[0][: width * count]
+    words = area[: width * count]
     return [words[at : at + width] for at in range(0, len(words), width)]
 
 
@@ -273,9 +292,41 @@ def read_member(data, page=None):
     data = bytes(data)
     answer, nodes, cells = _area(MEMBER_ANSWER), _area(NODE_AREA), _area(CELL_AREA)
     _library.digarumbi_read_member(*_input(data), *answer, *nodes, *cells)
-    _test(answer)
-    node_count, cell_count = answer[0][3:5]
-    return Table(data, page, answer[0][:], _records(nodes, NODE_RECORD, node_count), _records(cells, CELL_RECORD, cell_count))
+    return _table(data, page, answer[0][:], nodes[0], cells[0])
+
+
+def read_members(buffer, members, page=None):
+    """Reads up to 64 members of one buffer, each given by its start and its length: a list with a `Table` or a `Refused` for each. One
+    that isn't inside the buffer is refused with 2 at 0; a list of more than 64 raises 26."""
+    _test_page(page)
+    buffer, members = bytes(buffer), [_member_words(*member) for member in members]
+    count = len(members)
+    answers = _area(MEMBERS + count * MEMBER_ANSWER)
+    nodes, cells = _area(count * NODE_AREA), _area(count * CELL_AREA)
+    _library.digarumbi_read_members(*_input(buffer), *_words(sum(members, [])), *answers, *nodes, *cells)
+    _test(answers)
+    read = []
+    for i, (start, length) in enumerate(members):
+        answer = answers[0][MEMBERS + i * MEMBER_ANSWER :][:MEMBER_ANSWER]
+        areas = nodes[0][i * NODE_AREA : (i + 1) * NODE_AREA], cells[0][i * CELL_AREA : (i + 1) * CELL_AREA]
+        try:
+            read.append(_table(buffer[start : start + length], page, answer, *areas))
+        except Refused as refused:
+            read.append(refused)
+    return read
+
+
+def _member_words(start, length):
+    """A start and a length; a length that no member has if one of them is no word."""
+    return [start, length] if _is_word(start) and _is_word(length) else [LAST_WORD, LAST_WORD]
+
+
+def _table(data, page, answer, nodes, cells):
+    """The table of a member by its answer and its areas."""
+    if answer[0] != 0:
+        raise Refused(*answer[:2])
+    node_count, cell_count = answer[3:5]
+    return Table(data, page, answer, _records(nodes, NODE_RECORD, node_count), _records(cells, CELL_RECORD, cell_count))
 
 
 class Table:
@@ -384,6 +435,51 @@ class Table:
             rows.append(row)
         return rows
 
+    def _axis_words(self):
+        """What a position is asked with: the n, the numbers of dimensions on the axes, and the axis order."""
+        dimensions = self._answer[2]
+        ns = [record[2] for record in self._dimension_records()]
+        return (*_words(ns), *self._answer[5:8], *_words(self._answer[72 : 72 + dimensions]))
+
+    def position(self, index):
+        """The layer, row and column position of the cell with that index. Refused with 10 if the index is outside."""
+        if not _is_word(index):
+            raise Refused(CELL_INDEX, 0)
+        answer = _area(POSITION_WORDS)
+        _library.digarumbi_position(*self._axis_words(), index, *answer)
+        _test(answer)
+        return tuple(answer[0][2:])
+
+    def index(self, layer, row, column):
+        """The index of the cell at that position, whether the table has that cell or not. Refused with 10 if the position is outside."""
+        if not all(map(_is_word, (layer, row, column))):
+            raise Refused(CELL_INDEX, 0)
+        answer = _area(INDEX_WORDS)
+        _library.digarumbi_index(*self._axis_words(), layer, row, column, *answer)
+        _test(answer)
+        return answer[0][2]
+
+    def positions(self):
+        """One row a cell, in the order of `cells`: index, layer, row, column."""
+        rows = []
+        for index, _, _ in self._cells:
+            layer, row, column = self.position(index)
+            rows.append({"index": index, "layer": layer, "row": row, "column": column})
+        return rows
+
+    def turned(self, layers, rows, columns):
+        """The same table on other axes, which are lists of dimensions, inner ones first. Refused with 9 unless they have each dimension
+        once."""
+        order = [*layers, *rows, *columns]
+        counts, answer = [len(axis) for axis in (layers, rows, columns)], _area(POSITION_WORDS)
+        ns = [record[2] for record in self._dimension_records()]
+        _library.digarumbi_position(*_words(ns), *counts, *_words(order), 0, *answer)
+        # An index outside is asked after the axes, so they are as they must be.
+        if answer[0][0] != CELL_INDEX:
+            _test(answer)
+        words = self._answer[:5] + counts + self._answer[8:72] + order
+        return Table(self.data, self.page, words, self._nodes, self._cells)
+
     def _areas(self):
         return _area(NODE_RECORD * len(self._nodes)), _area(CELL_RECORD * len(self._cells))
 
@@ -412,7 +508,7 @@ class Table:
         _test(answer)
         name, paths = self._text(place, length), self._leaf_paths()[dimension]
         rows = []
-        for leaf, record in enumerate(_records(totals, TOTAL_RECORD, n)):
+        for leaf, record in enumerate(_records(totals[0], TOTAL_RECORD, n)):
             row = {"dimension": dimension, "name": name, "leaf": leaf, "path": paths[leaf]}
             row.update(_leaf_total(record))
             rows.append(row)

@@ -123,6 +123,62 @@ class Members(Rows):
         self.assertEqual(found, [expected] * 8)
 
 
+class Lists(Rows):
+    BUFFER = STATISTICS + COEFFICIENTS
+    SECOND = (len(STATISTICS), len(COEFFICIENTS))
+
+    def test_each_as_by_itself(self):
+        cut = (len(STATISTICS), 1000)
+        first, second, refused = digarumbi.read_members(self.BUFFER, [(0, len(STATISTICS)), self.SECOND, cut])
+        self.assertEqual(first.cells(), digarumbi.read_member(STATISTICS).cells())
+        self.assertEqual(second.cells(), digarumbi.read_member(COEFFICIENTS).cells())
+        self.assertEqual(second.nodes(), digarumbi.read_member(COEFFICIENTS).nodes())
+        self.assertEqual(second.totals(), digarumbi.read_member(COEFFICIENTS).totals())
+        self.assertEqual((refused.number, refused.place), (2, 911))
+
+    def test_members_that_are_not_inside(self):
+        length = len(self.BUFFER)
+        outside = [(1, length), (length + 1, 0), (-1, 5), (0, -1), (2**32, 0), (0, 2**32)]
+        read = digarumbi.read_members(self.BUFFER, outside + [self.SECOND])
+        self.assertEqual([(refused.number, refused.place) for refused in read[:-1]], [(2, 0)] * len(outside))
+        self.assertEqual(len(read[-1].cells()), 10)
+
+    def test_lists(self):
+        self.assertEqual(digarumbi.read_members(b"", []), [])
+        self.assertEqual(len(digarumbi.read_members(self.BUFFER, [self.SECOND] * 64)), 64)
+        self.assertRefused(26, 0, digarumbi.read_members, self.BUFFER, [self.SECOND] * 65)
+        self.assertRefused(24, 0, digarumbi.read_members, self.BUFFER, [], 1253)
+
+
+class Positions(Rows):
+    def test_positions(self):
+        table = digarumbi.read_member(COEFFICIENTS)
+        self.assertRows(table.positions())
+        self.assertEqual(table.positions()[1], {"index": 5, "layer": 0, "row": 1, "column": 2})
+        for row in table.positions():
+            self.assertEqual([row["column"], row["row"]], table.coordinates(row["index"]))
+            self.assertEqual(table.index(row["layer"], row["row"], row["column"]), row["index"])
+
+    def test_outside(self):
+        table = digarumbi.read_member(COEFFICIENTS)
+        for index in (10, -1, 2**32):
+            self.assertRefused(10, 0, table.position, index)
+        for position in [(1, 0, 0), (0, 2, 0), (0, 0, 5), (0, -1, 0), (2**32, 0, 0)]:
+            self.assertRefused(10, 0, table.index, *position)
+
+    def test_turned(self):
+        table = digarumbi.read_member(COEFFICIENTS)
+        turned = table.turned([], [0, 1], [])
+        self.assertEqual(turned.position(5), (0, 7, 0))
+        self.assertEqual(turned.cells(), table.cells())
+        self.assertEqual(turned.totals(), table.totals())
+        self.assertEqual([(row["axis"], row["position"]) for row in turned.dimensions()], [("row", 0), ("row", 1)])
+        back = turned.turned([], [1], [0])
+        self.assertEqual((back.positions(), back.dimensions()), (table.positions(), table.dimensions()))
+        for axes in [([], [0], []), ([0], [0], [1]), ([2], [0], []), ([-1], [0], []), ([2**32], [1], [])]:
+            self.assertRefused(9, 0, table.turned, *axes)
+
+
 class Totals(Rows):
     def test_one_leaf(self):
         table = digarumbi.read_member(STATISTICS)
@@ -294,7 +350,8 @@ class Library(unittest.TestCase):
 
     def test_the_sizes_of_the_header(self):
         header = file("include", "digarumbi.h").decode()
-        answers = "MEMBER_ANSWER VALUE_WORDS TOTAL_ANSWER TOTALS_ANSWER LOOK_ANSWER REWRITE_ANSWER TEXT_ANSWER CASES_ANSWER CASES_FEED_ANSWER"
+        answers = "MEMBERS MEMBER_ANSWER VALUE_WORDS TOTAL_ANSWER TOTALS_ANSWER POSITION_WORDS INDEX_WORDS LOOK_ANSWER REWRITE_ANSWER"
+        answers += " TEXT_ANSWER CASES_ANSWER CASES_FEED_ANSWER"
         records = "DIMENSION_RECORD NODE_RECORD CELL_RECORD TOTAL_RECORD"
         for name in f"{answers} {records}".split():
             self.assertRegex(header, rf"\bDIGARUMBI_{name} = {getattr(digarumbi, name)}\b")
