@@ -1,6 +1,6 @@
 //! Dimensions and leaves by what people type for them.
 
-use std::collections::HashMap;
+use std::collections::{BTreeMap, HashMap};
 
 use crate::commands::Member;
 use crate::names::DimensionNames;
@@ -27,12 +27,12 @@ fn same_name(name: &str, typed: &str) -> bool {
 pub struct Places<'m, 'a> {
     member: &'m Member<'a>,
     /// The leaves of the dimensions that were asked for.
-    leaves: HashMap<usize, LeafNames>,
+    leaves: BTreeMap<usize, LeafNames>,
 }
 
 impl<'m, 'a> Places<'m, 'a> {
     pub fn new(member: &'m Member<'a>) -> Places<'m, 'a> {
-        Places { member, leaves: HashMap::new() }
+        Places { member, leaves: BTreeMap::new() }
     }
 
     /// The numbers of a dimension and of a leaf of it; none if the member has them not.
@@ -47,6 +47,11 @@ impl<'m, 'a> Places<'m, 'a> {
         let leaves =
             self.leaves.entry(dimension).or_insert_with(|| LeafNames::new(&names[dimension]));
         Ok(leaves.leaf(leaf)?.map(|leaf| (dimension, leaf)))
+    }
+
+    /// The dimensions that were asked for, whether their leaves were there or not.
+    pub fn dimensions(&self) -> impl Iterator<Item = usize> + '_ {
+        self.leaves.keys().copied()
     }
 }
 

@@ -93,6 +93,20 @@ fn different_counts() {
     assert_eq!((&run.said[..], run.status), ("", 1));
 }
 
+/// The dimension is compared where none of its hand counts has a leaf, too.
+#[test]
+fn leaves_that_are_misspelt() {
+    let run = compare("misspelt", "Cases\tvalid\t430\n", &[FREQUENCIES]);
+    let lines = [
+        "valid\t430\t.\tnot in the member",
+        "Valid\t.\t430\tnot in the hand counts",
+        "Missing\t.\t0\tnot in the hand counts",
+        "Total\t.\t430\tnot in the hand counts",
+    ];
+    let expected: String = lines.map(|line| format!("{FREQUENCIES}\tCases\t{line}\n")).concat();
+    assert_eq!((run.out, run.status), (expected, 1));
+}
+
 #[test]
 fn files_by_their_last_part() {
     let hand = "spine_3.bin\tStatistics\tFrequency\t14\n";

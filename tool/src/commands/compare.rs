@@ -149,9 +149,7 @@ fn compare(session: &mut Session, member: &Member, lines: &[HandLine]) -> Writte
             }
         }
     }
-    let dimensions = (0..member.names.len())
-        .filter(|dimension| counts.keys().any(|(counted, _)| counted == dimension));
-    for dimension in dimensions {
+    for dimension in places.dimensions() {
         compare_dimension(session, member, dimension, &counts)?;
     }
     Ok(())
