@@ -9,50 +9,34 @@ ghost use Rattle.codepages.specs.Laws.Passes.{Ascii, Run};
 // the bytes and code points under it stand for themselves
 pub const ASCII: u8 = 128;
 
-// bytes that are tested together
-const BLOCK: usize = 32;
+// bytes that are tested together: many in a long run, then few where it ends
+const BLOCK: usize = 128;
 
-// 1 for a byte that is 128 or more, 0 for another.
-fn high(x: u8) -> u8
-    ensures { λ r. ⌜ (r ≤ 1) × (r ≡ 0 → x < ascii) ⌝ }
-{
-    x / ASCII
-}
+const WORD: usize = 8;
 
-// How many bytes of the block from i on are 128 or more.
-fn high_count(input: &[u8], i: usize) -> u8
-    requires { ⌜ i + 32 ≤ length (now input) ⌝ }
-    ensures { λ r. ⌜ (r ≡ 0 → Ascii (now (input .entry)) i 32) ⌝ }
+// All bits of the n bytes from i on. The loop has no exit on the way, so that many bytes are taken at once.
+fn joined(input: &[u8], i: usize, n: usize) -> u8
+    requires { ⌜ i + n ≤ length (now input) ⌝ }
+    ensures { λ r. ⌜ (r < ascii → Ascii (now (input .entry)) i n) ⌝ }
 {
-    let mut n: u8 = 0;
+    let mut bits: u8 = 0;
     let mut j: usize = 0;
-    while j < BLOCK {
-        n += high(input[i + j]);
+    while j < n {
+        bits = bits | input[i + j];
         j += 1;
     }
-    n
+    bits
 }
 
-// Whether the bytes of the block from i on are there and under 128.
-fn block(input: &[u8], i: usize) -> bool
+// Whether n bytes from i on are there and under 128.
+fn low(input: &[u8], i: usize, n: usize) -> bool
     requires { ⌜ i ≤ length (now input) ⌝ }
-    ensures { λ r. ⌜ (r ≡ true → (i + 32 ≤ length (now (input .entry))) × Ascii (now (input .entry)) i 32) ⌝ }
+    ensures { λ r. ⌜ (r ≡ true → (i + n ≤ length (now (input .entry))) × Ascii (now (input .entry)) i n) ⌝ }
 {
-    if input.len() - i < BLOCK {
+    if input.len() - i < n {
         return false;
     }
-    high_count(input, i) == 0
-}
-
-// Whether a byte is there and under 128.
-fn one(input: &[u8], i: usize) -> bool
-    ensures { λ r. ⌜ (r ≡ true → (i + 1 ≤ length (now (input .entry))) × Ascii (now (input .entry)) i 1) ⌝ }
-{
-    if i < input.len() {
-        input[i] < ASCII
-    } else {
-        false
-    }
+    joined(input, i, n) < ASCII
 }
 
 // A place up to which all bytes from `start` on are under 128. (The first of another kind, or the end; but any such place serves, so the
@@ -67,10 +51,13 @@ pub fn run_end(input: &[u8], start: usize) -> usize
         return start;
     }
     let mut i = start;
-    while block(input, i) {
+    while low(input, i, BLOCK) {
         i += BLOCK;
     }
-    while one(input, i) {
+    while low(input, i, WORD) {
+        i += WORD;
+    }
+    while low(input, i, 1) {
         i += 1;
     }
     i

@@ -14,7 +14,7 @@ ghost use Rattle.codepages.specs.Pages as pages;
 ghost use Rattle.codepages.specs.Utf8 as utf8_spec;
 ghost use Rattle.codepages.specs.Convert as spec;
 ghost use Rattle.codepages.specs.Laws.Places.{places};
-ghost use Rattle.codepages.specs.Laws.Passes.{half, Found, Grown, Counts, Ready, Wrote};
+ghost use Rattle.codepages.specs.Laws.Passes.{half, Run, Found, Grown, Counts, Ready, Wrote};
 use crate::ascii::ASCII;
 use crate::ascii::run_end;
 use crate::tables::ENTRIES;
@@ -109,7 +109,8 @@ fn in_page(
     if out.len() < m.length {
         return refuse(OUTPUT_SHORT, 0);
     }
-    write(t, p, k, back, input, out);
+    let run = copy_run(input, 0, m.run, out, 0);
+    write(t, p, k, back, input, run, out);
     Answer {
         refusal: 0,
         place: 0,
@@ -129,8 +130,10 @@ fn refuse(refusal: u32, place: usize) -> Answer
 
 // ---- the first pass
 
-// Where a text stops being converted, and how much is written for it before that; above the room, some number above it.
+// Where a text stops being converted, and how much is written for it before that; above the room, some number above it. And where its
+// first run of bytes under 128 ends, which need not be looked for again.
 struct Measured {
+    run: usize,
     place: usize,
     length: usize,
 }
@@ -145,13 +148,16 @@ fn measure(
 ) -> Measured
     requires { ⌜ (k < pages.page-count) × (room < half) × (now t ≡ entries) × (back ≡ true → now p ≡ places) ⌝ }
     ensures { λ r. ⌜ (r .place ≡ spec.valid-up-to (spec.way back k) 0 0 (now (input .entry))) × Counts room (r .length) (length (spec.output (spec.way back k) 0 (now (input .entry)))) ⌝ }
+    ensures { λ r. ⌜ Run (now (input .entry)) 0 (r .run) ⌝ }
 {
-    let mut i: usize = 0;
-    let mut n: usize = 0;
+    let run = run_end(input, 0);
+    let mut i = run;
+    let mut n = run;
     while i < input.len() {
         let s = find(t, p, k, back, input, i);
         if s.taken == 0 {
             return Measured {
+                run: run,
                 place: i,
                 length: n,
             };
@@ -160,6 +166,7 @@ fn measure(
         i += s.taken;
     }
     Measured {
+        run: run,
         place: i,
         length: n,
     }
@@ -218,12 +225,21 @@ fn find_back(t: &[u16; ENTRIES], p: &[u8], k: usize, input: &[u8], i: usize) -> 
 
 // ---- the second pass
 
-fn write(t: &[u16; ENTRIES], p: &[u8], k: usize, back: bool, input: &[u8], out: &mut [u8])
-    requires { ⌜ (k < pages.page-count) × (spec.valid-up-to (spec.way back k) 0 0 (now input) ≡ length (now input)) × (length (spec.output (spec.way back k) 0 (now input)) ≤ length (now out)) × (now t ≡ entries) × (back ≡ true → now p ≡ places) ⌝ }
-    ensures { λ _. ⌜ now (out .exit) ≡ spec.output (spec.way back k) 0 (now (input .entry)) ++ drop (length (spec.output (spec.way back k) 0 (now (input .entry)))) (now (out .entry)) ⌝ }
+// Writes what the text from `start` on becomes, from that place of the output on.
+fn write(
+    t: &[u16; ENTRIES],
+    p: &[u8],
+    k: usize,
+    back: bool,
+    input: &[u8],
+    start: usize,
+    out: &mut [u8],
+)
+    requires { ⌜ (k < pages.page-count) × (start ≤ length (now input)) × (now t ≡ entries) × (back ≡ true → now p ≡ places) × Ready (spec.way back k) (now input) start (now out) start ⌝ }
+    ensures { λ _. ⌜ now (out .exit) ≡ sets (now (out .entry)) start (spec.output (spec.way back k) 0 (drop start (now (input .entry)))) ⌝ }
 {
-    let mut i: usize = 0;
-    let mut w: usize = 0;
+    let mut i = start;
+    let mut w = start;
     while i < input.len() {
         let s = store(t, p, k, back, input, i, out, w);
         i += s.taken;

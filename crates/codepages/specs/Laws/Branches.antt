@@ -3,22 +3,23 @@ use mathlib.Core.Path.{_≡_, refl, sym, ap, _∙_}
 use mathlib.Core.Bool.{Bool, true, false}
 use mathlib.Core.List.{List, [], _∷_, _++_}
 use mathlib.Core.Logic.{⊎-elim}
-use Prim.Native.Nat.{ℕ, suc, _+_, _-_, _*_, _/_, _%_, _≤_, _<_}
+use Prim.Native.Nat.{ℕ, zero, suc, _+_, _-_, _*_, _/_, _%_, _≤_, _<_}
+use native.Mathlib.Nat.{zero-add}
 use native.Mathlib.Numerals.{add-one}
 use native.Mathlib.Omega.{arith}
 use lib.Dec.{ltb}
 use lib.ListN.{length, getD, take, drop, set, length-drop, List·getD-eq-default}
-use lib.Seq.{getD-take, getD-drop, sets, length-take-le}
+use lib.Seq.{getD-take, getD-drop, sets, sets-eq, length-sets, length-take-le}
 use borrow.Author.Tests.{lt-ltb, le-ltb, ne-eqb}
 use Rattle.layout.specs.Layout.{pick}
 use Rattle.codepages.specs.Table.{entries}
 use Rattle.codepages.specs.Pages.{page-count, page-entries, ascii, no-code-point, no-byte, page, listed, code-point, byte}
 use Rattle.codepages.specs.Utf8.{two-bytes, three-bytes, four-bytes, surrogates, after-surrogates, scalar, encode, continuation, shortest, row-two, row-three, row, decode}
-use Rattle.codepages.specs.Convert.{Step, invalid, converts, to, from, way}
+use Rattle.codepages.specs.Convert.{Step, invalid, converts, to, from, way, valid-up-to, output}
 use Rattle.codepages.specs.Laws.Pages.{side, point-low, point-high, point-byte, byte-low, byte-below, byte-none}
 use Rattle.codepages.specs.Laws.Utf8.{encode-one, encode-two, encode-three, encode-four, encode-length, row-one-is, row-two-is, row-three-is, decoded-by, Decoded, from-one, from-two, from-three, from-four, encode-decode}
 use Rattle.codepages.specs.Laws.Steps.{to-converts, to-invalid, from-converts, from-invalid}
-use Rattle.codepages.specs.Laws.Passes.{half, Ascii, ascii-one, ascii-more, passes-ascii, Passes, passes-one, Skips, skips, Found, found-none, found-some, Ready, not-refused, fits, Wrote, wrote}
+use Rattle.codepages.specs.Laws.Passes.{half, Ascii, Run, Tally, tally, tally-step, Grown, sets-append, ascii-one, ascii-more, passes-ascii, Passes, passes-one, Skips, skips, Found, found-none, found-some, Ready, not-refused, fits, Wrote, wrote}
 
 pub past : (u : List ℕ) (i : ℕ) → length u ≤ i → 0 ≡ getD u i 0
 past u i h = sym (List·getD-eq-default u 0 {n = i} h)
@@ -218,6 +219,49 @@ module _ (back : Bool) (k : ℕ) (u : List ℕ) (i r : ℕ) (a : getD u i 0 < as
 
   pub run-wrote : {o : List ℕ} {w : ℕ} {o′ : List ℕ} → o′ ≡ sets o w (take (r - i) (drop i u)) → Wrote (way back k) u i o w (r - i) (r - i) o′
   run-wrote {o} {w} {o′} e = rw run-length at (wrote {o = o} {w = w} {o′ = o′} run-passes (omega arith) e)
+
+-- the run that a text begins with: both passes go on from its end
+module _ (back : Bool) (k : ℕ) {u : List ℕ} {r : ℕ} (t : Run u 0 r) where
+  first-passes : Passes (way back k) u 0 r (take r u)
+  first-passes = let z : r - 0 ≡ r = omega arith in passes-ascii back k u 0 r (omega (arith, t .inside (omega arith))) (rw z at (t .all))
+
+  first-length : length (take r u) ≡ r
+  first-length = length-take-le r u (t .inside (omega arith))
+
+  first-skips : Skips (way back k) u 0 r r
+  first-skips = rw first-length at (skips first-passes)
+
+  pub first-tally : (room : ℕ) → Tally (way back k) u room r r
+  first-tally room =
+      let g : Grown 0 r room r = record { grows = λ h. omega arith; stays = λ h. absurd (omega arith) } in
+      rw zero-add at (tally-step (tally (way back k) u room) r first-skips g)
+
+  pub first-fits : (room : ℕ) → length (output (way back k) 0 u) ≤ room → 0 + (r - 0) ≤ room
+  first-fits room h = omega (arith, first-skips .counts)
+
+  -- its n bytes are copied to the output o, which then is o′
+  module _ (o o′ : List ℕ) (n : ℕ) (h : length (output (way back k) 0 u) ≤ length o) (c : (o′ ≡ sets o 0 (take (r - 0) (drop 0 u))) × (n ≡ r - 0)) where
+    first-end : n ≡ r
+    first-end = omega (arith, c .1)
+
+    first-copied : o′ ≡ sets o 0 (take r u)
+    first-copied = let z : r - 0 ≡ r = omega arith in rw z at (c .0)
+
+    pub first-ready : valid-up-to (way back k) 0 0 u ≡ length u → Ready (way back k) u n o′ n
+    first-ready e =
+        let p : valid-up-to (way back k) 0 0 u ≡ valid-up-to (way back k) 0 r (drop r u) = rw zero-add at (first-skips .goes) in
+        let y : length (output (way back k) 0 u) ≡ r + length (output (way back k) 0 (drop r u)) = rw zero-add at (first-skips .counts) in
+        let l : length o′ ≡ length o = ap length first-copied ∙ length-sets o 0 (take r u) in
+        rw first-end (record { ends = sym p ∙ e; roomy = omega arith })
+
+    pub first-then : {o″ : List ℕ} → o″ ≡ sets o′ n (output (way back k) 0 (drop n u)) → o″ ≡ output (way back k) 0 u ++ drop (length (output (way back k) 0 u)) o
+    first-then q =
+        let v = output (way back k) 0 u in
+        let m : 0 + length v ≤ length o = omega arith in
+        let w : v ≡ take r u ++ output (way back k) 0 (drop r u) = rw zero-add at (first-passes .writes) in
+        let a = sets-append (take r u) (output (way back k) 0 (drop r u)) o 0 in
+        let s : sets o 0 v ≡ sets (sets o 0 (take r u)) r (output (way back k) 0 (drop r u)) = rw w (rw (first-length, zero-add) at a) in
+        (rw first-end at q) ∙ rw first-copied (sym s) ∙ sets-eq v o 0 m ∙ rw zero-add
 
 -- to UTF-8
 module _ (k : ℕ) (u : List ℕ) (i c : ℕ) (e : c ≡ code-point k (getD u i 0)) where

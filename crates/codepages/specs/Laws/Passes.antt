@@ -4,11 +4,11 @@ use mathlib.Core.Bool.{Bool, true, false}
 use mathlib.Core.List.{List, [], _∷_, _++_}
 use mathlib.Core.Logic.{_⊎_, ⊎-elim}
 use Prim.Native.Nat.{ℕ, zero, suc, _+_, _-_, _≤_, _<_}
-use native.Mathlib.Nat.{zero-add}
 use native.Mathlib.Numerals.{add-one}
 use native.Mathlib.Omega.{arith}
 use lib.ListN.{length, getD, take, drop, set, length-append, length-drop, drop-of-length-le}
-use lib.Seq.{getD-drop, drop-drop, drop-cons, length-take-le, sets, length-sets, sets-eq}
+use lib.Seq.{getD-drop, drop-drop, drop-cons, length-take-le, sets, length-sets}
+use lib.Bits.{bitOr, or-add-and, and-le-l, and-le-r}
 use Rattle.codepages.specs.Pages.{ascii, no-code-point, no-byte, code-point, byte}
 use Rattle.codepages.specs.Utf8.{encode, decode}
 use Rattle.codepages.specs.Convert.{Step, invalid, converts, to, from, way, valid-up-to, output}
@@ -66,6 +66,13 @@ ascii-on u start i n h a b =
 
 pub ascii-start : (u : List ℕ) (i : ℕ) → Ascii u i (i - i)
 ascii-start u i = let z : i - i ≡ 0 = omega arith in rw z (ascii-none u i)
+
+-- what two numbers have of bits, both have
+pub ascii-or : (u : List ℕ) (i n bits : ℕ) → (bits < ascii → Ascii u i n) → bitOr bits (getD u (i + n) 0) < ascii → Ascii u i (n + 1)
+ascii-or u i n bits a h =
+    let b = getD u (i + n) 0 in
+    let s = or-add-and bits b in
+    ascii-more u i n 1 (a (omega (arith, s, and-le-r bits b))) (ascii-one u (i + n) (omega (arith, s, and-le-l bits b)))
 
 -- in either direction such a byte stands for itself
 pub plain : (back : Bool) (k a : ℕ) (u : List ℕ) → a < ascii → way back k (a ∷ u) ≡ converts 0 (a ∷ [])
@@ -189,17 +196,18 @@ wrote {f} {u} {i} {o} {w} {n} {x} p h e = record {
   fills = rw (e, p .writes) (sym (sets-append x (output f 0 (drop (i + n) u)) o w));
 }
 
-pub record Writing (f : List ℕ → Step) (u o₀ o : List ℕ) (i w : ℕ) : Type 0 where
+-- the bytes from place s on are written from that place of the output on; now place i is reached, and w in the output
+pub record Writing (f : List ℕ → Step) (u : List ℕ) (s : ℕ) (o₀ o : List ℕ) (i w : ℕ) : Type 0 where
   pub inside : i ≤ length u
   pub ready : Ready f u i o w
   pub same : length o ≡ length o₀
-  pub fills : sets o w (output f 0 (drop i u)) ≡ sets o₀ 0 (output f 0 u)
+  pub fills : sets o w (output f 0 (drop i u)) ≡ sets o₀ s (output f 0 (drop s u))
 
-pub writing : (f : List ℕ → Step) (u o : List ℕ) → valid-up-to f 0 0 u ≡ length u → length (output f 0 u) ≤ length o → Writing f u o o 0 0
-writing f u o e h = record { inside = omega arith; ready = record { ends = e; roomy = omega arith }; same = refl; fills = refl }
+pub writing : {f : List ℕ → Step} {u : List ℕ} {s : ℕ} {o : List ℕ} → s ≤ length u → Ready f u s o s → Writing f u s o o s s
+writing h t = record { inside = h; ready = t; same = refl; fills = refl }
 
-module _ {f : List ℕ → Step} {u o₀ o : List ℕ} {i w : ℕ} (t : Writing f u o₀ o i w) where
-  pub writing-step : {n m : ℕ} {o′ : List ℕ} → Wrote f u i o w n m o′ → Writing f u o₀ o′ (i + n) (w + m)
+module _ {f : List ℕ → Step} {u : List ℕ} {s : ℕ} {o₀ o : List ℕ} {i w : ℕ} (t : Writing f u s o₀ o i w) where
+  pub writing-step : {n m : ℕ} {o′ : List ℕ} → Wrote f u i o w n m o′ → Writing f u s o₀ o′ (i + n) (w + m)
   writing-step p = record {
     inside = p .skipped .inside;
     ready = record { ends = sym (p .skipped .goes) ∙ t .ready .ends; roomy = omega (arith, t .ready .roomy, p .skipped .counts, p .same) };
@@ -207,9 +215,8 @@ module _ {f : List ℕ → Step} {u o₀ o : List ℕ} {i w : ℕ} (t : Writing 
     fills = p .fills ∙ t .fills;
   }
 
-  pub writing-end : length u ≤ i → length (output f 0 u) ≤ length o₀ → o ≡ output f 0 u ++ drop (length (output f 0 u)) o₀
-  writing-end h l =
+  pub writing-end : length u ≤ i → o ≡ sets o₀ s (output f 0 (drop s u))
+  writing-end h =
       let d = drop-of-length-le u {i = i} h in
       let z : output f 0 (drop i u) ≡ [] = rw d (output-end f) in
-      let m : 0 + length (output f 0 u) ≤ length o₀ = omega arith in
-      (rw z at (t .fills)) ∙ sets-eq (output f 0 u) o₀ 0 m ∙ rw (zero-add (length (output f 0 u)))
+      rw z at (t .fills)
