@@ -27,15 +27,6 @@ sets-append : (vs ws l : List ℕ) (i : ℕ) → sets l i (vs ++ ws) ≡ sets (s
 sets-append [] ws l i = let e : i + 0 ≡ i = omega arith in rw e
 sets-append (v ∷ vs) ws l i = let e : i + suc (length vs) ≡ suc i + length vs = omega arith in rw e (sets-append vs ws (set l i v) (suc i))
 
--- the bytes from a place on, by whether there is one
-pub offers : (input : List ℕ) (i : ℕ) → drop i input ≡ offered (ltb i (length input)) (getD input i 0) (drop (suc i) input)
-unfolding offered pick
-offers input i = by (ltb i (length input)) refl
-  where
-    by : (t : Bool) → ltb i (length input) ≡ t → drop i input ≡ pick t (getD input i 0 ∷ drop (suc i) input) []
-    by true t = drop-cons input i 0 (ltb-true i (length input) t)
-    by false t = drop-of-length-le input (ltb-false i (length input) t)
-
 -- what each turn makes smaller
 unfoldable pub measure : List ℕ → Cursor → ℕ → Bool → ℕ
 measure input c i going = μ (view c) (drop i input) + pick going 1 0

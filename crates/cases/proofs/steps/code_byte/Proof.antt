@@ -2,11 +2,11 @@ use borrow.Author.Needs.{needs}
 use borrow.Author.Tests.{ltb-true}
 use native.Mathlib.Omega.{arith}
 use Rattle.cases.specs.Laws.Agree.{gathering, gather-full, left-in}
-use Rattle.cases.proofs.steps.take_code.Statement.{statement}
-use Rattle.cases.proofs.steps.take_code.Tie as tie
+use Rattle.cases.proofs.steps.code_byte.Statement.{statement}
+use Rattle.cases.proofs.steps.code_byte.Tie as tie
 
-pub take-code-spec : {M : Type 1} → statement M
-take-code-spec =
+pub code-byte-spec : {M : Type 1} → statement M
+code-byte-spec =
     tie.close
     (tie.spec
     (λ c κs. let s = c .before .before in let a = s .args in let q = left-in (a .count) (a .c) (s .pre .1) (s .pre .0) in (q .0, s .pre .1 .codes-in, ltb-true (a .c .taken) 4294967295 (c .if1 .taken), q .1))
