@@ -10,11 +10,11 @@ use Rattle.layout.specs.Layout.{le, pick}
 use Rattle.case_stream.specs.Stream.{Element, limit, block-code, Says, skip, finish, block, wrong, gives}
 use Rattle.case_stream.specs.Machine.{fits, less, Step, halts, goes, moves, out, put, feed}
 use Rattle.case_stream.specs.Laws.Steps.{μ}
-use Rattle.cases.specs.declared.Cursor.{Cursor}
+use Rattle.case_state.specs.declared.Cursor.{Cursor}
 use Rattle.cases.specs.declared.Verdict.{Verdict}
 use Rattle.cases.specs.declared.Verdict.the-variants.{Skip, Finish, Block, Wrong, Gives}
 use Rattle.cases.specs.declared.Moved.{Moved}
-use Rattle.cases.specs.Cursor.{gather-at, act-at, rest-at, view, Good}
+use Rattle.case_state.specs.Cursor.{gather-at, act-at, rest-at, view, Good}
 
 abbrev pub said : Verdict → Says
 said Skip = skip

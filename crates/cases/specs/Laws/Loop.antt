@@ -13,9 +13,9 @@ use Rattle.layout.specs.Laws.Digits.{length-le}
 use Rattle.case_stream.specs.Stream.{Element}
 use Rattle.case_stream.specs.Machine.{State, Room, fits, has, less, Step, halts, moves, step, Out, out, put, feed}
 use Rattle.case_stream.specs.Laws.Steps.{μ, put-nil, put-put, feed-halts}
-use Rattle.cases.specs.declared.Cursor.{Cursor}
+use Rattle.case_state.specs.declared.Cursor.{Cursor}
 use Rattle.cases.specs.declared.Moved.{Moved}
-use Rattle.cases.specs.Cursor.{view, Good}
+use Rattle.case_state.specs.Cursor.{view, Good}
 use Rattle.cases.specs.Steps.{offered, wrote, halting, Strides, emitted, counted, goes-on, joined, firsts, Fed-is}
 
 joined-append : (es fs : List Element) → joined (es ++ fs) ≡ joined es ++ joined fs

@@ -16,13 +16,13 @@ use Rattle.case_stream.specs.Machine.{State, gather, acting, Room, fits, endles
 use Rattle.case_stream.specs.Laws.Steps.{μ, after-weight, put-nil, falls-goes, step-falls}
 use Rattle.case_stream.specs.Laws.Compose.{less-nil}
 use Rattle.case_stream.specs.Laws.Whole.{room-goes, gather-whole, block-whole}
-use Rattle.cases.specs.declared.Cursor.{Cursor}
+use Rattle.case_state.specs.declared.Cursor.{Cursor}
 use Rattle.cases.specs.declared.Moved.{Moved}
-use Rattle.cases.specs.Cursor.{act-at, view, Counts, Good}
+use Rattle.case_state.specs.Cursor.{act-at, view, Counts, Good}
 use Rattle.cases.specs.Steps.{passed, offered, wrote, step-of, halting, silent, writing, Advances, Strides, eight-at, whole}
-use Rattle.cases.specs.Laws.Counting.{counts-first}
+use Rattle.case_state.specs.Laws.Counting.{counts-first}
 use Rattle.cases.specs.Laws.Goods.{good-act, view-gather, view-acting, view-passed, view-eight}
-use Rattle.cases.specs.Laws.Tests.{both}
+use Rattle.case_state.specs.Laws.Tests.{both}
 use Rattle.cases.specs.Laws.Agree.{block-says, says-block, good-block}
 
 has-one : (r : ℕ) → has (fits (suc r)) ≡ true
