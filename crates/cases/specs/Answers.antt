@@ -11,13 +11,13 @@ use Rattle.layout.specs.Layout.{pick}
 use Rattle.case_stream.specs.Stream.{Element, limit, most-kinds, most-bias, ended, bad, full}
 use Rattle.case_stream.specs.Machine as machine
 use Rattle.case_stream.specs.Machine.{gather, acting, stopped, fits, Out, out}
-use Rattle.cases.specs.declared.Cursor.{Cursor}
-use Rattle.cases.specs.declared.State.{State}
+use Rattle.case_state.specs.declared.Cursor.{Cursor}
+use Rattle.case_state.specs.declared.State.{State}
 use Rattle.cases.specs.declared.Answer.{Answer}
 use Rattle.cases.specs.declared.Call.{Call}
 use Rattle.cases.specs.declared.Started.{Started}
-use Rattle.cases.specs.Cursor.{gather-at, numbers, view}
-use Rattle.cases.specs.Tests.{kinds-ok, state-ok}
+use Rattle.case_state.specs.Cursor.{gather-at, numbers, view}
+use Rattle.case_state.specs.Tests.{kinds-ok, state-ok}
 use Rattle.cases.specs.Steps.{joined, firsts}
 
 abbrev pub well : Answer

@@ -1,12 +1,9 @@
--- The laws of the state and of its steps.
-pub mod Tests
+-- The laws of the steps and of the calls.
 pub mod Digits
-pub mod Counting
 pub mod Goods
 pub mod Agree
 pub mod Quick
 pub mod Loop
-pub mod Valid
 pub mod Canonical
 pub mod Answering
 pub mod Lasting

@@ -1,5 +1,3 @@
-pub mod Cursor
-pub mod Tests
 pub mod Steps
 pub mod Answers
 pub mod Theorem

@@ -10,11 +10,11 @@ use Rattle.layout.specs.Layout.{le, pick}
 use Rattle.case_stream.specs.Stream.{Element, limit, block-code, Says, skip, finish, block, wrong, gives}
 use Rattle.case_stream.specs.Machine.{fits, less, Step, halts, goes, moves, out, put, feed}
 use Rattle.case_stream.specs.Laws.Steps.{μ}
-use Rattle.cases.specs.declared.Cursor.{Cursor}
+use Rattle.case_state.specs.declared.Cursor.{Cursor}
 use Rattle.cases.specs.declared.Verdict.{Verdict}
 use Rattle.cases.specs.declared.Verdict.the-variants.{Skip, Finish, Block, Wrong, Gives}
 use Rattle.cases.specs.declared.Moved.{Moved}
-use Rattle.cases.specs.Cursor.{gather-at, act-at, rest-at, view, Good}
+use Rattle.case_state.specs.Cursor.{gather-at, act-at, rest-at, view, Good}
 
 abbrev pub said : Verdict → Says
 said Skip = skip
@@ -84,13 +84,9 @@ pub record Strides (kind count bias : ℕ) (c : Cursor) (s : List ℕ) (m : Move
 unfoldable pub eight-at : List ℕ → ℕ → List ℕ
 eight-at s i = getD s i 0 ∷ getD s (i + 1) 0 ∷ getD s (i + 2) 0 ∷ getD s (i + 3) 0 ∷ getD s (i + 4) 0 ∷ getD s (i + 5) 0 ∷ getD s (i + 6) 0 ∷ getD s (i + 7) 0 ∷ []
 
--- whether a group or a block begins here
-unfoldable pub begins : Cursor → Bool
-begins c = pick (eqb (c .phase) 0) (eqb (c .left) 0) (pick (eqb (c .phase) 1) (pick (eqb (c .codes % 256) block-code) (eqb (c .filled) 0) false) false)
-
--- whether its eight bytes are among those that are there
-unfoldable pub whole : Cursor → ℕ → Bool
-whole c rest = pick (leb 8 rest) (pick (leb (c .taken) (limit - 8)) (begins c) false) false
+-- whether the eight bytes of a group or a block, of which so many are held, are among those that are there
+unfoldable pub whole : Cursor → ℕ → ℕ → Bool
+whole c held rest = pick (leb 8 rest) (pick (leb (c .taken) (limit - 8)) (eqb held 0) false) false
 
 -- ---- 3. a call
 

@@ -12,15 +12,15 @@ use Rattle.case_stream.specs.Machine.{State as Machine, fits, out, feed, run, s
 use Rattle.case_stream.specs.Cuts.{Calls, no-call, call, out-of}
 use Rattle.case_stream.specs.Laws.OneAnswer.{one-answer}
 use Rattle.case_stream.specs.Laws.Meaning.{run-means}
-use Rattle.cases.specs.declared.Cursor.{Cursor}
-use Rattle.cases.specs.declared.State.{State}
+use Rattle.case_state.specs.declared.Cursor.{Cursor}
+use Rattle.case_state.specs.declared.State.{State}
 use Rattle.cases.specs.declared.Answer.{Answer}
 use Rattle.cases.specs.declared.Call.{Call}
-use Rattle.cases.specs.Cursor.{view, Good}
-use Rattle.cases.specs.Tests.{state-ok}
+use Rattle.case_state.specs.Cursor.{view, Good}
+use Rattle.case_state.specs.Tests.{state-ok}
 use Rattle.cases.specs.Steps.{firsts}
 use Rattle.cases.specs.Answers.{padded, cursor₀, start-ok, start-of, elements, fed-of, answered, call-of, Called}
-use Rattle.cases.specs.Laws.Valid.{state-parts}
+use Rattle.case_state.specs.Laws.Valid.{state-parts}
 use Rattle.cases.specs.Laws.Canonical.{view-one}
 use Rattle.cases.specs.Laws.Lasting.{start-is, start-lasts, padded-firsts}
 

@@ -1,17 +1,10 @@
-// Bytes of the input and of the output: one, or eight as a number, the lowest first.
+// Eight bytes of the input or of the output as a number, the lowest first.
 ghost use mathlib.Core.Path.{_≡_};
 ghost use Prim.Native.Nat.{_+_, _-_, _≤_, _<_};
-ghost use lib.ListN.{length, getD};
+ghost use lib.ListN.{length};
 ghost use lib.Seq.{sets};
 ghost use Rattle.layout.specs.Layout.{le, undigit};
 ghost use Rattle.cases.specs.Steps as spec;
-
-// A byte of the input; 0 where there is none.
-pub fn byte_at(input: &[u8], i: usize) -> u8
-    ensures { λ r. ⌜ r ≡ getD (now (input .entry)) i 0 ⌝ }
-{
-    if i < input.len() { input[i] } else { 0 }
-}
 
 fn wide(x: u8) -> u64
     ensures { λ r. ⌜ (r ≡ x) × (r < 256) ⌝ }

@@ -2,12 +2,12 @@
 ghost use mathlib.Core.Path.{_≡_};
 ghost use Prim.Native.Nat.{_+_, _*_, _/_, _≤_, _<_};
 ghost use lib.ListN.{length};
-ghost use Rattle.cases.specs.Cursor.{Good};
+ghost use Rattle.case_state.specs.Cursor.{Good};
 ghost use Rattle.cases.specs.Steps as spec;
-use crate::Cursor;
 use crate::Fed;
 use crate::bytes::put;
 use crate::steps::stride;
+use case_state::Cursor;
 
 // An element is written, if there is one; how many there are then.
 fn emit(output: &mut [u8], w: usize, writes: bool, x: u64) -> usize

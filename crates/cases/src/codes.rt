@@ -3,12 +3,12 @@ ghost use mathlib.Core.Path.{_≡_};
 ghost use lib.Ieee.{binary64, toBits};
 ghost use Rattle.case_stream.specs.Stream as stream;
 ghost use Rattle.cases.specs.Steps as spec;
-use crate::BLOCK;
-use crate::FINISH;
-use crate::MISSING;
-use crate::NUMERIC;
-use crate::SPACES;
 use crate::Verdict;
+use case_state::BLOCK;
+use case_state::FINISH;
+use case_state::MISSING;
+use case_state::NUMERIC;
+use case_state::SPACES;
 
 // The bits of the double code - bias: both become doubles without loss, and so is their difference.
 fn difference(code: u8, bias: u8) -> u64

@@ -2,28 +2,12 @@
 ghost use mathlib.Core.Path.{_≡_};
 ghost use Prim.Native.Nat.{_+_, _%_, _^_, _≤_, _<_};
 ghost use Rattle.case_stream.specs.Stream as stream;
-ghost use Rattle.cases.specs.Cursor as numbers;
+ghost use Rattle.case_state.specs.Cursor as numbers;
 ghost use Rattle.cases.specs.Steps as spec;
-use crate::ACTS;
-use crate::Cursor;
-use crate::GATHERS;
-
-// 256 to the power n.
-pub fn power(n: usize) -> u64
-    requires { ⌜ n < 8 ⌝ }
-    ensures { λ r. ⌜ r ≡ 256 ^ n ⌝ }
-{
-    match n {
-        0 => 1,
-        1 => 0x100,
-        2 => 0x1_0000,
-        3 => 0x100_0000,
-        4 => 0x1_0000_0000,
-        5 => 0x100_0000_0000,
-        6 => 0x1_0000_0000_0000,
-        _ => 0x100_0000_0000_0000,
-    }
-}
+use case_state::ACTS;
+use case_state::Cursor;
+use case_state::GATHERS;
+use case_state::powers::power;
 
 // Codes that act next, the first of them at this place.
 pub fn acting(at: usize, n: u32, place: u32, codes: u64, left: usize) -> Cursor

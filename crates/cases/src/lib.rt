@@ -6,66 +6,28 @@ mod calls; // a call: steps as long as there is one and an element fits
 mod codes; // what a code says
 mod cursors; // a state with one more byte, or one code fewer
 mod steps; // one step of a call
-mod valid; // whether a state is one
 
 ghost use mathlib.Core.Path.{_≡_};
 ghost use lib.ListN.{length};
 ghost use Prim.Native.Nat.{_≤_};
 ghost use Rattle.cases.specs.Answers as spec;
 use crate::calls::run;
-use crate::valid::kinds_ok;
-use crate::valid::state_ok;
+use case_state::BAD_CODE;
+use case_state::Cursor;
+use case_state::ENDED;
+use case_state::GATHERS;
+use case_state::LIMIT;
+use case_state::MOST_BIAS;
+use case_state::MOST_KINDS;
+use case_state::State;
+use case_state::TOO_MANY;
+use case_state::valid::kinds_ok;
+use case_state::valid::state_ok;
 
-// ---- the numbers of 004 and of document 02: `case_stream/specs/Stream.antt` and `specs/Answers.antt` have the same ones for the contracts
-
-// codes: the end of the data, a block, eight spaces, the missing double
-pub const FINISH: u8 = 252;
-
-pub const BLOCK: u8 = 253;
-
-pub const SPACES: u8 = 254;
-
-pub const MISSING: u8 = 255;
-// kinds of elements
-pub const NUMERIC: u8 = 0;
-
-pub const STRING: u8 = 1;
-// the most elements of a case, and the largest bias
-pub const MOST_KINDS: usize = 256;
-
-pub const MOST_BIAS: u32 = 255;
-// the first byte too many
-pub const LIMIT: u32 = 4294967295;
-// refusals: a byte too many, a bad kind list, bias or state, a bad code, the end too soon
-pub const TOO_MANY: u32 = 7;
-
+// refusals: a bad kind list, bias or state; the end too soon
 pub const BAD_STATE: u32 = 21;
 
-pub const BAD_CODE: u32 = 22;
-
 pub const TOO_SOON: u32 = 23;
-
-// ---- phases of a state: a group's codes are gathered; they act; or reading has stopped: by a 252, by 22, by 7
-
-pub const GATHERS: u32 = 0;
-
-pub const ACTS: u32 = 1;
-
-pub const ENDED: u32 = 252;
-
-// A state but for its kinds and bias: the position in the case, the bytes taken, and the phase. `codes` are those gathered, or still to act, the
-// first of them the lowest byte, `left` of them; `place` is the place of the next code, or of 22; `block` has the `filled` bytes of the
-// next code's block. Whatever is not in use is 0.
-pub struct Cursor {
-    pub at: usize,
-    pub taken: u32,
-    pub phase: u32,
-    pub place: u32,
-    pub codes: u64,
-    pub left: usize,
-    pub block: u64,
-    pub filled: usize,
-}
 
 // What a code says to an element: nothing; that the data ends; that its block follows; that it is refused; the element, eight bytes.
 pub enum Verdict {
@@ -90,14 +52,6 @@ pub struct Fed {
     pub cursor: Cursor,
     pub taken: usize,
     pub written: usize,
-}
-
-// The state between calls: the kinds of a case's elements, `count` of them, and the bias; then what the calls change.
-pub struct State {
-    pub kinds: [u8; 256],
-    pub count: usize,
-    pub bias: u32,
-    pub cursor: Cursor,
 }
 
 // A refusal, or 0, and its place.

@@ -17,7 +17,7 @@ use Rattle.cases.specs.declared.Started.{Started as Beginning}
 use Rattle.cases.specs.declared.Answer.{Answer}
 use Rattle.cases.specs.declared.Call.{Call}
 use Rattle.cases.specs.Answers.{start-of, call-of, output-of, finish-of, Called}
-use Rattle.cases.specs.Laws.Tests.{both}
+use Rattle.case_state.specs.Laws.Tests.{both}
 use Rattle.cases_words.specs.StateWords.{state-words, stateWords, stateOf}
 use Rattle.cases_words.specs.Calls.{short-answer, call-answer, answerWords, callWords, roomy, front, Started, Fed, Ended}
 

@@ -5,8 +5,8 @@ use mathlib.Core.List.{List, [], _∷_, _++_}
 use Prim.Native.Nat.{ℕ, zero, suc, _+_, _*_, _/_, _%_, _^_, min}
 use lib.ListN.{drop, getD}
 use Rattle.layout.specs.Words.{word32}
-use Rattle.cases.specs.declared.Cursor.{Cursor}
-use Rattle.cases.specs.declared.State.{State}
+use Rattle.case_state.specs.declared.Cursor.{Cursor}
+use Rattle.case_state.specs.declared.State.{State}
 use Rattle.cases.specs.Steps.{firsts}
 
 -- the words of a state

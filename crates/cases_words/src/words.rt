@@ -10,8 +10,8 @@ ghost use Rattle.layout.specs.declared.Step.the-variants.{Next};
 ghost use Rattle.store.specs.Puts.{PutsWords};
 ghost use Rattle.cases.specs.Steps.{firsts};
 ghost use Rattle.cases_words.specs.StateWords as spec;
-use cases::Cursor;
-use cases::State;
+use case_state::Cursor;
+use case_state::State;
 use layout::Step;
 use store::words::put;
 

@@ -1,7 +1,7 @@
 use mathlib.Core.Path.{sym, _∙_}
 use borrow.Author.Needs.{needs}
 use native.Mathlib.Omega.{arith}
-use Rattle.cases.specs.Laws.Valid.{state-sound, bias-sound}
+use Rattle.case_state.specs.Laws.Valid.{state-sound, bias-sound}
 use Rattle.cases.specs.Laws.Answering.{call-fed, call-refused}
 use Rattle.cases.proofs.feed.Statement.{statement}
 use Rattle.cases.proofs.feed.Tie as tie

@@ -1,7 +1,7 @@
 use mathlib.Core.Path.{sym, _∙_}
 use Rattle.layout.specs.Layout.{pick}
 use Rattle.cases.specs.Answers.{finish-of}
-use Rattle.cases.specs.Laws.Valid.{state-sound}
+use Rattle.case_state.specs.Laws.Valid.{state-sound}
 use Rattle.cases.specs.Laws.Answering.{end-is}
 use Rattle.cases.proofs.finish.Statement.{statement}
 use Rattle.cases.proofs.finish.Tie as tie

@@ -13,12 +13,12 @@ use Rattle.layout.specs.Layout.{le, pick}
 use Rattle.layout.specs.Laws.Digits.{length-le}
 use Rattle.case_stream.specs.Stream.{limit, block-code, Says, skip, finish, block, wrong, gives, says, value, numeric, string}
 use Rattle.case_stream.specs.Machine.{State, gather, acting, stopped, Step, halts, goes, after, takes, next, blocked, acts, moves}
-use Rattle.cases.specs.declared.Cursor.{Cursor}
+use Rattle.case_state.specs.declared.Cursor.{Cursor}
 use Rattle.cases.specs.declared.Moved.{Moved}
-use Rattle.cases.specs.Cursor.{stop-of, view, Counts, Good, by-252, by-22, by-7}
+use Rattle.case_state.specs.Cursor.{stop-of, view, Counts, Good, by-252, by-22, by-7}
 use Rattle.cases.specs.Steps.{gather-byte, passed, block-byte, stop-at, offered, wrote, step-of, halting, silent, writing, Advances}
 use Rattle.cases.specs.Laws.Digits.{le-snoc, snoc-in}
-use Rattle.cases.specs.Laws.Counting.{counts-skip, counts-gives, counts-block, counts-byte, counts-place}
+use Rattle.case_state.specs.Laws.Counting.{counts-skip, counts-gives, counts-block, counts-byte, counts-place}
 use Rattle.cases.specs.Laws.Goods.{good-gather, good-act, good-rest, good-passed, good-gathered, view-gather, view-acting, view-stopped, view-passed, view-gathered}
 
 -- ---- 1. 253, and no other code, says that a block follows

@@ -14,17 +14,17 @@ use Rattle.layout.specs.Laws.Digits.{length-le}
 use Rattle.case_stream.specs.Stream.{Element, limit, ended, bad, full}
 use Rattle.case_stream.specs.Machine.{gather, acting, stopped, fits, out}
 use Rattle.case_stream.specs.Laws.Taken.{taken as taken-of, held, feed-keeps, feed-spends}
-use Rattle.cases.specs.declared.Cursor.{Cursor}
-use Rattle.cases.specs.declared.State.{State}
+use Rattle.case_state.specs.declared.Cursor.{Cursor}
+use Rattle.case_state.specs.declared.State.{State}
 use Rattle.cases.specs.declared.Answer.{Answer}
 use Rattle.cases.specs.declared.Call.{Call}
-use Rattle.cases.specs.Cursor.{numbers, stop-of, view, Good, StoppedBy, by-252, by-22, by-7}
-use Rattle.cases.specs.Tests.{state-ok}
+use Rattle.case_state.specs.Cursor.{numbers, stop-of, view, Good, StoppedBy, by-252, by-22, by-7}
+use Rattle.case_state.specs.Tests.{state-ok}
 use Rattle.cases.specs.Steps.{joined, firsts, Fed-is}
 use Rattle.cases.specs.Answers.{well, bad-state, too-soon, padded, refusal-of, fed-of, answered, call-of, elements, output-of, Called, ending, refusal-at, unfinished-at, end-at}
 use Rattle.cases.specs.Laws.Goods.{view-gather, view-acting, view-stopped}
-use Rattle.cases.specs.Laws.Counting.{counts-place}
-use Rattle.cases.specs.Laws.Valid.{state-sound}
+use Rattle.case_state.specs.Laws.Counting.{counts-place}
+use Rattle.case_state.specs.Laws.Valid.{state-sound}
 use Rattle.cases.specs.Laws.Canonical.{numbers-view}
 use Rattle.cases.specs.Laws.Lasting.{with-cursor}
 

@@ -12,8 +12,8 @@ use Rattle.layout.specs.Layout.{little, le, undigit, undigits, digits, pick}
 use Rattle.layout.specs.Laws.Digits.{length-le, undigits-digits}
 use Rattle.case_stream.specs.Stream.{Stop, ended, bad, full}
 use Rattle.case_stream.specs.Machine.{State, gather, acting, stopped}
-use Rattle.cases.specs.declared.Cursor.{Cursor}
-use Rattle.cases.specs.Cursor.{gather-at, act-at, rest-at, numbers, stop-of, view, Good, StoppedBy, by-252, by-22, by-7}
+use Rattle.case_state.specs.declared.Cursor.{Cursor}
+use Rattle.case_state.specs.Cursor.{gather-at, act-at, rest-at, numbers, stop-of, view, Good, StoppedBy, by-252, by-22, by-7}
 use Rattle.cases.specs.Laws.Goods.{view-gather, view-acting, view-stopped}
 
 undigit-le : (w x : ℕ) → x < 256 ^ w → undigit (le w x) ≡ x

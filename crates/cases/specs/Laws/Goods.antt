@@ -12,11 +12,11 @@ use Rattle.layout.specs.Layout.{le, pick}
 use Rattle.layout.specs.Laws.Digits.{length-le}
 use Rattle.case_stream.specs.Stream.{limit, block-code}
 use Rattle.case_stream.specs.Machine.{State, gather, acting, stopped, after, gathered}
-use Rattle.cases.specs.declared.Cursor.{Cursor}
-use Rattle.cases.specs.Cursor.{gather-at, act-at, rest-at, stop-of, view, Counts, Good, StoppedBy, by-252, by-22, by-7}
+use Rattle.case_state.specs.declared.Cursor.{Cursor}
+use Rattle.case_state.specs.Cursor.{gather-at, act-at, rest-at, stop-of, view, Counts, Good, StoppedBy, by-252, by-22, by-7}
 use Rattle.cases.specs.Steps.{gather-byte, passed}
 use Rattle.cases.specs.Laws.Digits.{le-snoc, snoc-in}
-use Rattle.cases.specs.Laws.Counting.{counts-first, counts-skip, counts-gives, counts-block, counts-place}
+use Rattle.case_state.specs.Laws.Counting.{counts-first, counts-skip, counts-gives, counts-block, counts-place}
 
 -- ---- 1. the three kinds of state
 

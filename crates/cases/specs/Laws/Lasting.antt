@@ -10,15 +10,15 @@ use lib.Seq.{length-take-le, getD-append-add, take-all}
 use borrow.Author.Tests.{ltb-true, leb-true, eq-eqb}
 use Rattle.layout.specs.Layout.{pick}
 use Rattle.case_stream.specs.Stream.{most-kinds, most-bias}
-use Rattle.cases.specs.declared.Cursor.{Cursor}
-use Rattle.cases.specs.declared.State.{State}
+use Rattle.case_state.specs.declared.Cursor.{Cursor}
+use Rattle.case_state.specs.declared.State.{State}
 use Rattle.cases.specs.declared.Call.{Call}
-use Rattle.cases.specs.Cursor.{Good}
-use Rattle.cases.specs.Tests.{kinds-ok, rest-ok, state-ok, cursor-ok, gather-ok}
+use Rattle.case_state.specs.Cursor.{Good}
+use Rattle.case_state.specs.Tests.{kinds-ok, rest-ok, state-ok, cursor-ok, gather-ok}
 use Rattle.cases.specs.Steps.{firsts}
 use Rattle.cases.specs.Answers.{padded, cursor₀, start-ok, start-of}
-use Rattle.cases.specs.Laws.Tests.{both}
-use Rattle.cases.specs.Laws.Valid.{complete, state-parts}
+use Rattle.case_state.specs.Laws.Tests.{both}
+use Rattle.case_state.specs.Laws.Valid.{complete, state-parts}
 
 -- a good cursor in the place of a state's own
 pub with-cursor : (s : State) (c : Cursor) → state-ok s ≡ true → Good (s .count) c

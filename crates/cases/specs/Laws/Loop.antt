@@ -13,9 +13,9 @@ use Rattle.layout.specs.Laws.Digits.{length-le}
 use Rattle.case_stream.specs.Stream.{Element}
 use Rattle.case_stream.specs.Machine.{State, Room, fits, has, less, Step, halts, moves, step, Out, out, put, feed}
 use Rattle.case_stream.specs.Laws.Steps.{μ, put-nil, put-put, feed-halts}
-use Rattle.cases.specs.declared.Cursor.{Cursor}
+use Rattle.case_state.specs.declared.Cursor.{Cursor}
 use Rattle.cases.specs.declared.Moved.{Moved}
-use Rattle.cases.specs.Cursor.{view, Good}
+use Rattle.case_state.specs.Cursor.{view, Good}
 use Rattle.cases.specs.Steps.{offered, wrote, halting, Strides, emitted, counted, goes-on, joined, firsts, Fed-is}
 
 joined-append : (es fs : List Element) → joined (es ++ fs) ≡ joined es ++ joined fs
@@ -26,15 +26,6 @@ joined-append (e ∷ es) fs = ap (λ (x : List ℕ). e ++ x) (joined-append es f
 sets-append : (vs ws l : List ℕ) (i : ℕ) → sets l i (vs ++ ws) ≡ sets (sets l i vs) (i + length vs) ws
 sets-append [] ws l i = let e : i + 0 ≡ i = omega arith in rw e
 sets-append (v ∷ vs) ws l i = let e : i + suc (length vs) ≡ suc i + length vs = omega arith in rw e (sets-append vs ws (set l i v) (suc i))
-
--- the bytes from a place on, by whether there is one
-pub offers : (input : List ℕ) (i : ℕ) → drop i input ≡ offered (ltb i (length input)) (getD input i 0) (drop (suc i) input)
-unfolding offered pick
-offers input i = by (ltb i (length input)) refl
-  where
-    by : (t : Bool) → ltb i (length input) ≡ t → drop i input ≡ pick t (getD input i 0 ∷ drop (suc i) input) []
-    by true t = drop-cons input i 0 (ltb-true i (length input) t)
-    by false t = drop-of-length-le input (ltb-false i (length input) t)
 
 -- what each turn makes smaller
 unfoldable pub measure : List ℕ → Cursor → ℕ → Bool → ℕ

@@ -5,9 +5,9 @@ use mathlib.Core.List.{List, [], _∷_, _++_}
 use Prim.Native.Nat.{ℕ, zero, suc, _+_, _-_, _*_, _/_, _%_, _^_, _≤_, _<_}
 use native.Mathlib.Omega.{arith}
 use lib.Dec.{eqb, leb, ltb}
-use lib.ListN.{length, take, drop, getD, length-drop, length-take}
+use lib.ListN.{length, take, drop, getD, length-drop, length-take, drop-of-length-le}
 use lib.Seq.{drop-cons}
-use borrow.Author.Tests.{eqb-true, leb-true}
+use borrow.Author.Tests.{eqb-true, leb-true, ltb-true, ltb-false}
 use Rattle.layout.specs.Layout.{little, le, undigit, undigits, digits, Bytes, pick}
 use Rattle.layout.specs.Steps.Slices.{drop-bytes, take-bytes}
 use Rattle.layout.specs.Laws.Digits.{length-le, digits-undigits, undigits-lt}
@@ -16,14 +16,14 @@ use Rattle.case_stream.specs.Machine.{State, gather, acting, Room, fits, endles
 use Rattle.case_stream.specs.Laws.Steps.{μ, after-weight, put-nil, falls-goes, step-falls}
 use Rattle.case_stream.specs.Laws.Compose.{less-nil}
 use Rattle.case_stream.specs.Laws.Whole.{room-goes, gather-whole, block-whole}
-use Rattle.cases.specs.declared.Cursor.{Cursor}
+use Rattle.case_state.specs.declared.Cursor.{Cursor}
 use Rattle.cases.specs.declared.Moved.{Moved}
-use Rattle.cases.specs.Cursor.{act-at, view, Counts, Good}
-use Rattle.cases.specs.Steps.{passed, offered, wrote, step-of, halting, silent, writing, Advances, Strides, eight-at, begins, whole}
-use Rattle.cases.specs.Laws.Counting.{counts-first}
+use Rattle.case_state.specs.Cursor.{act-at, view, Counts, Good}
+use Rattle.cases.specs.Steps.{passed, offered, wrote, step-of, halting, silent, writing, Advances, Strides, eight-at, whole}
+use Rattle.case_state.specs.Laws.Counting.{counts-first}
 use Rattle.cases.specs.Laws.Goods.{good-act, view-gather, view-acting, view-passed, view-eight}
-use Rattle.cases.specs.Laws.Tests.{both}
-use Rattle.cases.specs.Laws.Agree.{block-says, good-block, place-in}
+use Rattle.case_state.specs.Laws.Tests.{both}
+use Rattle.cases.specs.Laws.Agree.{block-says, says-block, good-block}
 
 has-one : (r : ℕ) → has (fits (suc r)) ≡ true
 unfolding has
@@ -64,6 +64,20 @@ module _ (kind count bias : ℕ) (c : Cursor) (more : Bool) (b : ℕ) (s : List 
     leads = λ e kinds l k r. room-goes kinds bias (fits (suc r)) (has-one r) (view c) bytes (view (m .cursor)) (drop (m .takes) bytes) (wrote m) (a .is kinds l k s ∙ moved e);
     falls = λ e kinds l k. falls-goes kinds bias (step kinds bias (view c) bytes endless) (stepped kinds ∙ a .is kinds l k s ∙ moved e) (step-falls kinds bias (view c) bytes endless);
   }
+
+-- the bytes from a place on, by whether there is one
+offers : (input : List ℕ) (i : ℕ) → drop i input ≡ offered (ltb i (length input)) (getD input i 0) (drop (suc i) input)
+unfolding offered pick
+offers input i = by (ltb i (length input)) refl
+  where
+    by : (t : Bool) → ltb i (length input) ≡ t → drop i input ≡ pick t (getD input i 0 ∷ drop (suc i) input) []
+    by true t = drop-cons input i 0 (ltb-true i (length input) t)
+    by false t = drop-of-length-le input (ltb-false i (length input) t)
+
+-- a step with the input's next byte
+pub steps-at : (kind count bias : ℕ) (c : Cursor) (input : List ℕ) (i : ℕ) (more : Bool) (m : Moved) → ltb i (length input) ≡ more → Advances kind count bias c more (getD input i 0) m
+    → Strides kind count bias c (drop i input) m
+steps-at kind count bias c input i more m e a = rw (offers input i, e) (one-step kind count bias c more (getD input i 0) (drop (suc i) input) m a)
 
 -- ---- 2. eight bytes as a number
 
@@ -148,12 +162,9 @@ module _ (kind count bias : ℕ) (c : Cursor) (g : Good count c) (s : List ℕ) 
       falls = λ q kinds l k. lighter;
     }
 
-  module _ (e₀ : eqb (c .phase) 0 ≡ false) (e₁ : eqb (c .phase) 1 ≡ true) (e : eqb (c .codes % 256) 253 ≡ true) (f : eqb (c .filled) 0 ≡ true) where
+  module _ (e₀ : eqb (c .phase) 0 ≡ false) (e₁ : eqb (c .phase) 1 ≡ true) (code : c .codes % 256 ≡ block-code) (f : eqb (c .filled) 0 ≡ true) where
     abbrev d′ : Cursor
     d′ = passed c ((c .at + 1) % count) (c .taken + 8)
-
-    code : c .codes % 256 ≡ block-code
-    code = eqb-true (c .codes % 256) 253 e
 
     none-filled : c .filled ≡ 0
     none-filled = eqb-true (c .filled) 0 f
@@ -191,47 +202,26 @@ module _ (kind count bias : ℕ) (c : Cursor) (g : Good count c) (s : List ℕ) 
       falls = λ q kinds l k. lighter-block;
     }
 
--- ---- 4. the test whether a group or a block begins
+-- ---- 4. where the eight bytes are there
 
-whole-parts : (c : Cursor) (rest : ℕ) → whole c rest ≡ true → (8 ≤ rest) × (c .taken + 8 ≤ limit) × (begins c ≡ true)
-unfolding whole
-whole-parts c rest t =
-    let a = both _ _ t in
-    let b = both _ _ (a .1) in
-    (leb-true 8 rest (a .0), omega (arith, leb-true (c .taken) (limit - 8) (b .0)), b .1)
-
-begins-group : (c : Cursor) → begins c ≡ true → eqb (c .phase) 0 ≡ true → eqb (c .left) 0 ≡ true
-unfolding begins pick
-begins-group c t e = rw e at t
-
-begins-block : (c : Cursor) → begins c ≡ true → eqb (c .phase) 0 ≡ false → (eqb (c .phase) 1 ≡ true) × (eqb (c .codes % 256) 253 ≡ true) × (eqb (c .filled) 0 ≡ true)
-unfolding begins pick
-begins-block c t e =
-    let a = both _ _ (rw e at t) in
-    let b = both _ _ (a .1) in
-    (a .0, b .0, b .1)
-
-module _ (kind count bias : ℕ) (c : Cursor) (g : Good count c) (s : List ℕ) (i x : ℕ) (bs : Bytes s) (t : whole c (length s - i) ≡ true) (e : x ≡ undigit (eight-at s i)) where
-  abbrev parts : (8 ≤ length s - i) × (c .taken + 8 ≤ limit) × (begins c ≡ true)
-  parts = whole-parts c (length s - i) t
+module _ (kind count bias : ℕ) (c : Cursor) (g : Good count c) (s : List ℕ) (i held : ℕ) (t : whole c held (length s - i) ≡ true) where
+  pub whole-in : (8 ≤ length s - i) × (c .taken + 8 ≤ limit) × (eqb held 0 ≡ true)
+  unfolding whole
+  whole-in =
+      let a = both _ _ t in
+      let b = both _ _ (a .1) in
+      (leb-true 8 (length s - i) (a .0), omega (arith, leb-true (c .taken) (limit - 8) (b .0)), b .1)
 
   there-8 : 8 ≤ length (drop i s)
-  there-8 = omega (arith, parts .0, length-drop i s)
+  there-8 = omega (arith, whole-in .0, length-drop i s)
 
-  pub group-of : eqb (c .phase) 0 ≡ true → Strides kind count bias c (drop i s) (silent (act-at (c .at) (c .taken + 8) (c .taken) x 8 0 0) 8)
-  group-of e₀ =
-      let b = eight-bytes s i x bs (parts .0) e in
-      whole-group kind count bias c g (drop i s) x there-8 (parts .1) (b .0) (b .1) e₀ (begins-group c (parts .2) e₀)
+  module _ (x : ℕ) (bs : Bytes s) (e : x ≡ undigit (eight-at s i)) where
+    abbrev eight : (le 8 x ≡ take 8 (drop i s)) × (x < 256 ^ 8)
+    eight = eight-bytes s i x bs (whole-in .0) e
 
-  pub block-of : eqb (c .phase) 0 ≡ false → Strides kind count bias c (drop i s) (writing (passed c ((c .at + 1) % count) (c .taken + 8)) 8 x)
-  block-of e₀ =
-      let b = eight-bytes s i x bs (parts .0) e in
-      let q = begins-block c (parts .2) e₀ in
-      whole-block kind count bias c g (drop i s) x there-8 (parts .1) (b .0) (b .1) e₀ (q .0) (q .1) (q .2)
+    pub group-of : held ≡ c .left → eqb (c .phase) 0 ≡ true → Strides kind count bias c (drop i s) (silent (act-at (c .at) (c .taken + 8) (c .taken) x 8 0 0) 8)
+    group-of h e₀ = whole-group kind count bias c g (drop i s) x there-8 (whole-in .1) (eight .0) (eight .1) e₀ (rw h at (whole-in .2))
 
--- for the needs of the code
-pub whole-in : (c : Cursor) (rest : ℕ) → whole c rest ≡ true → (8 ≤ rest) × (c .taken + 8 ≤ limit)
-whole-in c rest t = let p = whole-parts c rest t in (p .0, p .1)
-
-pub whole-place : (count : ℕ) (c : Cursor) (rest : ℕ) → Good count c → whole c rest ≡ true → eqb (c .phase) 0 ≡ false → c .place < limit
-whole-place count c rest g t e = let p = whole-parts c rest t in place-in count c g (begins-block c (p .2) e .0) (omega (arith, p .1))
+    pub block-of : held ≡ c .filled → eqb (c .phase) 0 ≡ false → eqb (c .phase) 1 ≡ true → says kind bias (c .codes % 256) ≡ block
+        → Strides kind count bias c (drop i s) (writing (passed c ((c .at + 1) % count) (c .taken + 8)) 8 x)
+    block-of h e₀ e₁ q = whole-block kind count bias c g (drop i s) x there-8 (whole-in .1) (eight .0) (eight .1) e₀ e₁ (says-block kind bias (c .codes % 256) q) (rw h at (whole-in .2))

@@ -9,7 +9,7 @@ use Rattle.cases.specs.Steps.{firsts}
 use Rattle.cases.specs.Answers.{padded}
 use Rattle.cases.specs.Laws.Loop.{length-firsts, getD-firsts}
 use Rattle.cases.specs.Laws.Answering.{pad-none, pad-more}
-use Rattle.cases.specs.declared.State.{State}
+use Rattle.case_state.specs.declared.State.{State}
 use Rattle.cases_words.specs.StateWords.{state-words, first-kind, headWords, stateWords, narrowed, kindsOf}
 
 length-narrowed : (l : List ℕ) → length (narrowed l) ≡ length l

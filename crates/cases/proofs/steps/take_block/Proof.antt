@@ -1,8 +1,10 @@
+use mathlib.Core.Path.{refl, sym, _∙_}
+use mathlib.Core.Bool.{true, false}
 use borrow.Author.Needs.{needs}
-use borrow.Author.Tests.{ltb-true}
 use native.Mathlib.Omega.{arith}
-use Rattle.cases.specs.Laws.Digits.{byte-in}
-use Rattle.cases.specs.Laws.Agree.{blocking, written, block-full, place-in, filled-in}
+use Rattle.layout.specs.Steps.Slices.{bytes-of}
+use Rattle.cases.specs.Laws.Agree.{block-waiting, place-in}
+use Rattle.cases.specs.Laws.Quick.{steps-at, block-of, whole-in}
 use Rattle.cases.proofs.steps.take_block.Statement.{statement}
 use Rattle.cases.proofs.steps.take_block.Tie as tie
 
@@ -10,17 +12,16 @@ pub take-block-spec : {M : Type 1} → statement M
 take-block-spec =
     tie.close
     (tie.spec
-    (λ c κs. let s = c .before .before in let a = s .args in filled-in (a .count) (a .c) (s .pre .2) (s .pre .1))
-    (λ c. let s = c .before .before .before in let a = s .args in rw (c .power .ensures) (omega (arith, byte-in (a .c .filled) (a .c .block) (a .b) (filled-in (a .count) (a .c) (s .pre .2) (s .pre .1)) (s .pre .2 .block-in) (omega arith))))
-    (λ c. let s = c .before .before .before .before in let a = s .args in rw (c .before .power .ensures) (omega (arith, byte-in (a .c .filled) (a .c .block) (a .b) (filled-in (a .count) (a .c) (s .pre .2) (s .pre .1)) (s .pre .2 .block-in) (omega arith))))
-    (λ c κs. let s = c .before .before .before .before .before in let a = s .args in (ltb-true (a .c .taken) 4294967295 (c .before .before .before .if1 .taken), filled-in (a .count) (a .c) (s .pre .2) (s .pre .1)))
     (λ _ _. tt)
+    (λ _ _. tt)
+    (λ c κs. let t = c in let s = t .before .before .before .before in let a = s .args in whole-in (a .kind) (a .count) (a .bias) (a .c) (s .pre .2) (a .input .now) (a .i) _ (rw (t .before .before .left .ensures) at (sym (t .before .whole .ensures) ∙ t .if1 .taken)) .0)
     (λ c κs. c .before .before .before .before .before .pre .2 .at-in)
-    (λ c. omega (arith, ltb-true))
+    (λ c. let t = c .before .before .before in let s = t .before .before .before .before in let a = s .args in omega (arith, whole-in (a .kind) (a .count) (a .bias) (a .c) (s .pre .2) (a .input .now) (a .i) _ (rw (t .before .before .left .ensures) at (sym (t .before .whole .ensures) ∙ t .if1 .taken)) .1))
     (λ c κs. let s = c .before .before .before .before .before .before .before in let a = s .args in place-in (a .count) (a .c) (s .pre .2) (s .pre .1) (omega arith))
     (λ _ _. tt)
+    (λ c. let t = c .before .before .before .before .before in let s = t .before .before .before .before in let a = s .args in rw (c .writing .ensures, c .before .passed .ensures, c .before .before .before .following .ensures) (block-of (a .kind) (a .count) (a .bias) (a .c) (s .pre .2) (a .input .now) (a .i) _ (rw (t .before .before .left .ensures) at (sym (t .before .whole .ensures) ∙ t .if1 .taken)) _ (bytes-of (a .input .now) (t .before .before .before .shared-slice-known .given)) (c .before .before .before .before .eight-bytes .ensures) refl (s .pre .0) (s .pre .1) (s .pre .3)))
+    (λ c. search needs)
+    (λ c κs. c .before .before .before .before .before .before .pre)
+    (λ c. let a = c .before .before .before .before .before .before .before .args in steps-at (a .kind) (a .count) (a .bias) (a .c) (a .input .now) (a .i) true _ (c .before .before .if2 .taken) (c .block-byte .ensures))
     (λ _ _. tt)
-    (λ _ _. tt)
-    (λ c. let s = c .before .before .before .before .before .before .before in let a = s .args in rw (c .silent .ensures, c .before .blocked .ensures, c .before .before .before .before .power .ensures) (blocking (a .kind) (a .count) (a .bias) (a .c) (a .b) (s .pre .2) (s .pre .0) (s .pre .1) (omega arith) (s .pre .3) (c .before .before .before .before .before .if1 .taken) (c .before .before .if2 .taken)))
-    (λ c. let s = c .before .before .before .before .before .before .before .before .before in let a = s .args in rw (c .writing .ensures, c .before .passed .ensures, c .before .before .before .following .ensures, c .before .before .before .before .before .before .power .ensures) (written (a .kind) (a .count) (a .bias) (a .c) (a .b) (s .pre .2) (s .pre .0) (s .pre .1) (omega arith) (s .pre .3) (c .before .before .before .before .before .before .before .if1 .taken) (c .before .before .before .before .if2 .left)))
-    (λ c. let s = c .before .before .before .before in let a = s .args in rw (c .silent2 .ensures, c .before .stopped .ensures) (block-full (a .kind) (a .count) (a .bias) (a .c) (a .b) (s .pre .2) (s .pre .0) (s .pre .1) (omega arith) (s .pre .3) (c .before .before .if1 .left))))
+    (λ c. let s = c .before .before .before .before .before .before in let a = s .args in rw (c .halting .ensures) (steps-at (a .kind) (a .count) (a .bias) (a .c) (a .input .now) (a .i) false _ (c .before .if2 .left) (block-waiting (a .kind) (a .count) (a .bias) (a .c) _ (s .pre .2) (s .pre .0) (s .pre .1) (s .pre .3)))))

@@ -10,7 +10,6 @@ whole-spec =
     tie.close
     (tie.spec
     (λ c. search needs)
-    (λ _ _. tt)
-    (λ c. rw (c .before .before .before .if1 .taken, c .before .if2 .taken) (c .begins .ensures))
+    (λ c. rw (c .before .before .if1 .taken, c .if2 .taken))
     (λ c. rw (c .before .before .if1 .taken, c .if2 .left))
     (λ c. rw (c .if1 .left)))
