@@ -67,7 +67,7 @@ ascii-on u start i n h a b =
 pub ascii-start : (u : List ℕ) (i : ℕ) → Ascii u i (i - i)
 ascii-start u i = let z : i - i ≡ 0 = omega arith in rw z (ascii-none u i)
 
--- what two numbers have of bits, both have
+-- the `or` of two numbers is under 128 only if both are: a run goes on by one byte
 pub ascii-or : (u : List ℕ) (i n bits : ℕ) → (bits < ascii → Ascii u i n) → bitOr bits (getD u (i + n) 0) < ascii → Ascii u i (n + 1)
 ascii-or u i n bits a h =
     let b = getD u (i + n) 0 in
