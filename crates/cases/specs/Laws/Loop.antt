@@ -5,8 +5,8 @@ use mathlib.Core.List.{List, [], _∷_, _++_, append-assoc, append-nil}
 use Prim.Native.Nat.{ℕ, zero, suc, _+_, _-_, _*_, _/_, _%_, _≤_, _<_}
 use native.Mathlib.Omega.{arith}
 use lib.Dec.{ltb}
-use lib.ListN.{length, take, drop, getD, set, length-append, length-drop, drop-of-length-le}
-use lib.Seq.{sets, drop-cons, drop-drop, length-sets, getD-drop}
+use lib.ListN.{length, take, drop, getD, set, length-append, length-drop}
+use lib.Seq.{sets, drop-drop, length-sets, getD-drop}
 use borrow.Author.Tests.{ltb-true, ltb-false}
 use Rattle.layout.specs.Layout.{le, pick}
 use Rattle.layout.specs.Laws.Digits.{length-le}
@@ -16,7 +16,7 @@ use Rattle.case_stream.specs.Laws.Steps.{μ, put-nil, put-put, feed-halts}
 use Rattle.case_state.specs.declared.Cursor.{Cursor}
 use Rattle.cases.specs.declared.Moved.{Moved}
 use Rattle.case_state.specs.Cursor.{view, Good}
-use Rattle.cases.specs.Steps.{offered, wrote, halting, Strides, emitted, counted, goes-on, joined, firsts, Fed-is}
+use Rattle.cases.specs.Steps.{wrote, Strides, emitted, counted, goes-on, joined, firsts, Fed-is}
 
 joined-append : (es fs : List Element) → joined (es ++ fs) ≡ joined es ++ joined fs
 unfolding joined

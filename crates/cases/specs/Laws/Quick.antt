@@ -19,7 +19,7 @@ use Rattle.case_stream.specs.Laws.Whole.{room-goes, gather-whole, block-whole}
 use Rattle.case_state.specs.declared.Cursor.{Cursor}
 use Rattle.cases.specs.declared.Moved.{Moved}
 use Rattle.case_state.specs.Cursor.{act-at, view, Counts, Good}
-use Rattle.cases.specs.Steps.{passed, offered, wrote, step-of, halting, silent, writing, Advances, Strides, eight-at, whole}
+use Rattle.cases.specs.Steps.{passed, offered, wrote, step-of, silent, writing, Advances, Strides, eight-at, whole}
 use Rattle.case_state.specs.Laws.Counting.{counts-first}
 use Rattle.cases.specs.Laws.Goods.{good-act, view-gather, view-acting, view-passed, view-eight}
 use Rattle.case_state.specs.Laws.Tests.{both}

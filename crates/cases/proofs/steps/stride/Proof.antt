@@ -1,5 +1,4 @@
 use mathlib.Core.Path.{refl}
-use borrow.Author.Needs.{needs}
 use Rattle.cases.specs.Laws.Agree.{resting}
 use Rattle.cases.specs.Laws.Quick.{steps-at}
 use Rattle.cases.proofs.steps.stride.Statement.{statement}
