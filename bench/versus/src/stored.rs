@@ -33,9 +33,11 @@ pub fn members() -> Vec<Stored> {
     members
 }
 
-/// Those members that a statistics package wrote; made ones are named by a letter and a number.
+/// Those members that a statistics package wrote; made ones are named by a letter and a number, or
+/// by what was done to a real one.
 pub fn real_members() -> Vec<Stored> {
-    let made = |name: &str| name.as_bytes().get(1).is_some_and(u8::is_ascii_digit);
+    let numbered = |name: &str| name.as_bytes().get(1).is_some_and(u8::is_ascii_digit);
+    let made = |name: &str| numbered(name) || name.ends_with("_repeated.bin");
     members().into_iter().filter(|member| !made(&member.name)).collect()
 }
 

@@ -20,9 +20,9 @@ use digarumbi_versus::large::{
     ascending, deepest_member, member_of_strings, member_with_cells, member_with_nested_categories,
     shuffled, version_1_with_cells, version_1_with_free_bytes,
 };
-use digarumbi_versus::members_check;
 use digarumbi_versus::look_check::LookCheck;
 use digarumbi_versus::member_check::MemberCheck;
+use digarumbi_versus::members_check;
 use digarumbi_versus::position_check;
 use digarumbi_versus::repeats::{members_with_repeats, CUT_BYTES};
 use digarumbi_versus::stored;
