@@ -96,6 +96,44 @@ static void totals(struct bytes member)
     CHECK(answer[DIGARUMBI_TOTAL_REFUSAL] == DIGARUMBI_REFUSED_NO_SUCH_LEAF);
 }
 
+/* The same member twice in one buffer, one that is cut, and one that is not inside. */
+static void lists(struct bytes member)
+{
+    const uint32_t length = (uint32_t)member.length;
+    const uint32_t list[] = {0, length, 0, length, 0, 1000, 1, length};
+    static uint32_t answers[DIGARUMBI_MEMBERS + 4 * DIGARUMBI_MEMBER_ANSWER];
+    const uint32_t *first = answers + DIGARUMBI_MEMBERS, *third = first + 2 * DIGARUMBI_MEMBER_ANSWER;
+    const uint32_t *fourth = third + DIGARUMBI_MEMBER_ANSWER;
+    const size_t words = sizeof answers / sizeof *answers;
+
+    CHECK(digarumbi_read_members(member.at, member.length, list, 8, answers, words, nodes, DIGARUMBI_NODE_AREA, cells,
+                                 DIGARUMBI_CELL_AREA) == words);
+    CHECK(answers[DIGARUMBI_REFUSAL] == 0 && first[DIGARUMBI_REFUSAL] == 0 && first[DIGARUMBI_NODE_COUNT] == 9);
+    CHECK(memcmp(first, first + DIGARUMBI_MEMBER_ANSWER, 4 * DIGARUMBI_MEMBER_ANSWER) == 0);
+    CHECK(memcmp(nodes, nodes + DIGARUMBI_NODE_AREA / 4, 4 * 9 * 7) == 0);
+    CHECK(third[DIGARUMBI_REFUSAL] == DIGARUMBI_REFUSED_DOES_NOT_FIT && third[DIGARUMBI_PLACE] == 911);
+    CHECK(fourth[DIGARUMBI_REFUSAL] == DIGARUMBI_REFUSED_DOES_NOT_FIT && fourth[DIGARUMBI_PLACE] == 0);
+    CHECK(digarumbi_read_members(member.at, member.length, list, 7, answers, words, nodes, 0, cells, 0) == DIGARUMBI_MEMBERS);
+    CHECK(answers[DIGARUMBI_REFUSAL] == DIGARUMBI_REFUSED_BAD_LIST);
+    CHECK(digarumbi_read_members(member.at, member.length, list, 8, answers, words - 1, nodes, 0, cells, 0) == 0);
+}
+
+/* Document 01's index 33 of n 3, 4, 5: the second dimension in rows, the others in columns with the third the inner one. */
+static void positions(void)
+{
+    const uint32_t ns[] = {3, 4, 5}, order[] = {1, 2, 0};
+
+    CHECK(digarumbi_position(ns, 3, 0, 1, 2, order, 3, 33, answer, DIGARUMBI_POSITION_WORDS) == DIGARUMBI_POSITION_WORDS);
+    CHECK(answer[DIGARUMBI_POSITION_REFUSAL] == 0 && answer[DIGARUMBI_POSITION_LAYER] == 0);
+    CHECK(answer[DIGARUMBI_POSITION_ROW] == 2 && answer[DIGARUMBI_POSITION_COLUMN] == 8);
+    CHECK(digarumbi_index(ns, 3, 0, 1, 2, order, 3, 0, 2, 8, answer, DIGARUMBI_INDEX_WORDS) == DIGARUMBI_INDEX_WORDS);
+    CHECK(answer[DIGARUMBI_INDEX_REFUSAL] == 0 && answer[DIGARUMBI_INDEX_INDEX] == 33);
+    digarumbi_index(ns, 3, 0, 1, 2, order, 3, 1, 2, 8, answer, DIGARUMBI_INDEX_WORDS);
+    CHECK(answer[DIGARUMBI_INDEX_REFUSAL] == DIGARUMBI_REFUSED_CELL_INDEX);
+    digarumbi_position(ns, 3, 0, 1, 2, order, 2, 33, answer, DIGARUMBI_POSITION_WORDS);
+    CHECK(answer[DIGARUMBI_POSITION_REFUSAL] == DIGARUMBI_REFUSED_AXES);
+}
+
 static void looks(struct bytes look)
 {
     static uint8_t out[DIGARUMBI_LONGEST_LOOK];
@@ -188,6 +226,8 @@ int main(int argc, char **argv)
     records(coefficients);
     refusals(coefficients);
     totals(statistics);
+    lists(coefficients);
+    positions();
     looks(look);
     texts();
     cases();

@@ -34,6 +34,36 @@ static void names(void)
     CHECK(digarumbi_node_after(NULL, 0, 3, 0) == 3);
 }
 
+static void lists(const uint8_t *member, size_t length)
+{
+    uint32_t *no = NULL;
+    uint32_t list[2] = {0, 0};
+    static uint32_t answers[DIGARUMBI_MEMBERS + DIGARUMBI_MEMBER_ANSWER];
+
+    list[1] = (uint32_t)length;
+    CHECK(digarumbi_read_members(NULL, 0, NULL, 0, answers, DIGARUMBI_MEMBERS, no, 0, no, 0) == DIGARUMBI_MEMBERS);
+    CHECK(answers[DIGARUMBI_REFUSAL] == 0 && answers[DIGARUMBI_PLACE] == 0);
+    CHECK(digarumbi_read_members(NULL, 0, list, 2, answers, DIGARUMBI_MEMBERS + DIGARUMBI_MEMBER_ANSWER, no, 0, no, 0) ==
+          DIGARUMBI_MEMBERS + DIGARUMBI_MEMBER_ANSWER);
+    CHECK(answers[DIGARUMBI_MEMBERS + DIGARUMBI_REFUSAL] == DIGARUMBI_REFUSED_DOES_NOT_FIT);
+    CHECK(digarumbi_read_members(member, length, list, 2, answers, DIGARUMBI_MEMBERS + DIGARUMBI_MEMBER_ANSWER, no, 0, no, 0) ==
+          DIGARUMBI_MEMBERS + DIGARUMBI_MEMBER_ANSWER);
+    CHECK(answers[DIGARUMBI_MEMBERS + DIGARUMBI_REFUSAL] == DIGARUMBI_REFUSED_NODE_AREA);
+    CHECK(digarumbi_read_members(member, length, list, 2, no, 0, no, 0, no, 0) == 0);
+}
+
+static void positions(void)
+{
+    CHECK(digarumbi_position(NULL, 0, 0, 0, 0, NULL, 0, 0, answer, DIGARUMBI_POSITION_WORDS) == DIGARUMBI_POSITION_WORDS);
+    CHECK(answer[DIGARUMBI_POSITION_REFUSAL] == 0 && answer[DIGARUMBI_POSITION_COLUMN] == 0);
+    CHECK(digarumbi_position(NULL, 0, 0, 0, 0, NULL, 0, 1, answer, DIGARUMBI_POSITION_WORDS) == DIGARUMBI_POSITION_WORDS);
+    CHECK(answer[DIGARUMBI_POSITION_REFUSAL] == DIGARUMBI_REFUSED_CELL_INDEX);
+    CHECK(digarumbi_position(NULL, 0, 0, 0, 0, NULL, 0, 0, NULL, 0) == 0);
+    CHECK(digarumbi_index(NULL, 0, 0, 0, 0, NULL, 0, 0, 0, 0, answer, DIGARUMBI_INDEX_WORDS) == DIGARUMBI_INDEX_WORDS);
+    CHECK(answer[DIGARUMBI_INDEX_REFUSAL] == 0 && answer[DIGARUMBI_INDEX_INDEX] == 0);
+    CHECK(digarumbi_index(NULL, 0, 0, 0, 0, NULL, 0, 0, 0, 0, NULL, 0) == 0);
+}
+
 static void totals(const uint8_t *member, size_t length)
 {
     uint32_t *no = NULL;
@@ -125,6 +155,8 @@ int main(int argc, char **argv)
     look = file(argv[1], "look_02.tlo");
     members(member.at, member.length);
     names();
+    lists(member.at, member.length);
+    positions();
     totals(member.at, member.length);
     values();
     looks(look.at, look.length);
