@@ -1,7 +1,7 @@
 // Whether a state is one that a start and calls can leave: a state with a number out of range is 21. `specs/Cursor.antt` says what is asked
 // of one (`Good`), and `specs/Laws/Valid.antt` proves that these tests ask just that.
 ghost use mathlib.Core.Path.{_≡_};
-ghost use Prim.Native.Nat.{_-_, _^_, _≤_, _<_};
+ghost use Prim.Native.Nat.{_-_, _^_, _≤_, _<_, min};
 ghost use lib.Dec.{ltb};
 ghost use Rattle.case_state.specs.Tests as spec;
 use crate::ACTS;
@@ -17,6 +17,7 @@ use crate::STRING;
 use crate::State;
 use crate::TOO_MANY;
 use crate::powers::power;
+use layout::number::at_most;
 use layout::number::between;
 
 // Whether x has at most n bytes.
@@ -210,10 +211,9 @@ fn cursor_ok(count: usize, c: Cursor) -> bool
 
 // Whether the first `count` kinds are known ones.
 pub fn kinds_ok(count: usize, kinds: &[u8; 256]) -> bool
-    requires { ⌜ count ≤ 256 ⌝ }
-    ensures { λ r. ⌜ r ≡ spec.kinds-ok count (now (kinds .entry)) ⌝ }
+    ensures { λ r. ⌜ r ≡ spec.kinds-ok (min count 256) (now (kinds .entry)) ⌝ }
 {
-    let mut i = count;
+    let mut i = at_most(count, MOST_KINDS);
     while 0 < i {
         i -= 1;
         if STRING < kinds[i] {

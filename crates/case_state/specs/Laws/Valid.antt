@@ -3,7 +3,7 @@ use mathlib.Core.Path.{_≡_, refl, sym, ap, _∙_}
 use mathlib.Core.Bool.{Bool, true, false}
 use mathlib.Core.List.{List}
 use mathlib.Core.Logic.{_↔_}
-use Prim.Native.Nat.{ℕ, zero, suc, _+_, _-_, _%_, _^_, _≤_, _<_}
+use Prim.Native.Nat.{ℕ, zero, suc, _+_, _-_, _%_, _^_, _≤_, _<_, min}
 use native.Mathlib.Omega.{arith}
 use lib.Dec.{eqb, leb, ltb}
 use lib.ListN.{getD}
@@ -162,6 +162,10 @@ module _ (count : ℕ) (c : Cursor) where
   passes-exactly = (sound, complete)
 
 -- ---- 3. kinds
+
+-- so many kinds are all that there are
+pub kinds-few : (n : ℕ) (l : List ℕ) → leb n most-kinds ≡ true → kinds-ok n l ≡ kinds-ok (min n most-kinds) l
+kinds-few n l t = let few : n ≤ most-kinds = leb-true n most-kinds t in ap (λ (k : ℕ). kinds-ok k l) (omega arith)
 
 pub kinds-bad : (n : ℕ) (l : List ℕ) → 0 < n → string-kind < getD l (n - 1) 0 → kinds-ok n l ≡ false
 unfolding kinds-ok pick

@@ -1,7 +1,7 @@
 -- Bytes as a number, one more of them at the end.
 use mathlib.Core.Path.{_≡_, refl}
 use mathlib.Core.List.{List, [], _∷_, _++_}
-use Prim.Native.Nat.{ℕ, zero, suc, _+_, _*_, _/_, _%_, _^_, _≤_, _<_}
+use Prim.Native.Nat.{ℕ, zero, suc, _+_, _*_, _/_, _%_, _^_, _≤_, _<_, min}
 use native.Mathlib.Nat.{pow-suc, mul-le-mul-right, pow-le-pow-right}
 use native.Mathlib.Numerals.{add-one}
 use native.Mathlib.Omega.{arith}
@@ -27,6 +27,9 @@ snoc-in w x b h k =
 
 pub power-in : (w : ℕ) → w ≤ 8 → 256 ^ w ≤ 2 ^ 64
 power-in w h = let l : 0 < 256 = omega arith in pow-le-pow-right l h
+
+pub small-power : {n p : ℕ} → n < 8 → p ≡ 256 ^ min n 7 → p ≡ 256 ^ n
+small-power {n} h e = let same : min n 7 ≡ n = omega arith in rw same at e
 
 pub byte-in : (l x b : ℕ) → l < 8 → x < 256 ^ l → b < 256 → x + b * 256 ^ l < 2 ^ 64
 byte-in l x b h k q = let m : l + 1 ≤ 8 = omega arith in omega (arith, snoc-in l x b k q, power-in (l + 1) m)

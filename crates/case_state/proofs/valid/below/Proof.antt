@@ -2,7 +2,7 @@ use mathlib.Core.Path.{sym, ap}
 use borrow.Author.Needs.{needs}
 use borrow.Author.Tests.{lt-ltb}
 use native.Mathlib.Omega.{arith}
-use Prim.Native.Nat.{ℕ, _≤_, _<_, _^_}
+use Prim.Native.Nat.{ℕ, _≤_, _<_, _^_, min}
 use lib.Dec.{ltb}
 use mathlib.Core.Path.{_≡_}
 use mathlib.Core.Bool.{true}
@@ -17,6 +17,6 @@ pub below-spec : {M : Type 1} → statement M
 below-spec =
     tie.close
     (tie.spec
-    (λ c κs. search needs)
-    (λ c. rw (c .power .ensures))
+    (λ _ _. tt)
+    (λ c. let e : min (c .before .before .args .n) 7 ≡ c .before .before .args .n = omega arith in rw (c .power .ensures, e))
     (λ c. all (c .before .args .x) (c .before .args .n) (omega arith) (omega arith)))

@@ -1,14 +1,15 @@
 -- The invariant: what is left to test gives the whole.
 use mathlib.Core.Path.{_≡_, refl, sym, _∙_}
-use Prim.Native.Nat.{_≤_, _-_}
+use Prim.Native.Nat.{_≤_, _-_, min}
 use native.Mathlib.Omega.{arith}
+use Rattle.case_stream.specs.Stream.{most-kinds}
 use Rattle.case_state.specs.Tests.{kinds-ok}
 use Rattle.case_state.specs.Laws.Valid.{kinds-bad, kinds-next}
 use Rattle.case_state.proofs.valid.kinds_ok.Statement.{statement}
 use Rattle.case_state.proofs.valid.kinds_ok.Tie as tie
 
 abbrev Inv-loop : tie.InvT-loop
-Inv-loop count kinds i₀ i = (i ≤ count) × (kinds-ok count kinds ≡ kinds-ok i kinds)
+Inv-loop count kinds i₀ i = (i ≤ min count most-kinds) × (kinds-ok (min count most-kinds) kinds ≡ kinds-ok i kinds)
 
 abbrev μ-loop : tie.MeasureT-loop
 μ-loop count kinds i₀ i = i
@@ -23,12 +24,13 @@ kinds-ok-spec =
     (tie.spec
     Inv-loop
     μ-loop
-    (λ c. (omega arith, refl))
+    (λ _ _. tt)
+    (λ c. (omega (arith, c .at-most .ensures), rw (c .at-most .ensures)))
     (λ c. omega arith)
     (λ c. omega arith)
     (λ c. let l = c .before .before .before in
-    sym (l .loop .inv .1 ∙ kinds-bad (l .loop .i) (l .before .args .kinds .now) (omega arith) (omega arith)))
+    sym (l .loop .inv .1 ∙ kinds-bad (l .loop .i) (l .before .before .args .kinds .now) (omega arith) (omega arith)))
     (λ c. omega arith)
     (λ c. let l = c .before .before .before in
-    (omega arith, l .loop .inv .1 ∙ kinds-next (l .loop .i) (l .before .args .kinds .now) (omega arith) (omega arith)))
+    (omega arith, l .loop .inv .1 ∙ kinds-next (l .loop .i) (l .before .before .args .kinds .now) (omega arith) (omega arith)))
     returns-2)
