@@ -13,8 +13,8 @@ use Rattle.layout.specs.Read.{Got, got, no}
 use Rattle.member.specs.Member.{Member, dimensions, nodes, cells, ns}
 use Rattle.member.specs.Answer.{wide, long, nodesAfter, cellsAfter}
 use Rattle.member.specs.Checked.{checked}
-use Rattle.member.specs.Refused.{RefusedWith}
-use Rattle.member.specs.Demand3.{Accepted}
+use Rattle.member.specs.declared.Answer.{Answer}
+use Rattle.member.specs.Demand3.{Demand3, Accepted}
 use Rattle.total.specs.declared.sums.Sums.{Sums}
 use Rattle.total.specs.declared.LeafTotal.{LeafTotal}
 use Rattle.total.specs.declared.DimensionTotals.{DimensionTotals}
@@ -66,11 +66,15 @@ there t dimension leaf = ltb dimension (length (dimensions t)) && ltb leaf (getD
 unfoldable pub leafAnswer : Tree Member → ℕ → ℕ → LeafTotal
 leafAnswer t dimension leaf = pick (there t dimension leaf) (answered (nodes t) (length (cells t)) (leafSums t dimension leaf)) (refused 19 0 0 0)
 
--- "the member's own first": 12 and 13 too
+-- "Refusals: the member's own first": 12 and 13 too, with their counts; then what is said of an accepted one
+unfoldable pub memberFirst : {A : Type 0} → (ℕ → ℕ → ℕ → ℕ → A) → (Tree Member → A) → Got (Tree Member) → ℕ → ℕ → A
+memberFirst refusing said (no n p) node-length cell-length = refusing n p 0 0
+memberFirst refusing said (got t r p) node-length cell-length =
+    pick (wide t node-length) (pick (long t cell-length) (said t) (refusing 13 0 (nodes t) (length (cells t)))) (refusing 12 0 (nodes t) (length (cells t)))
+
 unfoldable pub totalAnswer : Got (Tree Member) → ℕ → ℕ → ℕ → ℕ → LeafTotal
-totalAnswer (no n p) node-length cell-length dimension leaf = refused n p 0 0
-totalAnswer (got t r p) node-length cell-length dimension leaf =
-    pick (wide t node-length) (pick (long t cell-length) (leafAnswer t dimension leaf) (refused 13 0 (nodes t) (length (cells t)))) (refused 12 0 (nodes t) (length (cells t)))
+unfolding memberFirst
+totalAnswer y node-length cell-length dimension leaf = memberFirst refused (λ t. leafAnswer t dimension leaf) y node-length cell-length
 
 -- a call: "The same two areas are lent and then hold the records"; "lent areas unchanged" after a refusal
 pub record Totalled (bs node-words cell-words : List ℕ) (dimension leaf : ℕ) (r : LeafTotal) (node-words′ cell-words′ : List ℕ) : Type 0 where
@@ -78,12 +82,21 @@ pub record Totalled (bs node-words cell-words : List ℕ) (dimension leaf : ℕ)
   pub node-area : node-words′ ≡ pick (eqb (r .refusal) 0) (nodesAfter (checked bs) node-words (length cell-words)) node-words
   pub cell-area : cell-words′ ≡ pick (eqb (r .refusal) 0) (cellsAfter (checked bs) (length node-words) cell-words) cell-words
 
--- the same without a reader, by the derivation that demand 3 speaks of
-pub record ByDerivation (bs : List ℕ) (node-length cell-length dimension leaf : ℕ) (r : LeafTotal) : Type 0 where
+-- the same without a reader: by what demand 3 says of reading the member with the same areas, and by the derivation that it speaks of
+pub record ByDerivation (bs node-words cell-words : List ℕ) (dimension leaf : ℕ) (r : LeafTotal) (node-words′ cell-words′ : List ℕ) : Type 0 where
+  -- reading: its answer, and what the areas would then hold
+  pub reading : Answer
+  pub nodes-read : List ℕ
+  pub cells-read : List ℕ
+  pub is-read : Demand3 bs node-words cell-words reading nodes-read cells-read
+  -- "Refusals: the member's own first", 12 and 13 with their counts; "All totals are then 0"
+  pub of-refused : (reading .refusal ≡ 0 → ⊥) → r ≡ refused (reading .refusal) (reading .place) (reading .nodes) (reading .cells)
   -- "Given an accepted member": what its derivation says of the leaf
-  pub of-accepted : (m : Accepted bs node-length cell-length) → r ≡ leafAnswer (m .derivation .tree) dimension leaf
-  -- "Refusals: the member's own first"; "All totals are then 0"
-  pub of-refused : (n p : ℕ) → RefusedWith bs node-length cell-length n p → r ≡ refused n p (r .nodes) (r .cells)
+  pub of-accepted : (m : Accepted bs (length node-words) (length cell-words)) → r ≡ leafAnswer (m .derivation .tree) dimension leaf
+  -- "The same two areas are lent and then hold the records"
+  pub with-records : r .refusal ≡ 0 → (node-words′ ≡ nodes-read) × (cell-words′ ≡ cells-read)
+  -- "lent areas unchanged" after a refusal
+  pub unchanged : (r .refusal ≡ 0 → ⊥) → (node-words′ ≡ node-words) × (cell-words′ ≡ cell-words)
 
 -- ---- all leaves of a dimension (our own function)
 
@@ -102,11 +115,8 @@ dimensionAnswer t dimension room =
     (refusedAll 19 0 0 0 0)
 
 unfoldable pub totalsAnswer : Got (Tree Member) → ℕ → ℕ → ℕ → ℕ → DimensionTotals
-totalsAnswer (no n p) dimension room node-length cell-length = refusedAll n p 0 0 0
-totalsAnswer (got t r p) dimension room node-length cell-length =
-    pick (wide t node-length)
-    (pick (long t cell-length) (dimensionAnswer t dimension room) (refusedAll 13 0 (nodes t) (length (cells t)) 0))
-    (refusedAll 12 0 (nodes t) (length (cells t)) 0)
+unfolding memberFirst
+totalsAnswer y dimension room node-length cell-length = memberFirst (λ n p k m. refusedAll n p k m 0) (λ t. dimensionAnswer t dimension room) y node-length cell-length
 
 -- the area for the totals then: what is answered for each leaf, a row of words for each; beyond them what was there
 unfoldable pub totalsAfter : Got (Tree Member) → ℕ → List ℕ → List ℕ
@@ -119,3 +129,16 @@ pub record AllTotalled (bs totals node-words cell-words : List ℕ) (dimension :
   pub each-leaf : totals′ ≡ pick (eqb (r .refusal) 0) (totalsAfter (checked bs) dimension totals) totals
   pub node-area : node-words′ ≡ pick (eqb (r .refusal) 0) (nodesAfter (checked bs) node-words (length cell-words)) node-words
   pub cell-area : cell-words′ ≡ pick (eqb (r .refusal) 0) (cellsAfter (checked bs) (length node-words) cell-words) cell-words
+
+-- the same without a reader
+pub record AllByDerivation (bs totals node-words cell-words : List ℕ) (dimension : ℕ) (r : DimensionTotals) (totals′ node-words′ cell-words′ : List ℕ) : Type 0 where
+  pub reading : Answer
+  pub nodes-read : List ℕ
+  pub cells-read : List ℕ
+  pub is-read : Demand3 bs node-words cell-words reading nodes-read cells-read
+  pub of-refused : (reading .refusal ≡ 0 → ⊥) → r ≡ refusedAll (reading .refusal) (reading .place) (reading .nodes) (reading .cells) 0
+  pub of-accepted : (m : Accepted bs (length node-words) (length cell-words)) → r ≡ dimensionAnswer (m .derivation .tree) dimension (length totals)
+  pub with-rows : (m : Accepted bs (length node-words) (length cell-words)) → r .refusal ≡ 0
+      → let n = leaves (m .derivation .tree) dimension in totals′ ≡ rows (λ leaf. leafWords (leafAnswer (m .derivation .tree) dimension leaf)) n ++ drop (leaf-total-words * n) totals
+  pub with-records : r .refusal ≡ 0 → (node-words′ ≡ nodes-read) × (cell-words′ ≡ cells-read)
+  pub unchanged : (r .refusal ≡ 0 → ⊥) → (totals′ ≡ totals) × (node-words′ ≡ node-words) × (cell-words′ ≡ cell-words)

@@ -11,7 +11,7 @@ mod words; // totals as words
 ghost use Prim.Native.Nat.{_≤_};
 ghost use lib.ListN.{length};
 ghost use Rattle.member.specs.Laws.Whole.{short-member};
-ghost use Rattle.total.specs.Answers.{Totalled, ByDerivation, AllTotalled};
+ghost use Rattle.total.specs.Answers.{Totalled, ByDerivation, AllTotalled, AllByDerivation};
 use crate::all::all_with_lists;
 use crate::call::with_lists;
 use cells::LEAST_CELL;
@@ -110,7 +110,7 @@ pub fn total(
     cells: &mut [u32],
 ) -> LeafTotal
     ensures answers { λ r. ⌜ Totalled (now (member .entry)) (now (nodes .entry)) (now (cells .entry)) dimension leaf r (now (nodes .exit)) (now (cells .exit)) ⌝ }
-    ensures demands { λ r. ⌜ ByDerivation (now (member .entry)) (length (now (nodes .entry))) (length (now (cells .entry))) dimension leaf r ⌝ }
+    ensures demands { λ r. ⌜ ByDerivation (now (member .entry)) (now (nodes .entry)) (now (cells .entry)) dimension leaf r (now (nodes .exit)) (now (cells .exit)) ⌝ }
 {
     if member.len() <= SHORT_MEMBER {
         total_short(member, dimension, leaf, nodes, cells)
@@ -173,7 +173,8 @@ pub fn totals(
     nodes: &mut [u32],
     cells: &mut [u32],
 ) -> DimensionTotals
-    ensures { λ r. ⌜ AllTotalled (now (member .entry)) (now (totals .entry)) (now (nodes .entry)) (now (cells .entry)) dimension r (now (totals .exit)) (now (nodes .exit)) (now (cells .exit)) ⌝ }
+    ensures answers { λ r. ⌜ AllTotalled (now (member .entry)) (now (totals .entry)) (now (nodes .entry)) (now (cells .entry)) dimension r (now (totals .exit)) (now (nodes .exit)) (now (cells .exit)) ⌝ }
+    ensures demands { λ r. ⌜ AllByDerivation (now (member .entry)) (now (totals .entry)) (now (nodes .entry)) (now (cells .entry)) dimension r (now (totals .exit)) (now (nodes .exit)) (now (cells .exit)) ⌝ }
 {
     if member.len() <= SHORT_MEMBER {
         totals_short(member, dimension, totals, nodes, cells)

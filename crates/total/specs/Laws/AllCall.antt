@@ -18,7 +18,7 @@ use Rattle.member.specs.Answer.{accepted, wide, long}
 use Rattle.member.specs.Laws.Demanded.{derivation-checked}
 use Rattle.total.specs.declared.DimensionTotals.{DimensionTotals}
 use Rattle.total.specs.Words.{leafWords, rows}
-use Rattle.total.specs.Answers.{answered, leafAnswer, refusedAll, leaves, dimensionAnswer, totalsAnswer, totalsAfter, AllTotalled}
+use Rattle.total.specs.Answers.{memberFirst, answered, leafAnswer, refusedAll, leaves, dimensionAnswer, totalsAnswer, totalsAfter, AllTotalled}
 use Rattle.total.specs.Laws.Leaf.{wordSums}
 use Rattle.total.specs.Laws.LeafIs.{n-of, row-is}
 use Rattle.total.specs.Laws.Reading.{Taken}
@@ -84,7 +84,7 @@ module _ (a : Answer) (dimension room node-length cell-length : ℕ) {x : Dimens
 -- ---- the call
 
 pub refused-call : {bs : List ℕ} {n p : ℕ} → checked bs ≡ no n p → (T N C : List ℕ) (dimension : ℕ) → AllTotalled bs T N C dimension (refusedAll n p 0 0 0) T N C
-unfolding totalsAnswer totalsAfter
+unfolding totalsAnswer memberFirst totalsAfter
 refused-call {n = n} e T N C dimension =
     let y = refused-areas e N C in
     record { answer = rw e; each-leaf = rw e (either (eqb n 0) T); node-area = y .node-area; cell-area = y .cell-area }
@@ -105,7 +105,7 @@ module _ {bs : List ℕ} (b : Bytes bs) (d : MemberDerivation bs) (dem : AsDeman
       go false e = refl
 
   answer-is : (room node-length cell-length : ℕ) → fittingAll (accepted (d .tree)) dimension room node-length cell-length ≡ totalsAnswer (checked bs) dimension room node-length cell-length
-  unfolding totalsAnswer accepted
+  unfolding totalsAnswer memberFirst accepted
   answer-is room node-length cell-length = rw (derivation-checked bs b d dem, same-dimension room)
 
   leaf-rows-are : dimension < length (dimensions (d .tree))

@@ -1,45 +1,47 @@
--- What is answered for a leaf, by the derivation of the member.
-use mathlib.Core.Path.{_≡_, refl, sym, ap, _∙_}
+-- What a call answers, by demand 3 and the derivation of the member.
+use mathlib.Core.Path.{_≡_, refl, ap, _∙_}
 use mathlib.Core.Bool.{Bool, true, false}
 use mathlib.Core.List.{List}
 use Prim.Native.Nat.{ℕ, _*_}
 use lib.ListN.{length}
-use borrow.Author.Tests.{le-leb}
+use lib.Dec.{eqb}
+use borrow.Author.Tests.{le-leb, eq-eqb, ne-eqb}
 use Rattle.sizes.specs.Sizes.{node-words, cell-words}
 use Rattle.layout.specs.Layout.{Bytes, Tree, pick}
 use Rattle.layout.specs.Read.{Got, got, no}
 use Rattle.member.specs.declared.Answer.{Answer}
 use Rattle.member.specs.Member.{Member, nodes, cells}
 use Rattle.member.specs.Checked.{checked}
-use Rattle.member.specs.Refused.{RefusedWith}
 use Rattle.member.specs.Answer.{wide, long, refusal, accepted, answerOf, nodesAfter, cellsAfter}
 use Rattle.member.specs.Demand3.{Demand3, Accepted}
 use Rattle.member.specs.Laws.Holds.{demand3}
 use Rattle.member.specs.Laws.Demanded.{derivation-checked}
 use Rattle.total.specs.declared.LeafTotal.{LeafTotal}
-use Rattle.total.specs.Answers.{refused, leafAnswer, totalAnswer, Totalled, ByDerivation}
+use Rattle.total.specs.declared.DimensionTotals.{DimensionTotals}
+use Rattle.total.specs.Answers.{memberFirst, refused, leafAnswer, totalAnswer, Totalled, ByDerivation, refusedAll, dimensionAnswer, totalsAnswer, totalsAfter, AllTotalled, AllByDerivation}
 
-module _ {bs : List ℕ} (b : Bytes bs) (N C : List ℕ) (dimension leaf : ℕ) where
-  -- what `read_member` would answer
+-- an area that is filled where n is 0
+filled : (n : ℕ) (new old : List ℕ) {now : List ℕ} → now ≡ pick (eqb n 0) new old → n ≡ 0 → now ≡ new
+unfolding pick
+filled n new old e z = e ∙ rw (eq-eqb n 0 z)
+
+kept : (n : ℕ) (new old : List ℕ) {now : List ℕ} → now ≡ pick (eqb n 0) new old → (n ≡ 0 → ⊥) → now ≡ old
+unfolding pick
+kept n new old e z = e ∙ rw (ne-eqb n 0 z)
+
+module _ {bs : List ℕ} (b : Bytes bs) (N C : List ℕ) where
   abbrev reading : Answer
   reading = answerOf (checked bs) (length N) (length C)
 
-  of-accepted : (m : Accepted bs (length N) (length C)) → totalAnswer (checked bs) (length N) (length C) dimension leaf ≡ leafAnswer (m .derivation .tree) dimension leaf
-  unfolding totalAnswer pick
-  of-accepted m =
-      let t = m .derivation .tree in
-      rw (
-        derivation-checked bs b (m .derivation) (m .demanded),
-        le-leb (node-words * nodes t) (length N) (m .large .for-nodes),
-        le-leb (cell-words * length (cells t)) (length C) (m .large .for-cells),
-      )
+  is-read : Demand3 bs N C reading (nodesAfter (checked bs) N (length C)) (cellsAfter (checked bs) (length N) C)
+  is-read = demand3 bs b N C (record { answer = refl; node-area = refl; cell-area = refl })
 
-  -- a refusal of reading is the refusal here
-  same-refusal : (y : Got (Tree Member)) (n p : ℕ) → answerOf y (length N) (length C) .refusal ≡ n → answerOf y (length N) (length C) .place ≡ p → (n ≡ 0 → ⊥)
-      → let r = totalAnswer y (length N) (length C) dimension leaf in r ≡ refused n p (r .nodes) (r .cells)
-  unfolding totalAnswer answerOf refusal pick accepted
-  same-refusal (no m q) n p e f h = rw (← e, ← f)
-  same-refusal (got t r q) n p e f h = go (wide t (length N)) (long t (length C)) e f
+  -- where reading refuses, so does the call, with the refusal's number, place and counts
+  same-refusal : {A : Type 0} (refusing : ℕ → ℕ → ℕ → ℕ → A) (said : Tree Member → A) (y : Got (Tree Member)) → let a = answerOf y (length N) (length C) in
+      (a .refusal ≡ 0 → ⊥) → memberFirst refusing said y (length N) (length C) ≡ refusing (a .refusal) (a .place) (a .nodes) (a .cells)
+  unfolding memberFirst answerOf refusal pick accepted
+  same-refusal refusing said (no n p) h = refl
+  same-refusal refusing said (got t r p) h = go (wide t (length N)) (long t (length C)) h
     where
       m : ℕ
       m = nodes t
@@ -47,19 +49,54 @@ module _ {bs : List ℕ} (b : Bytes bs) (N C : List ℕ) (dimension leaf : ℕ) 
       k : ℕ
       k = length (cells t)
 
-      go : (v w : Bool) → pick v (pick w (accepted t) (refusal 13 0 m k)) (refusal 12 0 m k) .refusal ≡ n → pick v (pick w (accepted t) (refusal 13 0 m k)) (refusal 12 0 m k) .place ≡ p
-          → let r = pick v (pick w (leafAnswer t dimension leaf) (refused 13 0 m k)) (refused 12 0 m k) in r ≡ refused n p (r .nodes) (r .cells)
-      go true true e′ f′ = absurd (h (sym e′))
-      go true false e′ f′ = rw (← e′, ← f′)
-      go false w e′ f′ = rw (← e′, ← f′)
+      go : (v w : Bool) → let a = pick v (pick w (accepted t) (refusal 13 0 m k)) (refusal 12 0 m k) in
+          (a .refusal ≡ 0 → ⊥) → pick v (pick w (said t) (refusing 13 0 m k)) (refusing 12 0 m k) ≡ refusing (a .refusal) (a .place) (a .nodes) (a .cells)
+      go true true f = absurd (f refl)
+      go true false f = refl
+      go false w f = refl
 
-  of-refused : (n p : ℕ) → RefusedWith bs (length N) (length C) n p
-      → let r = totalAnswer (checked bs) (length N) (length C) dimension leaf in r ≡ refused n p (r .nodes) (r .cells)
-  of-refused n p h =
-      let d : Demand3 bs N C reading (nodesAfter (checked bs) N (length C)) (cellsAfter (checked bs) (length N) C) =
-      demand3 bs b N C (record { answer = refl; node-area = refl; cell-area = refl }) in
-      let x = d .refused-exactly n p .1 h in
-      same-refusal (checked bs) n p (x .0) (x .1) (x .2)
+  -- where it accepts, the call says what is said of the derivation
+  of-accepted : {A : Type 0} (refusing : ℕ → ℕ → ℕ → ℕ → A) (said : Tree Member → A) (m : Accepted bs (length N) (length C))
+      → memberFirst refusing said (checked bs) (length N) (length C) ≡ said (m .derivation .tree)
+  unfolding memberFirst pick
+  of-accepted refusing said m =
+      let t = m .derivation .tree in
+      rw (
+        derivation-checked bs b (m .derivation) (m .demanded),
+        le-leb (node-words * nodes t) (length N) (m .large .for-nodes),
+        le-leb (cell-words * length (cells t)) (length C) (m .large .for-cells),
+      )
 
-  pub by-derivation : {r : LeafTotal} {N′ C′ : List ℕ} → Totalled bs N C dimension leaf r N′ C′ → ByDerivation bs (length N) (length C) dimension leaf r
-  by-derivation x = rw (x .answer) (record { of-accepted = of-accepted; of-refused = of-refused })
+  module _ (dimension leaf : ℕ) where
+    pub by-derivation : {r : LeafTotal} {N′ C′ : List ℕ} → Totalled bs N C dimension leaf r N′ C′ → ByDerivation bs N C dimension leaf r N′ C′
+    unfolding totalAnswer
+    by-derivation {r} x =
+        let said : Tree Member → LeafTotal = λ t. leafAnswer t dimension leaf in
+        record {
+          reading = reading;
+          nodes-read = nodesAfter (checked bs) N (length C);
+          cells-read = cellsAfter (checked bs) (length N) C;
+          is-read = is-read;
+          of-refused = λ h. x .answer ∙ same-refusal refused said (checked bs) h;
+          of-accepted = λ m. x .answer ∙ of-accepted refused said m;
+          with-records = λ z. (filled (r .refusal) (nodesAfter (checked bs) N (length C)) N (x .node-area) z, filled (r .refusal) (cellsAfter (checked bs) (length N) C) C (x .cell-area) z);
+          unchanged = λ z. (kept (r .refusal) (nodesAfter (checked bs) N (length C)) N (x .node-area) z, kept (r .refusal) (cellsAfter (checked bs) (length N) C) C (x .cell-area) z);
+        }
+
+  module _ (dimension : ℕ) (T : List ℕ) where
+    pub all-by-derivation : {r : DimensionTotals} {T′ N′ C′ : List ℕ} → AllTotalled bs T N C dimension r T′ N′ C′ → AllByDerivation bs T N C dimension r T′ N′ C′
+    unfolding totalsAnswer totalsAfter
+    all-by-derivation {r} x =
+        let refusing : ℕ → ℕ → ℕ → ℕ → DimensionTotals = λ n p k m. refusedAll n p k m 0 in
+        let said : Tree Member → DimensionTotals = λ t. dimensionAnswer t dimension (length T) in
+        record {
+          reading = reading;
+          nodes-read = nodesAfter (checked bs) N (length C);
+          cells-read = cellsAfter (checked bs) (length N) C;
+          is-read = is-read;
+          of-refused = λ h. x .answer ∙ same-refusal refusing said (checked bs) h;
+          of-accepted = λ m. x .answer ∙ of-accepted refusing said m;
+          with-rows = λ m z. filled (r .refusal) (totalsAfter (checked bs) dimension T) T (x .each-leaf) z ∙ rw (derivation-checked bs b (m .derivation) (m .demanded));
+          with-records = λ z. (filled (r .refusal) (nodesAfter (checked bs) N (length C)) N (x .node-area) z, filled (r .refusal) (cellsAfter (checked bs) (length N) C) C (x .cell-area) z);
+          unchanged = λ z. (kept (r .refusal) (totalsAfter (checked bs) dimension T) T (x .each-leaf) z, kept (r .refusal) (nodesAfter (checked bs) N (length C)) N (x .node-area) z, kept (r .refusal) (cellsAfter (checked bs) (length N) C) C (x .cell-area) z);
+        }

@@ -14,7 +14,7 @@ use Rattle.member.specs.Checked.{checked}
 use Rattle.member.specs.Answer.{accepted}
 use Rattle.member.specs.Laws.Demanded.{derivation-checked}
 use Rattle.total.specs.declared.LeafTotal.{LeafTotal}
-use Rattle.total.specs.Answers.{refused, totalAnswer, Totalled}
+use Rattle.total.specs.Answers.{memberFirst, refused, totalAnswer, Totalled}
 use Rattle.total.specs.Laws.Leaf.{wordAnswer}
 use Rattle.total.specs.Laws.LeafIs.{leaf-is}
 use Rattle.total.specs.Laws.Reading.{Taken}
@@ -37,12 +37,12 @@ abbrev filled-as : {bs N C : List ℕ} {dimension leaf : ℕ} {x : LeafTotal} {N
 filled-as e y = record { answer = e; node-area = y .node-area; cell-area = y .cell-area }
 
 pub refused-call : {bs : List ℕ} {n p : ℕ} → checked bs ≡ no n p → (N C : List ℕ) (dimension leaf : ℕ) → Totalled bs N C dimension leaf (refused n p 0 0) N C
-unfolding totalAnswer
+unfolding totalAnswer memberFirst
 refused-call e N C dimension leaf = filled-as (rw e) (refused-areas e N C)
 
 fits : {bs : List ℕ} → Bytes bs → (d : MemberDerivation bs) → AsDemanded (d .tree) → (others : List ℕ) (node-length cell-length dimension leaf : ℕ)
     → fitting bs (accepted (d .tree)) (cellRecords (d .tree) ++ others) dimension leaf node-length cell-length ≡ totalAnswer (checked bs) node-length cell-length dimension leaf
-unfolding totalAnswer accepted
+unfolding totalAnswer memberFirst accepted
 fits {bs} b d dem others node-length cell-length dimension leaf = rw (derivation-checked bs b d dem, leaf-is d dem dimension leaf others)
 
 pub accepted-call : {bs : List ℕ} → Bytes bs → {a : Answer} {node-list cell-list : List ℕ} → Taken bs a node-list cell-list → (N C : List ℕ) (dimension leaf : ℕ) {x : LeafTotal}

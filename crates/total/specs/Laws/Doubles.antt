@@ -11,7 +11,7 @@ use Rattle.member.specs.Answer.{wide, long}
 use Rattle.total.specs.declared.sums.Sums.{Sums}
 use Rattle.total.specs.declared.LeafTotal.{LeafTotal}
 use Rattle.total.specs.Total.{leafSums}
-use Rattle.total.specs.Answers.{double, refused, answered, there, leafAnswer, totalAnswer}
+use Rattle.total.specs.Answers.{memberFirst, double, refused, answered, there, leafAnswer, totalAnswer}
 
 odd-number : (d : ℕ) (s : Bool) (q k l : ℕ) → T (not (isNan (odd d s q k l)))
 unfolding odd isNan
@@ -59,7 +59,7 @@ unfolding leafAnswer
 leaf-numbers t dimension leaf = either-numbers (there t dimension leaf) _ _ (answered-numbers _ _ (leafSums t dimension leaf)) (refused-numbers 19 0 0 0)
 
 pub total-numbers : (y : Got (Tree Member)) (node-length cell-length dimension leaf : ℕ) → Numbers (totalAnswer y node-length cell-length dimension leaf)
-unfolding totalAnswer
+unfolding totalAnswer memberFirst
 total-numbers (no n p) node-length cell-length dimension leaf = refused-numbers n p 0 0
 total-numbers (got t r p) node-length cell-length dimension leaf =
     either-numbers (wide t node-length) _ _ (either-numbers (long t cell-length) _ _ (leaf-numbers t dimension leaf) (refused-numbers 13 0 _ _)) (refused-numbers 12 0 _ _)

@@ -16,7 +16,7 @@ use Rattle.member.specs.Checked.{checked}
 use Rattle.member.specs.Answer.{wide, long}
 use Rattle.total.specs.declared.DimensionTotals.{DimensionTotals}
 use Rattle.total.specs.Words.{leafWords, rows}
-use Rattle.total.specs.Answers.{leafAnswer, totalAnswer, refusedAll, leaves, dimensionAnswer, totalsAnswer, totalsAfter, AllTotalled}
+use Rattle.total.specs.Answers.{memberFirst, leafAnswer, totalAnswer, refusedAll, leaves, dimensionAnswer, totalsAnswer, totalsAfter, AllTotalled}
 use Rattle.total.specs.Laws.Rows.{row-at}
 
 -- with rows for so many leaves nothing was refused before them
@@ -32,7 +32,7 @@ fine false w i f k m n leaf e l = absurd (omega (arith, l))
 -- row `leaf` of the totals is what `total` answers for it, with areas of the same lengths
 pub one-by-one : {bs T N C : List ℕ} {dimension : ℕ} {r : DimensionTotals} {T′ N′ C′ : List ℕ} → AllTotalled bs T N C dimension r T′ N′ C′ → r .refusal ≡ 0 → (leaf : ℕ) → leaf < r .leaves
     → take leaf-total-words (drop (leaf-total-words * leaf) T′) ≡ leafWords (totalAnswer (checked bs) (length N) (length C) dimension leaf)
-unfolding totalsAnswer dimensionAnswer totalsAfter totalAnswer pick
+unfolding totalsAnswer dimensionAnswer totalsAfter totalAnswer memberFirst pick
 one-by-one {bs} {T} {N} {C} {dimension} {r} {T′} x e leaf l = go (checked bs) (x .answer) (x .each-leaf)
   where
     go : (y : Got (Tree Member)) → r ≡ totalsAnswer y dimension (length T) (length N) (length C) → T′ ≡ pick (eqb (r .refusal) 0) (totalsAfter y dimension T) T

@@ -27,7 +27,7 @@ use Rattle.counts.specs.Count.{kind}
 use Rattle.total.specs.declared.sums.Sums.{Sums}
 use Rattle.total.specs.declared.LeafTotal.{LeafTotal}
 use Rattle.total.specs.Total.{CellSays, add, withCell, sums, cellsSay, memberCells, under, leafSums}
-use Rattle.total.specs.Answers.{refused, answered, there, leafAnswer, totalAnswer}
+use Rattle.total.specs.Answers.{memberFirst, refused, answered, there, leafAnswer, totalAnswer}
 
 -- ---- sums
 
@@ -85,7 +85,7 @@ module _ {bs : List ℕ} (b : Bytes bs) (N C : List ℕ) (dimension leaf : ℕ) 
       (either-total (leafSums t dimension leaf .bad) (length bs) (refused 20 (leafSums t dimension leaf .place) 0 0) _ s′ (omega arith)) (omega arith)
 
   pub total-place : totalAnswer (checked bs) (length N) (length C) dimension leaf .place ≤ length bs
-  unfolding totalAnswer answerOf refusal
+  unfolding totalAnswer memberFirst answerOf refusal
   total-place = go (checked bs) refl
     where
       d : Demand3 bs N C (answerOf (checked bs) (length N) (length C)) (nodesAfter (checked bs) N (length C)) (cellsAfter (checked bs) (length N) C)
