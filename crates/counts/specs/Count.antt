@@ -1,8 +1,8 @@
 -- What a cell counts as (document 02, T-01), by the form of its Value and the bits of its double: IEEE 754's binary64 is a sign, 11 bits of
 -- exponent and 52 of fraction.
-use mathlib.Core.Bool.{Bool, _&&_}
+use mathlib.Core.Bool.{_&&_}
 use mathlib.Core.List.{[], _∷_}
-use Prim.Native.Nat.{ℕ, _+_, _-_, _*_, _/_, _%_, _^_}
+use Prim.Native.Nat.{ℕ, _+_, _-_, _/_, _%_, _^_}
 use lib.Dec.{eqb, leb, ltb}
 use Rattle.layout.specs.Layout.{pick, among}
 use Rattle.counts.specs.declared.Kind.{Kind}

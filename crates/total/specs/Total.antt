@@ -1,13 +1,13 @@
 -- The total of the cells under a leaf (document 02, T-01).
 use mathlib.Core.Bool.{Bool, true, false}
-use mathlib.Core.List.{List, [], _∷_, map}
+use mathlib.Core.List.{List, [], _∷_}
 use Prim.Native.Nat.{ℕ, _+_, min, max}
-use lib.Dec.{eqb, ltb}
+use lib.Dec.{eqb}
 use Rattle.layout.specs.Layout.{pick, Tree, size}
 use Rattle.index.specs.Index.{coordinate}
 use Rattle.table.specs.Table.{Cell}
 use Rattle.table.specs.Records.{cellIndex, cellValue}
-use Rattle.member.specs.Member.{Member, version, cells, cellsStart, dimensions, nodes, ns}
+use Rattle.member.specs.Member.{Member, version, cells, cellsStart, ns}
 use Rattle.contents.specs.declared.Contents.{Contents}
 use Rattle.contents.specs.Contents.{contents}
 use Rattle.counts.specs.declared.Kind.{Kind}

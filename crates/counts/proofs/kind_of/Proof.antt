@@ -1,4 +1,3 @@
-use borrow.Author.Needs.{needs}
 use Rattle.layout.specs.Layout.{pick, among}
 use Rattle.counts.specs.Count.{kind}
 use Rattle.counts.proofs.kind_of.Statement.{statement}

@@ -1,20 +1,20 @@
 -- What a call for all leaves of a dimension answers, and what the lent areas then hold.
-use mathlib.Core.Path.{_≡_, refl, sym, ap, _∙_}
+use mathlib.Core.Path.{_≡_, refl, ap, _∙_}
 use mathlib.Core.Bool.{Bool, true, false}
 use mathlib.Core.List.{List, _++_}
 use Prim.Native.Nat.{ℕ, _+_, _*_, _≤_, _<_}
 use native.Mathlib.Omega.{arith}
-use lib.ListN.{length, drop, getD}
+use lib.ListN.{length, drop}
 use lib.Dec.{eqb, leb, ltb}
 use borrow.Author.Tests.{ltb-true, leb-true}
 use Rattle.sizes.specs.Sizes.{node-words, cell-words, dimension-words, dimension-n, leaf-total-words}
 use Rattle.layout.specs.Layout.{Bytes, Tree, pick}
-use Rattle.layout.specs.Read.{got, no}
+use Rattle.layout.specs.Read.{no}
 use Rattle.once.specs.Once.{word}
 use Rattle.member.specs.declared.Answer.{Answer}
-use Rattle.member.specs.Member.{Member, dimensions, nodes, cells, ns, cellRecords, MemberDerivation, AsDemanded}
+use Rattle.member.specs.Member.{Member, dimensions, nodes, cells, cellRecords, MemberDerivation, AsDemanded}
 use Rattle.member.specs.Checked.{checked}
-use Rattle.member.specs.Answer.{accepted, wide, long}
+use Rattle.member.specs.Answer.{accepted}
 use Rattle.member.specs.Laws.Demanded.{derivation-checked}
 use Rattle.total.specs.declared.DimensionTotals.{DimensionTotals}
 use Rattle.total.specs.Words.{leafWords, rows}

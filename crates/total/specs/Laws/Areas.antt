@@ -1,5 +1,5 @@
 -- What the lent areas hold after a call: the records where nothing is refused, and what they held.
-use mathlib.Core.Path.{_≡_, refl, sym, ap, _∙_}
+use mathlib.Core.Path.{_≡_, refl, ap, _∙_}
 use mathlib.Core.Bool.{Bool, true, false}
 use mathlib.Core.List.{List, _++_}
 use Prim.Native.Nat.{ℕ, _+_, _*_, _≤_, _<_}
@@ -12,7 +12,7 @@ use Rattle.sizes.specs.Sizes.{node-words, cell-words}
 use Rattle.layout.specs.declared.Step.{Step}
 use Rattle.layout.specs.declared.Step.the-variants.{Next}
 use Rattle.layout.specs.Layout.{Bytes, Tree, pick, size}
-use Rattle.layout.specs.Read.{Got, got, no}
+use Rattle.layout.specs.Read.{no}
 use Rattle.store.specs.Puts.{PutsWords}
 use Rattle.store.specs.Laws.Puts.{with-room}
 use Rattle.table.specs.Table.{Cell}

@@ -1,14 +1,13 @@
 -- A total is below 2^44: there are at most 4,096 cells.
-use mathlib.Core.Path.{_≡_, refl, ap, _∙_}
+use mathlib.Core.Path.{_≡_, refl, ap}
 use mathlib.Core.Bool.{Bool, true, false}
 use mathlib.Core.List.{List, [], _∷_}
-use Prim.Native.Nat.{ℕ, suc, _+_, _^_, _≤_, _<_}
+use Prim.Native.Nat.{ℕ, suc, _+_, _^_, _<_}
 use native.Mathlib.Omega.{arith}
 use lib.ListN.{length}
-use Rattle.sizes.specs.Sizes.{most-cells}
 use Rattle.layout.specs.Layout.{pick, Tree, size}
 use Rattle.table.specs.Table.{Cell}
-use Rattle.member.specs.Member.{Member, version, cells, nodes, cellsStart, MemberDerivation}
+use Rattle.member.specs.Member.{version, cells, nodes, cellsStart, MemberDerivation}
 use Rattle.total.specs.declared.LeafTotal.{LeafTotal}
 use Rattle.total.specs.Total.{cellsSay, memberCells, under, leafSums}
 use Rattle.total.specs.Answers.{refused, totalled, answered, there, leafAnswer}

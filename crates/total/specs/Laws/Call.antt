@@ -1,10 +1,9 @@
 -- What a call for a leaf answers, and what the lent areas then hold.
-use mathlib.Core.Path.{_≡_, ap, _∙_}
-use mathlib.Core.Bool.{Bool, true, false}
+use mathlib.Core.Path.{_≡_, _∙_}
 use mathlib.Core.List.{List, _++_}
 use Prim.Native.Nat.{ℕ, _*_}
 use lib.ListN.{length}
-use lib.Dec.{eqb, leb}
+use lib.Dec.{leb}
 use Rattle.sizes.specs.Sizes.{node-words, cell-words}
 use Rattle.layout.specs.Layout.{Bytes, pick}
 use Rattle.layout.specs.Read.{no}

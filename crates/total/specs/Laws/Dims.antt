@@ -14,7 +14,7 @@ use Rattle.layout.specs.Read.{readNumber}
 use Rattle.layout.specs.Reads.{peek}
 use Rattle.layout.specs.Laws.{digits-length, number-spelt}
 use Rattle.sections.specs.Sections.{HeaderStart}
-use Rattle.member.specs.Member.{Member, Body, version, final, MemberDerivation}
+use Rattle.member.specs.Member.{Body, version, final, MemberDerivation}
 use Rattle.once.specs.Once.{word}
 use Rattle.index.specs.Index.{sizes}
 use Rattle.table.specs.Table.{Dimension}

@@ -1,12 +1,11 @@
 -- The smallest and the largest are doubles of whole numbers, and no NaN.
-use mathlib.Core.Path.{_≡_}
 use mathlib.Core.Bool.{Bool, true, false, not, cond}
 use Prim.Native.Nat.{ℕ, zero, suc, _+_, _-_, _*_, _/_, _%_, _^_, compare}
 use lib.Dec.{T, ltb}
 use lib.Ieee.{Float, inf, Format, prec, emax, low, size, nearest, binary64, odd, units, round, ofInt, isNan}
 use Rattle.layout.specs.Layout.{pick, Tree}
 use Rattle.layout.specs.Read.{Got, got, no}
-use Rattle.member.specs.Member.{Member, nodes, cells}
+use Rattle.member.specs.Member.{Member}
 use Rattle.member.specs.Answer.{wide, long}
 use Rattle.total.specs.declared.sums.Sums.{Sums}
 use Rattle.total.specs.declared.LeafTotal.{LeafTotal}

@@ -1,7 +1,7 @@
 -- A leaf by the answer of `read_member` and the words of the cell records, as the code has it.
 use mathlib.Core.Bool.{Bool, _&&_}
 use mathlib.Core.List.{List}
-use Prim.Native.Nat.{ℕ, suc, _+_, _-_, _*_, min}
+use Prim.Native.Nat.{ℕ, _+_, _-_, _*_, min}
 use lib.Dec.{ltb}
 use Rattle.sizes.specs.Sizes.{most-dimensions, most-cells, most-places, dimension-words, dimension-n}
 use Rattle.layout.specs.declared.Step.the-variants.{Next}

@@ -1,22 +1,21 @@
 -- What the code answers for a leaf of an accepted member is what its derivation says.
 use mathlib.Core.Path.{_≡_, refl, sym, ap, _∙_}
 use mathlib.Core.Bool.{Bool, true, false, _&&_}
-use mathlib.Core.List.{List, [], _∷_, _++_, map}
+use mathlib.Core.List.{List, [], _++_}
 use Prim.Native.Nat.{ℕ, suc, _+_, _-_, _*_, _≤_, _<_, min}
 use native.Mathlib.Nat.{min-eq-left, zero-add}
 use native.Mathlib.Omega.{arith}
 use lib.ListN.{length, drop, getD, length-map}
 use lib.Dec.{ltb}
 use borrow.Author.Tests.{ltb-true, lt-ltb, leb-true}
-use Rattle.sizes.specs.Sizes.{most-dimensions, most-cells, most-places, dimension-area, dimension-words, dimension-n}
-use Rattle.layout.specs.Layout.{pick, Tree, passes}
+use Rattle.sizes.specs.Sizes.{most-dimensions, most-cells, dimension-area, dimension-words, dimension-n}
+use Rattle.layout.specs.Layout.{pick, passes}
 use Rattle.once.specs.Once.{word}
 use Rattle.index.specs.Index.{sizes, product}
 use Rattle.table.specs.Records.{dimLeaves}
-use Rattle.member.specs.declared.Answer.{Answer}
-use Rattle.member.specs.Member.{Member, version, dimensionsSection, cellsSection, dimensions, dimensionsAt, dimensionEntries, cells, nodes, ns, places, cellRecords, MemberDerivation, AsDemanded}
+use Rattle.member.specs.Member.{version, dimensionsSection, cellsSection, dimensions, dimensionsAt, dimensionEntries, cells, nodes, ns, places, cellRecords, MemberDerivation, AsDemanded}
 use Rattle.member.specs.Answer.{accepted, zeros}
-use Rattle.total.specs.Total.{sums, leafSums, memberCells}
+use Rattle.total.specs.Total.{sums, leafSums}
 use Rattle.total.specs.Answers.{answered, refused, there, leafAnswer}
 use Rattle.total.specs.Laws.Words.{recordsSay, underBy}
 use Rattle.total.specs.Laws.Leaf.{versionOf, placesOf, gridOf, wordSums, thereOf, wordAnswer}

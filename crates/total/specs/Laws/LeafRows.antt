@@ -3,7 +3,7 @@ use mathlib.Core.Path.{_≡_, refl, sym, ap, _∙_}
 use mathlib.Core.Bool.{Bool, true, false}
 use mathlib.Core.List.{List, [], _∷_, _++_, append-assoc}
 use Prim.Native.Nat.{ℕ, zero, suc, _+_, _-_, _*_, _/_, _%_, _^_, _≤_, _<_}
-use native.Mathlib.Nat.{add-zero, sub-self, mul-comm, div-add-mod}
+use native.Mathlib.Nat.{add-zero, sub-self}
 use native.Mathlib.Numerals.{add-one}
 use native.Mathlib.Omega.{arith}
 use lib.ListN.{length, drop, getD, length-drop, length-append}
@@ -17,7 +17,6 @@ use Rattle.store.specs.Values.{bit}
 use Rattle.once.specs.Once.{word}
 use Rattle.member.specs.declared.Answer.{Answer}
 use Rattle.total.specs.declared.leaf.Grid.{Grid}
-use Rattle.total.specs.declared.LeafTotal.{LeafTotal}
 use Rattle.total.specs.declared.sums.Sums.{Sums}
 use Rattle.total.specs.Total.{CellSays, addCell, withCell, no-sums, sums}
 use Rattle.total.specs.Words.{leafWords, rows}

@@ -1,20 +1,16 @@
 -- The sums that the code makes, over the words of the records, are those of the derivation.
-use mathlib.Core.Path.{_≡_, refl, sym, ap, _∙_}
-use mathlib.Core.List.{List, [], _∷_, _++_, map}
+use mathlib.Core.Path.{_≡_, refl}
+use mathlib.Core.List.{List, [], _∷_, _++_}
 use Prim.Native.Nat.{ℕ, zero, suc, _+_, _*_, _≤_, _<_}
 use native.Mathlib.Nat.{zero-mul, mul-zero, suc-mul}
 use native.Mathlib.Omega.{arith}
 use lib.ListN.{length, drop}
-use lib.Dec.{eqb}
-use Rattle.layout.specs.Layout.{Tree, All, all-none, all-more, Valid}
-use Rattle.once.specs.Once.{OnceEach}
+use Rattle.layout.specs.Layout.{Tree, All, all-none, all-more}
 use Rattle.index.specs.Index.{product, coordinate}
-use Rattle.table.specs.Table.{Cell}
-use Rattle.table.specs.Records.{cellIndex}
 use Rattle.member.specs.Member.{Member, version, cells, cellsStart, final, ns, places, cellRecords, MemberDerivation, AsDemanded}
 use Rattle.member.specs.Laws.RecordsSpelt.{cells-there}
 use Rattle.contents.specs.Members.{part-read}
-use Rattle.total.specs.Total.{CellSays, sums, cellsSay, memberCells, under, leafSums}
+use Rattle.total.specs.Total.{sums, memberCells, under, leafSums}
 use Rattle.total.specs.Laws.Words.{recordsSay, underBy}
 use Rattle.total.specs.Laws.MemberCells.{records-say}
 use Rattle.total.specs.Laws.Under.{sums-same, under-agrees, all-say}

@@ -1,16 +1,13 @@
 -- The cells of a derivation are those that the words of its records have.
 use mathlib.Core.Path.{_≡_, refl, sym, ap, _∙_}
-use mathlib.Core.Bool.{true}
 use mathlib.Core.List.{List, [], _∷_, _++_, append-assoc, append-nil}
-use Prim.Native.Nat.{ℕ, suc, _+_, _*_, _≤_}
-use native.Mathlib.Nat.{mul-suc, add-zero}
+use Prim.Native.Nat.{ℕ, suc, _+_, _*_}
+use native.Mathlib.Nat.{mul-suc}
 use native.Mathlib.Omega.{arith}
-use lib.ListN.{length, drop, getD, length-append, List·getD-append}
+use lib.ListN.{length, drop, getD, length-append}
 use lib.Seq.{getD-append-add}
-use lib.Dec.{leb}
-use borrow.Author.Tests.{le-leb}
-use Rattle.sizes.specs.Sizes.{member-bytes, cell-words}
-use Rattle.layout.specs.Layout.{little, among, pick, Tree, digits, spellAll, spell, size, All, all-none, all-more, Valid}
+use Rattle.sizes.specs.Sizes.{cell-words}
+use Rattle.layout.specs.Layout.{little, pick, Tree, digits, spellAll, spell, size, All, all-none, all-more, Valid}
 use Rattle.layout.specs.Part.{partOf}
 use Rattle.layout.specs.Read.{read, got}
 use Rattle.layout.specs.Laws as laws
@@ -25,7 +22,7 @@ use Rattle.contents.specs.Contents.{contents}
 use Rattle.contents.specs.Answers.{unread}
 use Rattle.contents.specs.Laws.Answers.{answerOf, valueAnswer}
 use Rattle.total.specs.Total.{CellSays, cellsSay}
-use Rattle.total.specs.Laws.Words.{recordSays, recordsSay}
+use Rattle.total.specs.Laws.Words.{recordsSay}
 
 -- what is answered for the bytes of a Value is what it says
 value-of-bytes : (version : ℕ) (s : List ℕ) (v : Tree (CellValue version)) → unread version s ≡ 0 → s ≡ spell (CellValue version) v → Valid (CellValue version) v

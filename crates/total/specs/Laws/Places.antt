@@ -1,12 +1,10 @@
 -- A place of an answer is inside the member, so that a word of 32 bits keeps it.
-use mathlib.Core.Path.{_≡_, refl, sym, ap, _∙_}
+use mathlib.Core.Path.{_≡_, refl, ap, _∙_}
 use mathlib.Core.Bool.{Bool, true, false}
-use mathlib.Core.List.{List, [], _∷_, _++_, append-assoc}
-use Prim.Native.Nat.{ℕ, _+_, _*_, _^_, _≤_, _<_}
+use mathlib.Core.List.{List, _++_, append-assoc}
+use Prim.Native.Nat.{ℕ, _+_, _^_, _≤_, _<_}
 use native.Mathlib.Omega.{arith}
 use lib.ListN.{length, drop, length-append, length-drop}
-use borrow.Author.Tests.{le-leb}
-use Rattle.sizes.specs.Sizes.{member-bytes}
 use Rattle.layout.specs.Layout.{pick, Bytes, Tree, spellAll, spell, size, All, all-none, all-more, Valid}
 use Rattle.layout.specs.Read.{Got, got, no}
 use Rattle.layout.specs.Steps.Spelt as spelt
@@ -14,7 +12,7 @@ use Rattle.layout.specs.Words.{word32}
 use Rattle.layout.specs.Laws.Words.{word-same}
 use Rattle.table.specs.Table.{Cell}
 use Rattle.table.specs.Laws.LeastBytes.{cell-bytes}
-use Rattle.member.specs.Member.{Member, version, cells, cellsStart, nodes, final, MemberDerivation}
+use Rattle.member.specs.Member.{Member, version, cells, cellsStart, nodes, final}
 use Rattle.member.specs.Checked.{checked}
 use Rattle.member.specs.Answer.{wide, long, refusal, answerOf, nodesAfter, cellsAfter}
 use Rattle.member.specs.Demand3.{Demand3}
@@ -26,7 +24,7 @@ use Rattle.counts.specs.declared.Kind.the-variants.{Text, Missing, Number, Bad}
 use Rattle.counts.specs.Count.{kind}
 use Rattle.total.specs.declared.sums.Sums.{Sums}
 use Rattle.total.specs.declared.LeafTotal.{LeafTotal}
-use Rattle.total.specs.Total.{CellSays, add, withCell, sums, cellsSay, memberCells, under, leafSums}
+use Rattle.total.specs.Total.{CellSays, add, withCell, sums, cellsSay, under, leafSums}
 use Rattle.total.specs.Answers.{memberFirst, refused, answered, there, leafAnswer, totalAnswer}
 
 -- ---- sums

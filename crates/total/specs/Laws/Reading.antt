@@ -1,12 +1,8 @@
 -- A member that was read into lists of words with room for its records.
-use mathlib.Core.Path.{_≡_, refl, sym, ap, _∙_}
-use mathlib.Core.Bool.{Bool, true, false}
+use mathlib.Core.Path.{_≡_, refl, ap, _∙_}
 use mathlib.Core.List.{List, _++_}
 use Prim.Native.Nat.{ℕ, _*_}
-use native.Mathlib.Omega.{arith}
-use lib.ListN.{length, take, drop}
-use lib.Seq.{take-at}
-use lib.Dec.{eqb, leb}
+use lib.ListN.{length, drop}
 use borrow.Author.Tests.{le-leb}
 use Rattle.sizes.specs.Sizes.{node-words, cell-words}
 use Rattle.layout.specs.Layout.{Bytes, Tree, pick}
@@ -17,8 +13,7 @@ use Rattle.member.specs.Checked.{checked}
 use Rattle.member.specs.Answer.{refusal, accepted, answerOf, nodesAfter, cellsAfter, Delivered}
 use Rattle.member.specs.Demand3.{Demand3}
 use Rattle.member.specs.Laws.Demanded as demanded
-use Rattle.total.specs.declared.LeafTotal.{LeafTotal}
-use Rattle.total.specs.Answers.{refused, totalAnswer, Totalled}
+use Rattle.total.specs.Answers.{refused}
 use Rattle.total.specs.Laws.Rooms.{Roomy}
 
 -- it was accepted with the answer a, and the lists begin with its records

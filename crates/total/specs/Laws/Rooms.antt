@@ -1,20 +1,19 @@
 -- Lists of words with room for the records of every member of some bytes.
-use mathlib.Core.Path.{_≡_, ap}
+use mathlib.Core.Path.{ap}
 use mathlib.Core.List.{List}
 use Prim.Native.Nat.{ℕ, _+_, _*_, _≤_, _/_}
-use native.Mathlib.Nat.{mul-zero, mul-add}
+use native.Mathlib.Nat.{mul-zero}
 use native.Mathlib.Omega.{arith}
 use lib.ListN.{length, length-append}
 use borrow.Author.Tests.{leb-true}
 use Rattle.sizes.specs.Sizes.{most-cells, category-depth, node-words, cell-words, node-area, cell-area}
 use Rattle.layout.specs.Layout.{Tree, All, all-none, all-more, Valid, spell, size, passes}
-use Rattle.layout.specs.Laws.{digits-length}
 use Rattle.table.specs.Table.{Dimension, Cell}
-use Rattle.table.specs.Records.{sum, dimNodes, dimCategories}
+use Rattle.table.specs.Records.{sum, dimNodes}
 use Rattle.table.specs.Laws.Lengths.{size-all, size-dimension}
 use Rattle.table.specs.Laws.LeastBytes.{least-category, least-cell, categories-bytes, cells-bytes}
 use Rattle.member.specs.Laws.Whole.{short-member}
-use Rattle.member.specs.Member.{Member, version, dimensionsSection, cellsSection, dimensions, cells, nodes, final, MemberDerivation, LargeEnough}
+use Rattle.member.specs.Member.{version, cellsSection, dimensions, cells, MemberDerivation, LargeEnough}
 
 -- lists that the code has for a short member
 abbrev pub short-nodes : ℕ

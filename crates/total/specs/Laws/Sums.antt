@@ -1,20 +1,20 @@
 -- How large sums are, and what the leaves of a dimension add up to.
-use mathlib.Core.Path.{_≡_, refl, sym, ap, _∙_}
+use mathlib.Core.Path.{_≡_, refl}
 use mathlib.Core.Bool.{Bool, true, false}
 use mathlib.Core.List.{List, [], _∷_}
-use Prim.Native.Nat.{ℕ, zero, suc, _+_, _-_, _*_, _^_, _≤_, _<_}
+use Prim.Native.Nat.{ℕ, suc, _+_, _-_, _*_, _^_, _≤_, _<_}
 use native.Mathlib.Nat.{mul-le-mul-right}
 use native.Mathlib.Omega.{arith}
 use lib.ListN.{length}
 use lib.Dec.{eqb, ltb}
-use borrow.Author.Tests.{ltb-true, eq-eqb, ne-eqb}
-use Rattle.layout.specs.Layout.{pick, among, All, all-none, all-more}
+use borrow.Author.Tests.{ltb-true}
+use Rattle.layout.specs.Layout.{pick, among}
 use Rattle.counts.specs.declared.Kind.{Kind}
 use Rattle.counts.specs.declared.Kind.the-variants.{Text, Missing, Number, Bad}
 use Rattle.total.specs.declared.sums.Sums.{Sums}
 use Rattle.counts.specs.Count.{missing-bits, no-count, count}
-use Rattle.counts.specs.Count.{countKind, doubleKind, kind}
-use Rattle.total.specs.Total.{CellSays, add, no-sums, withCell, sums}
+use Rattle.counts.specs.Count.{kind}
+use Rattle.total.specs.Total.{CellSays, add, withCell, sums}
 
 -- ---- how large
 

@@ -1,8 +1,8 @@
 -- "Where no cell of the table is refused, the totals over all leaves of any one dimension add up to the same table total."
-use mathlib.Core.Path.{_≡_, refl, sym, ap, _∙_}
-use mathlib.Core.Bool.{Bool, true, false, _&&_}
-use mathlib.Core.List.{List, [], _∷_, map}
-use Prim.Native.Nat.{ℕ, zero, suc, _+_, _<_}
+use mathlib.Core.Path.{_≡_, refl, _∙_}
+use mathlib.Core.Bool.{Bool, true, false}
+use mathlib.Core.List.{List, [], _∷_}
+use Prim.Native.Nat.{ℕ, _<_}
 use native.Mathlib.Omega.{arith}
 use lib.ListN.{length, getD, length-map}
 use borrow.Author.Tests.{lt-ltb}
@@ -10,7 +10,7 @@ use Rattle.layout.specs.Layout.{pick, Tree, All, all-none, all-more}
 use Rattle.index.specs.Index.{coordinate}
 use Rattle.index.specs.Laws.Coordinates.{coordinate-below}
 use Rattle.table.specs.Records.{dimLeaves}
-use Rattle.member.specs.Member.{Member, version, dimensions, nodes, cells, cellsStart, ns, places, AsDemanded}
+use Rattle.member.specs.Member.{Member, version, dimensions, cells, cellsStart, ns, places, AsDemanded}
 use Rattle.counts.specs.declared.Kind.{Kind}
 use Rattle.counts.specs.declared.Kind.the-variants.{Text, Missing, Number, Bad}
 use Rattle.total.specs.declared.sums.Sums.{Sums}

@@ -1,17 +1,15 @@
 -- Under a leaf: by the places of the dimensions from its own on and of those after it, as the code has it, and by the coordinate.
-use mathlib.Core.Path.{_≡_, refl, sym, ap, _∙_}
+use mathlib.Core.Path.{_≡_, refl}
 use mathlib.Core.Bool.{Bool}
 use mathlib.Core.List.{List, [], _∷_, map}
-use Prim.Native.Nat.{ℕ, suc, _+_, _/_, _%_, _≤_, _<_}
-use native.Mathlib.Omega.{arith}
+use Prim.Native.Nat.{ℕ, suc, _+_, _<_}
 use lib.ListN.{length, drop}
 use lib.Dec.{eqb}
-use Rattle.layout.specs.Layout.{pick, Tree, size, All, all-none, all-more}
+use Rattle.layout.specs.Layout.{Tree, size, All, all-none, all-more}
 use Rattle.index.specs.Index.{product, coordinate}
 use Rattle.index.specs.Laws.Coordinates.{coordinate-is}
 use Rattle.table.specs.Table.{Cell}
 use Rattle.table.specs.Records.{cellIndex}
-use Rattle.total.specs.declared.sums.Sums.{Sums}
 use Rattle.total.specs.Total.{CellSays, withCell, sums, cellsSay}
 use Rattle.total.specs.Laws.Words.{underBy}
 

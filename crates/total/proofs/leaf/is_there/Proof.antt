@@ -1,5 +1,4 @@
 use borrow.Author.Needs.{needs}
-use native.Mathlib.Omega.{arith}
 use Rattle.total.specs.Laws.Leaf.{thereOf}
 use Rattle.total.proofs.leaf.is_there.Statement.{statement}
 use Rattle.total.proofs.leaf.is_there.Tie as tie

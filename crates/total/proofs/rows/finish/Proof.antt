@@ -1,10 +1,9 @@
 -- The loop has finished the rows before j.
 use mathlib.Core.Path.{_≡_, refl, _∙_}
-use Prim.Native.Nat.{_+_, _-_, _*_, _≤_}
+use Prim.Native.Nat.{_-_, _≤_}
 use native.Mathlib.Omega.{arith}
 use lib.ListN.{length}
 use borrow.Author.Needs.{needs}
-use Rattle.sizes.specs.Sizes.{leaf-total-words}
 use Rattle.total.specs.Laws.LeafRows.{finished, finished-more, finished-length}
 use Rattle.total.specs.Laws.Doubles.{answered-numbers}
 use Rattle.total.proofs.rows.finish.Statement.{statement}

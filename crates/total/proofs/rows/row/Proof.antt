@@ -1,5 +1,4 @@
 use borrow.Author.Needs.{needs}
-use native.Mathlib.Omega.{arith}
 use Rattle.total.specs.Laws.LeafRows.{sumsAt}
 use Rattle.total.proofs.rows.row.Statement.{statement}
 use Rattle.total.proofs.rows.row.Tie as tie

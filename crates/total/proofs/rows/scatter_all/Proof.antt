@@ -1,11 +1,10 @@
 -- The loop has added the cells of the records from i on.
-use mathlib.Core.Path.{_≡_, refl, _∙_}
+use mathlib.Core.Path.{_≡_}
 use mathlib.Core.List.{_++_}
 use Prim.Native.Nat.{_+_, _-_, _*_, _≤_}
 use native.Mathlib.Nat.{sub-zero}
 use native.Mathlib.Omega.{arith}
 use lib.ListN.{drop, length}
-use borrow.Author.Needs.{needs}
 use Rattle.sizes.specs.Sizes.{leaf-total-words}
 use Rattle.total.specs.Total.{sums}
 use Rattle.total.specs.Laws.Words.{underBy, recordsSay}

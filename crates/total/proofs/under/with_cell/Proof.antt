@@ -1,5 +1,4 @@
 use mathlib.Core.Path.{_∙_}
-use borrow.Author.Needs.{needs}
 use native.Mathlib.Omega.{arith}
 use Rattle.total.specs.Laws.Words.{underBy, recordSays, cell-added, cell-left}
 use Rattle.total.proofs.under.with_cell.Statement.{statement}
