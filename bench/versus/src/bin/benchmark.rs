@@ -1,8 +1,10 @@
 //! Times of the proved library and of the independent reader on the same inputs, as tables in
 //! markdown.
 
+use std::env;
 use std::fs;
 use std::hint::black_box;
+use std::process;
 
 use digarumbi::lent::{
     self, CASES_FEED_ANSWER, CASES_STATE, CELL_AREA, CELL_RECORD, INDEX_WORDS, LONGEST_LOOK,
@@ -31,19 +33,34 @@ use digarumbi_versus::timing::{measure, Times};
 const SIZES_IN_BYTES: [usize; 5] = [65_536, 131_072, 262_144, 524_288, MEMBER_BYTES];
 const NUMBERS_OF_CELLS: [u64; 5] = [256, 512, 1_024, 2_048, 4_096];
 
+/// The parts of the benchmark, each under the name by which it can be asked for.
+const PARTS: [(&str, fn()); 11] = [
+    ("real", real_members),
+    ("lists", lists),
+    ("large", large_members),
+    ("bytes", growth_with_bytes),
+    ("cells", growth_with_cells),
+    ("positions", positions),
+    ("values", values),
+    ("totals", leaf_totals),
+    ("looks", looks),
+    ("texts", texts),
+    ("cases", case_data),
+];
+
+/// All parts, or those that the arguments name.
 fn main() {
+    let asked: Vec<String> = env::args().skip(1).collect();
+    if let Some(unknown) = asked.iter().find(|name| PARTS.iter().all(|(part, _)| part != name)) {
+        eprintln!("benchmark: there is no part {unknown}");
+        process::exit(2);
+    }
     println!("{}\n", conditions());
-    real_members();
-    lists();
-    large_members();
-    growth_with_bytes();
-    growth_with_cells();
-    positions();
-    values();
-    leaf_totals();
-    looks();
-    texts();
-    case_data();
+    for (name, part) in PARTS {
+        if asked.is_empty() || asked.iter().any(|part| part == name) {
+            part();
+        }
+    }
 }
 
 fn conditions() -> String {
