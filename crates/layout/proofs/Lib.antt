@@ -1,6 +1,6 @@
 mod Digits
 mod Fields
-mod Nulls
+mod NullBytes
 mod Runs
 mod Rooms
 mod Many

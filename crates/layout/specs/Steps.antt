@@ -13,5 +13,6 @@ pub mod Keeping
 pub mod Slices
 pub mod Spelt
 pub mod Numbered
+pub mod Cycle
 
 pub ruleset reads = (then, free-of, tested-of, string-of, nothing-of, switch-of, region-of, leading-of, yes-of, no-of, empty-of)

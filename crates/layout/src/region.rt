@@ -1,13 +1,12 @@
 // Strings and counted regions: a count, and as many bytes.
 ghost use mathlib.Core.Path.{_≡_};
-ghost use mathlib.Core.Bool.{_||_};
-ghost use lib.Dec.{eqb};
 ghost use Prim.Native.Nat.{_+_, min};
-ghost use Rattle.layout.specs.Layout.{any-number, no-zero, exact, optional, open-ended, number, string, times, among};
+ghost use Rattle.layout.specs.Layout.{any-number, no-zero, exact, optional, open-ended, number, string, times};
 ghost use Rattle.layout.specs.Reads as spec;
 ghost use Rattle.layout.specs.Reads.{Reads, order};
 use crate::Span;
 use crate::Step;
+use crate::nulls::has_null;
 use crate::number::any;
 use crate::number::between;
 use crate::number::left;
@@ -111,25 +110,6 @@ pub fn close_open(p: Span, i: Step) -> Step
         },
         Span::Refused(r, p) => Step::Refused(r, p),
     }
-}
-
-fn or_null(found: bool, b: u8) -> bool
-    ensures { λ r. ⌜ r ≡ (found || eqb 0 b) ⌝ }
-{
-    if found { true } else { 0 == b }
-}
-
-// One of the bytes is 0. All are looked at, with no way out of the loop: so the compiler turns it into vector instructions.
-fn has_null(s: &[u8]) -> bool
-    ensures { λ r. ⌜ r ≡ among 0 (now (s .entry)) ⌝ }
-{
-    let mut found = false;
-    let mut i = 0;
-    while i < s.len() {
-        found = or_null(found, s[i]);
-        i += 1;
-    }
-    found
 }
 
 // Past the bytes of a string, after its length of w bytes, unless one of them is 0.

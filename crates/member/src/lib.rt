@@ -16,7 +16,7 @@ ghost use Rattle.member.specs.Demand3.{Demand3};
 ghost use Rattle.member.specs.Checked.{ended, checked};
 ghost use Rattle.member.specs.Laws.Header.{Bound, HeaderRead};
 ghost use Rattle.member.specs.Laws.Whole as whole;
-ghost use Rattle.member.specs.Laws.Whole.{short-member};
+ghost use Rattle.member.specs.Laws.Whole.{small-lists, medium-lists, large-lists};
 use cells::AxisCounts;
 use cells::LEAST_CELL;
 use cells::axes;
@@ -43,12 +43,13 @@ use table::Section;
 use table::Walk;
 use table::dimensions;
 
-// The bytes of a short member, and the words for the records that so many bytes hold at most.
-const SHORT_MEMBER: usize = 4608;
+// The bytes of a member that is read with small lists, with medium ones and with large ones: these have room for the records that so many
+// bytes hold at most.
+const SMALL_LISTS: usize = 2560;
 
-const SHORT_NODE_LIST: usize = SHORT_MEMBER / LEAST_CATEGORY * NODE_WORDS;
+const MEDIUM_LISTS: usize = 4608;
 
-const SHORT_CELL_LIST: usize = SHORT_MEMBER / LEAST_CELL * CELL_WORDS;
+const LARGE_LISTS: usize = 16384;
 
 // The version of a member and where what follows it starts; or the refusal.
 enum Head {
@@ -306,18 +307,38 @@ fn read_with_lists(
     }
 }
 
-// A short member has few nodes and cells, and short lists are sooner cleared.
-fn read_short(member: &[u8], nodes: &mut [u32], cells: &mut [u32]) -> Answer
-    requires { ⌜ length (now member) ≤ short-member ⌝ }
+// A small member has few nodes and cells, and small lists are sooner cleared.
+fn with_small_lists(member: &[u8], nodes: &mut [u32], cells: &mut [u32]) -> Answer
+    requires { ⌜ length (now member) ≤ small-lists ⌝ }
     ensures { λ r. ⌜ Delivered (checked (now (member .entry))) (now (nodes .entry)) (now (cells .entry)) r (now (nodes .exit)) (now (cells .exit)) ⌝ }
 {
-    let mut node_list = [0u32; SHORT_NODE_LIST];
-    let mut cell_list = [0u32; SHORT_CELL_LIST];
+    let mut node_list = [0u32; SMALL_LISTS / LEAST_CATEGORY * NODE_WORDS];
+    let mut cell_list = [0u32; SMALL_LISTS / LEAST_CELL * CELL_WORDS];
+    read_with_lists(member, &mut node_list, &mut cell_list, nodes, cells)
+}
+
+// A member that is read with medium lists.
+fn with_medium_lists(member: &[u8], nodes: &mut [u32], cells: &mut [u32]) -> Answer
+    requires { ⌜ length (now member) ≤ medium-lists ⌝ }
+    ensures { λ r. ⌜ Delivered (checked (now (member .entry))) (now (nodes .entry)) (now (cells .entry)) r (now (nodes .exit)) (now (cells .exit)) ⌝ }
+{
+    let mut node_list = [0u32; MEDIUM_LISTS / LEAST_CATEGORY * NODE_WORDS];
+    let mut cell_list = [0u32; MEDIUM_LISTS / LEAST_CELL * CELL_WORDS];
+    read_with_lists(member, &mut node_list, &mut cell_list, nodes, cells)
+}
+
+// A member that is read with large lists.
+fn with_large_lists(member: &[u8], nodes: &mut [u32], cells: &mut [u32]) -> Answer
+    requires { ⌜ length (now member) ≤ large-lists ⌝ }
+    ensures { λ r. ⌜ Delivered (checked (now (member .entry))) (now (nodes .entry)) (now (cells .entry)) r (now (nodes .exit)) (now (cells .exit)) ⌝ }
+{
+    let mut node_list = [0u32; LARGE_LISTS / LEAST_CATEGORY * NODE_WORDS];
+    let mut cell_list = [0u32; LARGE_LISTS / LEAST_CELL * CELL_WORDS];
     read_with_lists(member, &mut node_list, &mut cell_list, nodes, cells)
 }
 
 // A member of any length that is accepted.
-fn read_long(member: &[u8], nodes: &mut [u32], cells: &mut [u32]) -> Answer
+fn with_full_lists(member: &[u8], nodes: &mut [u32], cells: &mut [u32]) -> Answer
     requires { ⌜ length (now member) ≤ member-bytes ⌝ }
     ensures { λ r. ⌜ Delivered (checked (now (member .entry))) (now (nodes .entry)) (now (cells .entry)) r (now (nodes .exit)) (now (cells .exit)) ⌝ }
 {
@@ -326,15 +347,43 @@ fn read_long(member: &[u8], nodes: &mut [u32], cells: &mut [u32]) -> Answer
     read_with_lists(member, &mut node_list, &mut cell_list, nodes, cells)
 }
 
+// How many bytes a member has at most that is read at a step.
+fn most_bytes(step: usize) -> usize
+    ensures { λ r. ⌜ r ≡ whole.most-bytes step ⌝ }
+{
+    match step {
+        0 => SMALL_LISTS,
+        1 => MEDIUM_LISTS,
+        2 => LARGE_LISTS,
+        _ => MEMBER_BYTES,
+    }
+}
+
+// Reads a member at the first step, from that one on, whose lists have room for its records. It calls itself: into such a function the
+// compiler puts none that has long lists. So a small member is read on a small stack.
+fn read_from_step(member: &[u8], step: usize, nodes: &mut [u32], cells: &mut [u32]) -> Answer
+    requires { ⌜ (length (now member) ≤ member-bytes) × (step ≤ 3) ⌝ }
+    ensures { λ r. ⌜ Delivered (checked (now (member .entry))) (now (nodes .entry)) (now (cells .entry)) r (now (nodes .exit)) (now (cells .exit)) ⌝ }
+{
+    let most = most_bytes(step);
+    if most < member.len() {
+        return read_from_step(member, step + 1, nodes, cells);
+    }
+    match step {
+        0 => with_small_lists(member, nodes, cells),
+        1 => with_medium_lists(member, nodes, cells),
+        2 => with_large_lists(member, nodes, cells),
+        _ => with_full_lists(member, nodes, cells),
+    }
+}
+
 // Reads a member. On a refusal both areas hold what they held; on acceptance the records, and beyond them what was there.
 pub fn read_member(member: &[u8], nodes: &mut [u32], cells: &mut [u32]) -> Answer
     ensures checks { λ r. ⌜ Delivered (checked (now (member .entry))) (now (nodes .entry)) (now (cells .entry)) r (now (nodes .exit)) (now (cells .exit)) ⌝ }
     ensures demands { λ r. ⌜ Demand3 (now (member .entry)) (now (nodes .entry)) (now (cells .entry)) r (now (nodes .exit)) (now (cells .exit)) ⌝ }
 {
-    if member.len() <= SHORT_MEMBER {
-        read_short(member, nodes, cells)
-    } else if member.len() <= MEMBER_BYTES {
-        read_long(member, nodes, cells)
+    if member.len() <= MEMBER_BYTES {
+        read_from_step(member, 0, nodes, cells)
     } else {
         refused(1, 0, 0, 0)
     }

@@ -24,6 +24,7 @@ use layout::number::between;
 use layout::number::field;
 use layout::number::fixed;
 use layout::number::peek;
+use layout::slice::whole;
 use sizes::MOST_NODES;
 use sizes::NODE_SIZE;
 use sizes::NODE_WORDS;
@@ -199,7 +200,7 @@ fn category(
     }
     match head(s, at, version) {
         NodeStart::Refused(r, p) => Walk::Refused(r, p),
-        NodeStart::Node(kind, size, word, children, next) => match categories(
+        NodeStart::Node(kind, size, word, children, next) => match below(
             s,
             next,
             depth - 1,
@@ -229,6 +230,37 @@ fn category(
             }
         },
     }
+}
+
+// The categories below one: a leaf has none, and no call is made for it.
+fn below(
+    s: &[u8],
+    at: usize,
+    depth: usize,
+    dimension: u32,
+    parent: u32,
+    count: u64,
+    used: usize,
+    nodes: &mut [u32],
+    version: u64,
+) -> Walk
+    requires { ⌜ (length (now s) ≤ member-bytes) × (used ≤ most-nodes) ⌝ }
+    ensures { λ r. ⌜ Keeps (now (s .entry)) (Each (spec.Node version depth dimension parent) at (used, now (nodes .entry))) (check (categoriesRule version depth used count) (drop at (now (s .entry))) at) (spec.walked r (now (nodes .exit))) ⌝ }
+{
+    if count == 0 {
+        return Walk::On(at, used);
+    }
+    categories(
+        whole(s),
+        at,
+        depth,
+        dimension,
+        parent,
+        count,
+        used,
+        nodes,
+        version,
+    )
 }
 
 // As many categories as `count` says, one after the other.

@@ -2,6 +2,7 @@
 // loop stops at the first refusal, so a count costs no more than the bytes that are there.
 ghost use mathlib.Core.Path.{_≡_};
 ghost use Rattle.layout.specs.Layout.{times};
+ghost use Rattle.layout.specs.declared.Step.the-variants.{Next};
 ghost use Rattle.layout.specs.Reads.{Reads};
 ghost use Rattle.value.specs.Value as grammar;
 use layout::LITTLE;
@@ -13,7 +14,8 @@ use layout::number::fixed;
 use layout::number::peek;
 use layout::region::nothing;
 use layout::region::string;
-use layout::run::skip;
+use layout::run::past;
+use layout::slice::whole;
 use sizes::BELOW_VALUE;
 use sizes::VALUE_DEPTH;
 
@@ -85,54 +87,74 @@ fn form_06(s: &[u8], st: Step, version: u64) -> Step
 
 // ---- a cycle
 
-// A Value without the bytes 00 before it, in which `depth` levels may be nested.
-fn raw_value(s: &[u8], st: Step, depth: usize, version: u64) -> Step
-    ensures { λ r. ⌜ Reads (grammar.RawValueOf version (grammar.ValueIn version depth)) (now (s .entry)) st r ⌝ }
+// A Value without the bytes 00 before it, at a position, in which `depth` levels may be nested.
+fn raw_value(s: &[u8], at: usize, depth: usize, version: u64) -> Step
+    ensures { λ r. ⌜ Reads (grammar.RawValueOf version (grammar.ValueIn version depth)) (now (s .entry)) (Next at) r ⌝ }
 {
+    let st = Step::Next(at);
     let x = peek(s, st, LITTLE, 1);
-    let at = any(s, st, 1);
+    let next = any(s, st, 1);
     match x {
-        1 => form_01(s, at, version),
-        2 => form_02(s, at, version),
-        3 => form_03(s, at, version),
-        4 => form_04(s, at, version),
-        5 => form_05(s, at, version),
-        6 => form_06(s, at, version),
+        1 => form_01(s, next, version),
+        2 => form_02(s, next, version),
+        3 => form_03(s, next, version),
+        4 => form_04(s, next, version),
+        5 => form_05(s, next, version),
+        6 => form_06(s, next, version),
         0x31 => {
             let without = version == 1;
             if without {
                 return field(s, st, 1, 4);
             }
-            template(s, modifiers(s, at), depth, version)
+            template(s, modifiers(s, next), depth, version)
         }
-        0x58 => template(s, at, depth, version),
+        0x58 => template(s, next, depth, version),
         _ => field(s, st, 1, 3),
     }
 }
 
-// A Value, of which `depth` levels may be nested.
+// A Value at a position, of which `depth` levels may be nested.
+fn value_at(s: &[u8], at: usize, depth: usize, version: u64) -> Step
+    ensures { λ r. ⌜ Reads (grammar.ValueIn version depth) (now (s .entry)) (Next at) r ⌝ }
+{
+    if depth == 0 {
+        return nothing(Step::Next(at));
+    }
+    raw_value(whole(s), past(s, at, 0, 4), depth - 1, version)
+}
+
+// The same after a step.
 fn value_in(s: &[u8], st: Step, depth: usize, version: u64) -> Step
     ensures { λ r. ⌜ Reads (grammar.ValueIn version depth) (now (s .entry)) st r ⌝ }
 {
-    if depth == 0 {
-        return nothing(st);
+    match st {
+        Step::Next(at) => value_at(s, at, depth, version),
+        Step::Refused(r, p) => Step::Refused(r, p),
     }
-    raw_value(s, skip(s, st, 0, 4), depth - 1, version)
+}
+
+fn template_at(s: &[u8], at: usize, depth: usize, version: u64) -> Step
+    ensures { λ r. ⌜ Reads (grammar.TemplateOf (grammar.ValueIn version depth)) (now (s .entry)) (Next at) r ⌝ }
+{
+    let st = string(s, Step::Next(at), LITTLE, 4);
+    let n = peek(s, st, LITTLE, 4);
+    arguments(s, any(s, st, 4), n, depth, version)
 }
 
 fn template(s: &[u8], st: Step, depth: usize, version: u64) -> Step
     ensures { λ r. ⌜ Reads (grammar.TemplateOf (grammar.ValueIn version depth)) (now (s .entry)) st r ⌝ }
 {
-    let st = string(s, st, LITTLE, 4);
-    let n = peek(s, st, LITTLE, 4);
-    arguments(s, any(s, st, 4), n, depth, version)
+    match st {
+        Step::Next(at) => template_at(whole(s), at, depth, version),
+        Step::Refused(r, p) => Step::Refused(r, p),
+    }
 }
 
-// n arguments.
-pub fn arguments(s: &[u8], st: Step, n: u64, depth: usize, version: u64) -> Step
-    ensures { λ r. ⌜ Reads (times n (grammar.Argument version depth)) (now (s .entry)) st r ⌝ }
+// n arguments at a position.
+fn arguments_at(s: &[u8], at: usize, n: u64, depth: usize, version: u64) -> Step
+    ensures { λ r. ⌜ Reads (times n (grammar.Argument version depth)) (now (s .entry)) (Next at) r ⌝ }
 {
-    let mut at = st;
+    let mut at = Step::Next(at);
     let mut k = n;
     while 0 < k {
         if let Step::Refused(_, _) = at {
@@ -142,6 +164,21 @@ pub fn arguments(s: &[u8], st: Step, n: u64, depth: usize, version: u64) -> Step
         k -= 1;
     }
     at
+}
+
+// The same after a step. Most templates have none.
+pub fn arguments(s: &[u8], st: Step, n: u64, depth: usize, version: u64) -> Step
+    ensures { λ r. ⌜ Reads (times n (grammar.Argument version depth)) (now (s .entry)) st r ⌝ }
+{
+    match st {
+        Step::Next(at) => {
+            if n == 0 {
+                return Step::Next(at);
+            }
+            arguments_at(whole(s), at, n, depth, version)
+        }
+        Step::Refused(r, p) => Step::Refused(r, p),
+    }
 }
 
 pub fn argument(s: &[u8], st: Step, depth: usize, version: u64) -> Step
@@ -186,10 +223,24 @@ pub fn cell_zeros(version: u64) -> usize
     if one_more { 5 } else { 4 }
 }
 
-// The Value of a cell, with all the bytes 00 before it.
+// The Value of a cell at a position, with all the bytes 00 before it. Most are numbers.
+fn cell_value_at(s: &[u8], at: usize, version: u64) -> Step
+    ensures { λ r. ⌜ Reads (grammar.CellValue version) (now (s .entry)) (Next at) r ⌝ }
+{
+    let from = past(s, at, 0, cell_zeros(version));
+    let x = peek(s, Step::Next(from), LITTLE, 1);
+    if x == 1 {
+        return form_01(s, any(s, Step::Next(from), 1), version);
+    }
+    raw_value(whole(s), from, BELOW_VALUE, version)
+}
+
+// The same after a step.
 pub fn cell_value(s: &[u8], st: Step, version: u64) -> Step
     ensures { λ r. ⌜ Reads (grammar.CellValue version) (now (s .entry)) st r ⌝ }
 {
-    let zeros = cell_zeros(version);
-    raw_value(s, skip(s, st, 0, zeros), BELOW_VALUE, version)
+    match st {
+        Step::Next(at) => cell_value_at(s, at, version),
+        Step::Refused(r, p) => Step::Refused(r, p),
+    }
 }

@@ -2,6 +2,7 @@
 ghost use Rattle.layout.specs.Layout.{empty, _▸_};
 ghost use Rattle.layout.specs.Conventions as grammar;
 ghost use Rattle.layout.specs.Reads.{Reads};
+ghost use Rattle.layout.specs.declared.Step.the-variants.{Next};
 ghost use Rattle.value.specs.Value as value;
 use layout::LITTLE;
 use layout::Step;
@@ -18,6 +19,7 @@ use layout::region::many_strings;
 use layout::region::part;
 use layout::region::string;
 use layout::rows::many;
+use layout::slice::whole;
 
 fn font_style(s: &[u8], st: Step) -> Step
     ensures { λ r. ⌜ Reads value.FontStyle (now (s .entry)) st r ⌝ }
@@ -128,13 +130,23 @@ fn mod_region(s: &[u8], st: Step) -> Step
     close(p, mod_content(bytes(s, p), Step::Next(0)))
 }
 
-// What follows the 31 of a ValueMod.
+// What follows the 31 of a ValueMod, at a position.
+fn modifiers_at(s: &[u8], at: usize) -> Step
+    ensures { λ r. ⌜ Reads value.Modifiers (now (s .entry)) (Next at) r ⌝ }
+{
+    let st = many(s, Step::Next(at), LITTLE, 2);
+    let st = many_strings(s, st, LITTLE, 4);
+    mod_region(s, st)
+}
+
+// The same after a step.
 pub fn modifiers(s: &[u8], st: Step) -> Step
     ensures { λ r. ⌜ Reads value.Modifiers (now (s .entry)) st r ⌝ }
 {
-    let st = many(s, st, LITTLE, 2);
-    let st = many_strings(s, st, LITTLE, 4);
-    mod_region(s, st)
+    match st {
+        Step::Next(at) => modifiers_at(whole(s), at),
+        Step::Refused(r, p) => Step::Refused(r, p),
+    }
 }
 
 pub fn value_mod(s: &[u8], st: Step, version: u64) -> Step
@@ -144,5 +156,12 @@ pub fn value_mod(s: &[u8], st: Step, version: u64) -> Step
     let without = version == 1;
     let at = one_of_two_but(s, st, 0x31, 0x58, without);
     let present = x == 0x31;
-    if present { modifiers(s, at) } else { at }
+    if present {
+        match at {
+            Step::Next(p) => modifiers_at(whole(s), p),
+            Step::Refused(r, p) => Step::Refused(r, p),
+        }
+    } else {
+        at
+    }
 }

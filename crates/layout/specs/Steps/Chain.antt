@@ -1,5 +1,5 @@
 -- One symbol after the other, a refusal that stays, and repetition.
-use mathlib.Core.Path.{_≡_, refl, ap, sym, _∙_}
+use mathlib.Core.Path.{_≡_, refl, ap, sym, _∙_, subst}
 use mathlib.Core.Bool.{Bool, true, false}
 use mathlib.Core.List.{List, _∷_}
 use Prim.Native.Nat.{ℕ, zero, suc, _-_, _≤_, _<_}
@@ -93,6 +93,19 @@ e ◂ f = then e f
 pub kept : {g : Layout} {s : List ℕ} {st : Step} {n p : ℕ} → st ≡ Refused n p → Reads g s st st
 unfolding chain
 kept {g} {s} {st} {n} {p} e = rw e (record { is = refl })
+
+-- what is read from a position after a step that is that position
+pub from-next : {g : Layout} {s : List ℕ} {st r : Step} {at : ℕ} → st ≡ Next at → Reads g s (Next at) r → Reads g s st r
+from-next e h = rw e h
+
+-- and after a refusal
+pub from-refused : {g : Layout} {s : List ℕ} {st : Step} {n p : ℕ} → st ≡ Refused n p → Reads g s st (Refused n p)
+unfolding chain
+from-refused e = rw e (record { is = refl })
+
+-- what is read in the same bytes
+pub in-same : {g : Layout} {s w : List ℕ} {st r : Step} → w ≡ s → Reads g w st r → Reads g s st r
+in-same {g} {st = st} {r = r} e h = subst (λ (x : List ℕ). Reads g x st r) e h
 
 pub empty-of : {s : List ℕ} {st : Step} → Reads empty s st st
 unfolding step read

@@ -10,20 +10,15 @@ pub read-member-spec : {M : Type 1} → statement M
 read-member-spec =
     tie.close
     (tie.spec
-    (λ c κs. search needs) (λ c κs. search needs) (λ c κs. search needs) (λ c. search needs) (λ c. search needs)
+    (λ c κs. (omega arith, omega arith)) (λ c κs. search needs) (λ c. search needs) (λ c. search needs)
     (λ c.
     let z = c .before .before .before .before .before .before .before .before .before .before in
     let a = z .before .args in
     let b = bytes-of _ (z .shared-slice-known .given) in
-    (c .before .before .before .before .read-short .ensures, demand3 (a .member .now) b (a .nodes .now) (a .cells .now) (c .before .before .before .before .read-short .ensures)))
-    (λ c. search needs) (λ c. search needs)
+    let d = c .before .before .before .before .read-from-step .ensures in
+    (d, demand3 (a .member .now) b (a .nodes .now) (a .cells .now) d))
     (λ c.
-    let z = c .before .before .before .before .before .before .before .before .before .before .before in
-    let a = z .before .args in
-    let b = bytes-of _ (z .shared-slice-known .given) in
-    (c .before .before .before .before .read-long .ensures, demand3 (a .member .now) b (a .nodes .now) (a .cells .now) (c .before .before .before .before .read-long .ensures)))
-    (λ c.
-    let z = c .before .before .before .before .before in
+    let z = c .before .before .before .before in
     let a = z .before .args in
     let b = bytes-of _ (z .shared-slice-known .given) in
     let o = not-delivered (a .member .now) (longer (a .member .now) (omega arith)) {N = a .nodes .now} {C = a .cells .now} in

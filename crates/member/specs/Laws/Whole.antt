@@ -111,9 +111,37 @@ sizes-drop ws (suc k) i =
 
 -- ---- the whole
 
--- the bytes of a member that is read with short lists
-abbrev pub short-member : ℕ
-short-member = 4608
+-- the bytes of a member that is read with small lists, with medium ones and with large ones
+abbrev pub small-lists : ℕ
+small-lists = 2560
+
+abbrev pub medium-lists : ℕ
+medium-lists = 4608
+
+abbrev pub large-lists : ℕ
+large-lists = 16384
+
+-- how many bytes a member has at most that is read at a step
+unfoldable pub most-bytes : ℕ → ℕ
+most-bytes zero = small-lists
+most-bytes (suc zero) = medium-lists
+most-bytes (suc (suc zero)) = large-lists
+most-bytes (suc (suc (suc n))) = member-bytes
+
+pub most-bytes-last : (n : ℕ) → 2 < n → most-bytes n ≡ member-bytes
+unfolding most-bytes
+most-bytes-last zero h = absurd (omega arith)
+most-bytes-last (suc zero) h = absurd (omega arith)
+most-bytes-last (suc (suc zero)) h = absurd (omega arith)
+most-bytes-last (suc (suc (suc n))) h = refl
+
+-- a step that has no room for a member is not the last
+pub not-last : (n : ℕ) {m l : ℕ} → m ≡ most-bytes n → m < l → l ≤ member-bytes → n < 3
+unfolding most-bytes
+not-last zero e h k = omega arith
+not-last (suc zero) e h k = omega arith
+not-last (suc (suc zero)) e h k = omega arith
+not-last (suc (suc (suc n))) e h k = absurd (omega arith)
 
 -- two lists of zeros, with room for the records of a member that is no longer than members are
 pub record ReadyLists (s ns cs : List ℕ) : Type 0 where

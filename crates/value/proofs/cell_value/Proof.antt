@@ -1,4 +1,5 @@
-use Rattle.value.specs.Laws.Forms.{after-cell-zeros}
+use borrow.Author.Needs.{needs}
+use Rattle.layout.specs.Steps.Chain.{from-next, from-refused}
 use Rattle.value.proofs.cell_value.Statement.{statement}
 use Rattle.value.proofs.cell_value.Tie as tie
 
@@ -6,5 +7,6 @@ pub cell-value-spec : {M : Type 1} → statement M
 cell-value-spec =
     tie.close
     (tie.spec
-    (λ _ _. tt) (λ _ _. tt) (λ _ _. tt)
-    (λ c. after-cell-zeros _ (c .before .before .cell-zeros .ensures) (c .raw-value .ensures) (c .before .skip .ensures)))
+    (λ c. search needs) (λ _ _. tt) (λ c. search needs)
+    (λ c. from-next (c .before .before .st .given .1) (c .cell-value-at .ensures))
+    (λ c. from-refused (c .before .st2 .given .1)))

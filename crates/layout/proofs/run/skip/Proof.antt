@@ -1,13 +1,7 @@
--- The loop keeps the end of the run: i and what the run has from there.
-use Prim.Native.Nat.{_+_}
-use mathlib.Core.Path.{_≡_, refl, ap}
+use mathlib.Core.Path.{ap}
 use borrow.Author.Needs.{needs}
-use native.Mathlib.Omega.{arith}
-use lib.ListN.{drop}
 use Rattle.layout.specs.declared.Step.the-variants.{Next}
-use Rattle.layout.specs.Read.{lead}
 use Rattle.layout.specs.Reads as spec
-use Rattle.layout.proofs.Runs.{lead-none, lead-past, lead-other, lead-more}
 use Rattle.layout.proofs.run.skip.Statement.{statement}
 use Rattle.layout.proofs.run.skip.Tie as tie
 
@@ -16,25 +10,6 @@ unfolding spec.skip
 skip-spec =
     tie.close
     (tie.spec
-    (λ s b n at i₀ k₀ i k. i + lead b k (drop i s) ≡ at + lead b n (drop at s)) (λ s b n at i₀ k₀ i k. k)
-    (λ c. search needs) (λ c. search needs) (λ c. search needs) (λ c. refl)
-    (λ c.
-    let l = c .before .before in
-    let a = l .before .before .before .before .args in
-    simp (l .before .before .st .given .1) (ap Next (omega (arith, l .loop .inv, lead-past (a .b) (a .s .now) (l .loop .i) (l .loop .k) (c .if1 .taken)))))
-    (λ c. omega arith)
-    (λ c.
-    let l = c .before .before .before .before in
-    let a = l .before .before .before .before .args in
-    let n = lead-other (a .b) (a .s .now) (l .loop .i) (l .loop .k) (omega arith) (c .if2 .taken) in
-    simp (l .before .before .st .given .1) (ap Next (omega (arith, l .loop .inv, n))))
-    (λ c. omega arith) (λ c. omega arith) (λ c. omega arith)
-    (λ c.
-    let l = c .before .before .before .before in
-    let a = l .before .before .before .before .args in
-    omega (arith, l .loop .inv, lead-more (a .b) (a .s .now) (l .loop .i) (l .loop .k) (omega arith) (omega arith) (c .if2 .left)))
-    (λ c.
-    let l = c .before in
-    let a = l .before .before .before .before .args in
-    let z : l .loop .k ≡ 0 = omega arith in
-    simp (l .before .before .st .given .1) (ap Next (omega (arith, rw z at (l .loop .inv), lead-none (a .b) (a .s .now) (l .loop .i))))))
+    (λ c. search needs) (λ _ _. tt) (λ c. search needs)
+    (λ c. simp (c .before .before .st .given .1) (ap Next (c .past .ensures)))
+    (λ c. simp (c .before .st2 .given .1)))

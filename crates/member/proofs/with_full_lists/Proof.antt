@@ -1,11 +1,11 @@
 use mathlib.Core.Path.{refl}
 use native.Mathlib.Omega.{arith}
 use borrow.Author.Needs.{needs}
-use Rattle.member.proofs.read_long.Statement.{statement}
-use Rattle.member.proofs.read_long.Tie as tie
+use Rattle.member.proofs.with_full_lists.Statement.{statement}
+use Rattle.member.proofs.with_full_lists.Tie as tie
 
-pub read-long-spec : {M : Type 1} → statement M
-read-long-spec =
+pub with-full-lists-spec : {M : Type 1} → statement M
+with-full-lists-spec =
     tie.close
     (tie.spec
     (λ c. search needs) (λ c. search needs)

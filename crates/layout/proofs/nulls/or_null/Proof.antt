@@ -1,5 +1,5 @@
-use Rattle.layout.proofs.region.or_null.Statement.{statement}
-use Rattle.layout.proofs.region.or_null.Tie as tie
+use Rattle.layout.proofs.nulls.or_null.Statement.{statement}
+use Rattle.layout.proofs.nulls.or_null.Tie as tie
 
 pub or-null-spec : {M : Type 1} → statement M
 or-null-spec =

@@ -1,41 +1,44 @@
 use mathlib.Core.Path.{_≡_, refl}
-use Prim.Native.Nat.{ℕ, suc, _<_, _+_, _-_, _*_, _^_}
+use mathlib.Core.List.{List}
+use Prim.Native.Nat.{ℕ, suc, _≤_, _<_, _+_, _-_, _*_, _^_}
 use native.Mathlib.Omega.{arith}
 use borrow.Author.Needs.{needs}
-use borrow.Fn.Kinds.{In}
+use borrow.Fn.Kinds.{PK, In}
 use borrow.Fn.PlainCycle.{Measures, is, falls, and}
 use lib.ListN.{length}
+use Rattle.sizes.specs.Sizes.{most-nodes}
 use Rattle.table.specs.Laws.Heads.{head-off}
 use Rattle.table.specs.Laws.Nodes.{Walking, walking, walks-on, walks-off, walks-to, stored, not-stored, too-deep, one-too-many, no-head, with-head}
+use Rattle.layout.proofs.slice.whole.Reads as whole-reads
+use Rattle.table.proofs.below.Reads as below
+use Rattle.table.proofs.below.Kinds as below-kinds
+use Rattle.table.proofs.+below+categories+category.Lts-below as below-lts
 use Rattle.table.proofs.categories.Reads as categories
 use Rattle.table.proofs.categories.Kinds as categories-kinds
-use Rattle.table.proofs.+categories+category.Lts-categories as categories-lts
+use Rattle.table.proofs.+below+categories+category.Lts-categories as categories-lts
 use Rattle.table.proofs.category.Reads as category
 use Rattle.table.proofs.category.Kinds as category-kinds
-use Rattle.table.proofs.+categories+category.Lts-category as category-lts
+use Rattle.table.proofs.+below+categories+category.Lts-category as category-lts
 use Rattle.table.proofs.head.Reads as head-reads
 use Rattle.table.proofs.length.Reads as length-reads
 use Rattle.table.proofs.store_node.Reads as store-node-reads
-use Rattle.table.proofs.+categories+category.{statement}
-use Rattle.table.proofs.+categories+category.Tie.{close}
+use Rattle.table.proofs.+below+categories+category.{statement}
+use Rattle.table.proofs.+below+categories+category.Tie.{close}
+
+abbrev μ-below : Measures 2 below-kinds.ps ℕ
+μ-below κs a = 3 * a .1 .1 .0 + 2
 
 abbrev μ-categories : Measures 2 categories-kinds.ps ℕ
-μ-categories κs a = 2 * a .1 .1 .0 + 1
+μ-categories κs a = 3 * a .1 .1 .0 + 1
 
 abbrev μ-category : Measures 2 category-kinds.ps ℕ
-μ-category κs a = 2 * a .1 .1 .0
+μ-category κs a = 3 * a .1 .1 .0
 
-abbrev categories-at : ℕ → In 2 categories-kinds.ps
-categories-at t = and 2 categories-kinds.ps (is 2 categories-kinds.ps μ-categories t) categories.Pre
+abbrev given : (ps : List (PK 2)) → Measures 2 ps ℕ → In 2 ps → ℕ → In 2 ps
+given ps μ pre t = and 2 ps (is 2 ps μ t) pre
 
-abbrev categories-below : ℕ → In 2 categories-kinds.ps
-categories-below t = and 2 categories-kinds.ps (falls 2 categories-kinds.ps _<_ μ-categories t) categories.Pre
-
-abbrev category-at : ℕ → In 2 category-kinds.ps
-category-at t = and 2 category-kinds.ps (is 2 category-kinds.ps μ-category t) category.Pre
-
-abbrev category-below : ℕ → In 2 category-kinds.ps
-category-below t = and 2 category-kinds.ps (falls 2 category-kinds.ps _<_ μ-category t) category.Pre
+abbrev asked : (ps : List (PK 2)) → Measures 2 ps ℕ → In 2 ps → ℕ → In 2 ps
+asked ps μ pre t = and 2 ps (falls 2 ps _<_ μ t) pre
 
 abbrev categories-Inv-loop : categories-lts.InvT-loop
 categories-Inv-loop s at depth dimension parent count used nodes₀ version at₀ used₀ i₀ nodes at' used' i =
@@ -44,11 +47,21 @@ categories-Inv-loop s at depth dimension parent count used nodes₀ version at�
 abbrev categories-μ-loop : categories-lts.MeasureT-loop
 categories-μ-loop s at depth dimension parent count used nodes₀ version at₀ used₀ i₀ nodes at' used' i = count - i
 
-pub +categories+category-spec : {M : Type 1} → statement M
-+categories+category-spec =
-    close μ-categories μ-category
+pub +below+categories+category-spec : {M : Type 1} → statement M
++below+categories+category-spec =
+    close μ-below μ-categories μ-category
     (λ t.
-    categories-lts.spec (category-below t, category.Post) (categories-at t) categories.Post categories-Inv-loop categories-μ-loop
+    below-lts.spec (whole-reads.Asked, whole-reads.Learnt, asked categories-kinds.ps μ-categories categories.Pre t, categories.Post) (given below-kinds.ps μ-below below.Pre t) below.Post
+    (λ c.
+    let a = c .before .before .before .args in
+    let few : a .used ≤ most-nodes = omega arith in
+    walks-to _ _ _ _ _ _ _ _ _ (walking (a .version) (a .depth) (a .dimension) (a .parent) (a .s .now) (a .count) (a .at) (a .used) (a .nodes .now) few) (omega arith))
+    (λ _ _. tt)
+    (λ c κs. (omega arith, (rw (c .before .whole .ensures) (omega arith), omega arith)))
+    (λ c. search needs)
+    (λ c. rw (c .before .before .before .before .whole .ensures) at (c .before .before .categories .ensures)))
+    (λ t.
+    categories-lts.spec (asked category-kinds.ps μ-category category.Pre t, category.Post) (given categories-kinds.ps μ-categories categories.Pre t) categories.Post categories-Inv-loop categories-μ-loop
     (λ c. (refl, (walking _) _ _ _ _ _ _ _ _ (omega arith)))
     (λ c κs. (omega arith, (omega arith, c .before .before .loop .inv .1 .few)))
     (λ c. search needs) (λ c. omega arith)
@@ -62,7 +75,7 @@ pub +categories+category-spec : {M : Type 1} → statement M
     (λ c. omega arith)
     (λ c. walks-to _ _ _ _ _ _ _ _ _ (c .before .loop .inv .1) (omega arith)))
     (λ t.
-    category-lts.spec (head-reads.Asked, head-reads.Learnt, categories-below t, categories.Post, length-reads.Asked, length-reads.Learnt, store-node-reads.Asked, store-node-reads.Learnt) (category-at t) category.Post
+    category-lts.spec (head-reads.Asked, head-reads.Learnt, asked below-kinds.ps μ-below below.Pre t, below.Post, length-reads.Asked, length-reads.Learnt, store-node-reads.Asked, store-node-reads.Learnt) (given category-kinds.ps μ-category category.Pre t) category.Post
     (λ c. rw (c .if1 .taken) (too-deep _ 0 _ _ _ _ _ _))
     (λ c.
     let a = c .before .before .before .before .args in
@@ -86,7 +99,7 @@ pub +categories+category-spec : {M : Type 1} → statement M
     let e : a .depth ≡ suc (a .depth - 1) = omega arith in
     let small : length (a .s .now) < 2 ^ 32 = omega (arith, h .before .before .before .before .before .pre .1 .0) in
     rw e (with-head _ (a .depth - 1) (a .s .now) (a .dimension) (a .parent) (a .at) (a .used) (a .nodes .now) small (h .before .if2 .left) (rw (f .kind .given .1) at (h .head .ensures)) refl
-    (rw (c .before .r2 .given .1) at (k .categories .ensures)) not-stored))
+    (rw (c .before .r2 .given .1) at (k .below .ensures)) not-stored))
     (λ c. omega arith)
     (λ c.
     let q = c .before .before in
@@ -99,4 +112,4 @@ pub +categories+category-spec : {M : Type 1} → statement M
     let e : a .depth ≡ suc (a .depth - 1) = omega arith in
     let small : length (a .s .now) < 2 ^ 32 = omega (arith, h .before .before .before .before .before .pre .1 .0) in
     rw e (with-head _ (a .depth - 1) (a .s .now) (a .dimension) (a .parent) (a .at) (a .used) (a .nodes .now) small (h .before .if2 .left) (rw (f .kind .given .1) at (h .head .ensures)) refl
-    (rw (p .p .given .1) at (k .categories .ensures)) (stored (rw (n .length .ensures) at (q .store-node .ensures))))))
+    (rw (p .p .given .1) at (k .below .ensures)) (stored (rw (n .length .ensures) at (q .store-node .ensures))))))

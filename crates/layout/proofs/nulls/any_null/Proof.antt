@@ -3,12 +3,12 @@ use Prim.Native.Nat.{_-_}
 use mathlib.Core.Path.{refl}
 use native.Mathlib.Omega.{arith}
 use lib.ListN.{length}
-use Rattle.layout.proofs.Nulls.{NullFrom, null-more, null-end}
-use Rattle.layout.proofs.region.has_null.Statement.{statement}
-use Rattle.layout.proofs.region.has_null.Tie as tie
+use Rattle.layout.proofs.NullBytes.{NullFrom, null-more, null-end}
+use Rattle.layout.proofs.nulls.any_null.Statement.{statement}
+use Rattle.layout.proofs.nulls.any_null.Tie as tie
 
-pub has-null-spec : {M : Type 1} → statement M
-has-null-spec =
+pub any-null-spec : {M : Type 1} → statement M
+any-null-spec =
     tie.close
     (tie.spec
     (λ s found₀ i₀ found i. NullFrom s i found) (λ s found₀ i₀ found i. length s - i)
