@@ -23,6 +23,11 @@ module _ (s : List ℕ) (i : ℕ) (found : Bool) where
   unfolding among
   null-end h e = simp or-false at (rw (drop-of-length-le s {i = i} h) at e)
 
+pub none-in-empty : (s : List ℕ) → length s ≡ 0 → false ≡ among 0 s
+unfolding among
+none-in-empty [] e = refl
+none-in-empty (b ∷ bs) e = absurd (omega arith)
+
 -- ---- parts
 
 among-append : (xs ys : List ℕ) → among 0 (xs ++ ys) ≡ (among 0 xs || among 0 ys)

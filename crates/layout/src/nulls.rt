@@ -66,13 +66,13 @@ fn null_in_blocks(s: &[u8]) -> bool
     ensures { λ r. ⌜ r ≡ among 0 (now (s .entry)) ⌝ }
 {
     let mut found = false;
-    let mut i = 0;
-    while BLOCK <= s.len() - i {
-        let next = i + BLOCK;
-        found = or_else(found, any_null(&s[i..next]));
-        i = next;
+    let mut at = 0;
+    while BLOCK <= s.len() - at {
+        let next = at + BLOCK;
+        found = or_else(found, any_null(&s[at..next]));
+        at = next;
     }
-    or_else(found, null_in_short(&s[i..]))
+    or_else(found, null_in_short(&s[at..]))
 }
 
 // By halves, down to parts that are not long. A function that calls itself is not put into those that call it: so the readers of strings
@@ -89,11 +89,13 @@ fn null_in_halves(s: &[u8]) -> bool
     or_else(front, back)
 }
 
-// One of the bytes is 0.
+// One of the bytes is 0. Many strings are empty.
 pub fn has_null(s: &[u8]) -> bool
     ensures { λ r. ⌜ r ≡ among 0 (now (s .entry)) ⌝ }
 {
-    if s.len() < BLOCK {
+    if s.len() == 0 {
+        false
+    } else if s.len() < BLOCK {
         null_in_short(s)
     } else {
         null_in_halves(s)

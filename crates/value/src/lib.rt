@@ -12,6 +12,7 @@ use layout::number::boolean;
 use layout::number::field;
 use layout::number::fixed;
 use layout::number::peek;
+use layout::region::again;
 use layout::region::nothing;
 use layout::region::string;
 use layout::run::past;
@@ -145,7 +146,7 @@ fn template(s: &[u8], st: Step, depth: usize, version: u64) -> Step
     ensures { λ r. ⌜ Reads (grammar.TemplateOf (grammar.ValueIn version depth)) (now (s .entry)) st r ⌝ }
 {
     match st {
-        Step::Next(at) => template_at(whole(s), at, depth, version),
+        Step::Next(at) => again(template_at(whole(s), at, depth, version)),
         Step::Refused(r, p) => Step::Refused(r, p),
     }
 }

@@ -44,6 +44,7 @@ use Rattle.layout.proofs.number.any.Reads as any-reads
 use Rattle.layout.proofs.number.field.Reads as field-reads
 use Rattle.layout.proofs.number.fixed.Reads as fixed-reads
 use Rattle.layout.proofs.number.peek.Reads as peek-reads
+use Rattle.layout.proofs.region.again.Reads as again-reads
 use Rattle.layout.proofs.region.nothing.Reads as nothing-reads
 use Rattle.layout.proofs.region.string.Reads as string-reads
 use Rattle.layout.proofs.run.past.Reads as past-reads
@@ -156,10 +157,10 @@ unfolding pick passes among skip grammar.ArgumentOf grammar.TemplateOf
     let a = c .before .before in
     no-form _ _ (c .before .match .rest) (a .before .peek .ensures) (c .field2 .ensures)))
     (λ t. template-lts.spec
-    (whole-reads.Asked, whole-reads.Learnt, below template-at-kinds.ps μ-template-at template-at.Pre t, template-at.Post)
+    (whole-reads.Asked, whole-reads.Learnt, below template-at-kinds.ps μ-template-at template-at.Pre t, template-at.Post, again-reads.Asked, again-reads.Learnt)
     (at template-kinds.ps μ-template template.Pre t) template.Post
-    (λ c. search needs) (λ _ _. tt) (λ c κs. omega arith) (λ c. search needs)
-    (λ c. from-next (c .before .before .before .st .given .1) (in-same (c .before .whole .ensures) (c .template-at .ensures)))
+    (λ c. search needs) (λ _ _. tt) (λ c κs. omega arith) (λ _ _. tt) (λ c. search needs)
+    (λ c. rw (c .again .ensures) (from-next (c .before .before .before .before .st .given .1) (in-same (c .before .before .whole .ensures) (c .before .template-at .ensures))))
     (λ c. from-refused (c .before .st2 .given .1)))
     (λ t. template-at-lts.spec
     (string-reads.Asked, string-reads.Learnt, peek-reads.Asked, peek-reads.Learnt, any-reads.Asked, any-reads.Learnt, below arguments-kinds.ps μ-arguments arguments.Pre t, arguments.Post)

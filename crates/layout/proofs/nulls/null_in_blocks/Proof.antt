@@ -20,14 +20,14 @@ null-in-blocks-spec =
     (λ c.
     let l = c .before .before .before .before .loop in
     let s = c .before .before .before .before .before .before .args .s .now in
-    (rw (c .or-else .ensures, c .before .any-null .ensures) (null-further s (l .i) (l .i + 16) (l .found) (omega arith) (l .inv .0)), omega (arith, l .inv .1)))
+    (rw (c .or-else .ensures, c .before .any-null .ensures) (null-further s (l .at) (l .at + 16) (l .found) (omega arith) (l .inv .0)), omega (arith, l .inv .1)))
     (λ c. omega (arith, c .before .loop .inv .1))
     (λ c. search needs) (λ c. search needs)
     (λ c κs.
     let s = c .before .before .before .before .args .s .now in
-    rw (rest s (c .before .before .loop .i), length-drop (c .before .before .loop .i) s) (omega arith))
+    rw (rest s (c .before .before .loop .at), length-drop (c .before .before .loop .at) s) (omega arith))
     (λ _ _. tt)
     (λ c.
     let l = c .before .before .before .before .loop in
     let s = c .before .before .before .before .before .before .args .s .now in
-    c .or-else2 .ensures ∙ rw (c .before .null-in-short .ensures, rest s (l .i)) (l .inv .0)))
+    c .or-else2 .ensures ∙ rw (c .before .null-in-short .ensures, rest s (l .at)) (l .inv .0)))
