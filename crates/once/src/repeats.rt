@@ -111,30 +111,16 @@ fn by_marks(words: &[u32], step: usize, m: usize, marks: &mut [u8]) -> Marked
     }
 }
 
-fn with_short_marks(words: &[u32], step: usize, m: usize) -> Marked
-    requires { ⌜ (step ≤ node-words) × (m ≤ most-cells) ⌝ }
-    ensures { λ r. ⌜ ByMarks (strided step (now (words .entry))) m (r .small) (r .at) (r .steps) ⌝ }
-{
-    let mut marks = [0u8; SHORT_MARKS];
-    by_marks(words, step, m, &mut marks)
-}
-
-fn with_long_marks(words: &[u32], step: usize, m: usize) -> Marked
-    requires { ⌜ (step ≤ node-words) × (m ≤ most-cells) ⌝ }
-    ensures { λ r. ⌜ ByMarks (strided step (now (words .entry))) m (r .small) (r .at) (r .steps) ⌝ }
-{
-    let mut marks = [0u8; LONG_MARKS];
-    by_marks(words, step, m, &mut marks)
-}
-
 fn with_marks(words: &[u32], step: usize, m: usize) -> Marked
     requires { ⌜ (step ≤ node-words) × (m ≤ most-cells) ⌝ }
     ensures { λ r. ⌜ ByMarks (strided step (now (words .entry))) m (r .small) (r .at) (r .steps) ⌝ }
 {
     if m <= SHORT_UP_TO {
-        with_short_marks(words, step, m)
+        let mut marks = [0u8; SHORT_MARKS];
+        by_marks(words, step, m, &mut marks)
     } else {
-        with_long_marks(words, step, m)
+        let mut marks = [0u8; LONG_MARKS];
+        by_marks(words, step, m, &mut marks)
     }
 }
 
@@ -228,22 +214,6 @@ fn by_trees(words: &[u32], step: usize, m: usize, slots: &mut [u16]) -> Repeat
     Repeat { at: m, steps }
 }
 
-fn with_short_slots(words: &[u32], step: usize, m: usize) -> Repeat
-    requires { ⌜ (step ≤ node-words) × (m ≤ 512) ⌝ }
-    ensures { λ r. ⌜ Answered (strided step (now (words .entry))) m 34 (r .at) (r .steps) ⌝ }
-{
-    let mut slots = [0u16; SHORT_SLOTS];
-    by_trees(words, step, m, &mut slots)
-}
-
-fn with_long_slots(words: &[u32], step: usize, m: usize) -> Repeat
-    requires { ⌜ (step ≤ node-words) × (m ≤ most-cells) ⌝ }
-    ensures { λ r. ⌜ Answered (strided step (now (words .entry))) m 34 (r .at) (r .steps) ⌝ }
-{
-    let mut slots = [0u16; LONG_SLOTS];
-    by_trees(words, step, m, &mut slots)
-}
-
 // ---- all numbers
 
 // The first repeat among numbers of any size and order.
@@ -254,9 +224,11 @@ fn compared(words: &[u32], step: usize, m: usize) -> Repeat
     if m <= FEW {
         by_pairs(words, step, m)
     } else if m <= SHORT_UP_TO {
-        with_short_slots(words, step, m)
+        let mut slots = [0u16; SHORT_SLOTS];
+        by_trees(words, step, m, &mut slots)
     } else {
-        with_long_slots(words, step, m)
+        let mut slots = [0u16; LONG_SLOTS];
+        by_trees(words, step, m, &mut slots)
     }
 }
 
