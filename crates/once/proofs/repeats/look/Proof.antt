@@ -1,7 +1,6 @@
 -- The loop walks down a tree: two steps for each place whose number is another, at most 16 of them.
 use Prim.Native.Nat.{ℕ, _+_, _*_, _-_}
 use mathlib.Core.Path.{_≡_, refl}
-use borrow.Author.Needs.{needs}
 use native.Mathlib.Omega.{arith}
 use lib.ListN.{length, length-set}
 use Rattle.once.specs.Repeat.{strided}
