@@ -10,7 +10,7 @@ ghost use Rattle.sizes.specs.Sizes.{most-cells, node-words, repeat-steps};
 ghost use Rattle.once.specs.Repeat.{strided, Answered};
 ghost use Rattle.once.specs.Laws.Marks.{Marks};
 ghost use Rattle.once.specs.Laws.Repeats.{Compared, ByMarks};
-ghost use Rattle.once.specs.Laws.Places.{PlaceTree};
+ghost use Rattle.once.specs.Laws.Places.{PlaceTrees, Empty, buckets};
 ghost use Rattle.once.specs.Laws.Places as spec;
 use crate::Ascending;
 use crate::Looked;
@@ -21,19 +21,23 @@ use layout::number::at_most;
 use sizes::MOST_CELLS;
 use sizes::NODE_WORDS;
 
-// So many numbers or fewer are compared pair by pair, where neither their order nor their marks tell: that is sooner done than a tree
-// is cleared.
+// So many numbers or fewer are compared pair by pair, where neither their order nor their marks tell: that is sooner done than slots
+// are cleared.
 const FEW: usize = 32;
 
-// So many numbers or fewer have the short list of marks, which is sooner cleared.
-const FEW_MARKED: usize = 512;
+// So many numbers or fewer have the short list of marks or of slots, which is sooner cleared.
+const SHORT_UP_TO: usize = 512;
 
 const SHORT_MARKS: usize = 1024;
 
 const LONG_MARKS: usize = 16384;
 
-// Four next places for each place.
-const NEXTS: usize = 4 * MOST_CELLS;
+// A slot for the first place of each tree, and four after each place.
+const BUCKETS: usize = 4096;
+
+const SHORT_SLOTS: usize = BUCKETS + 4 * SHORT_UP_TO;
+
+const LONG_SLOTS: usize = BUCKETS + 4 * MOST_CELLS;
 
 // The number at place j.
 fn nth(words: &[u32], step: usize, j: usize) -> u32
@@ -107,30 +111,16 @@ fn by_marks(words: &[u32], step: usize, m: usize, marks: &mut [u8]) -> Marked
     }
 }
 
-fn with_short_marks(words: &[u32], step: usize, m: usize) -> Marked
-    requires { ⌜ (step ≤ node-words) × (m ≤ most-cells) ⌝ }
-    ensures { λ r. ⌜ ByMarks (strided step (now (words .entry))) m (r .small) (r .at) (r .steps) ⌝ }
-{
-    let mut marks = [0u8; SHORT_MARKS];
-    by_marks(words, step, m, &mut marks)
-}
-
-fn with_long_marks(words: &[u32], step: usize, m: usize) -> Marked
-    requires { ⌜ (step ≤ node-words) × (m ≤ most-cells) ⌝ }
-    ensures { λ r. ⌜ ByMarks (strided step (now (words .entry))) m (r .small) (r .at) (r .steps) ⌝ }
-{
-    let mut marks = [0u8; LONG_MARKS];
-    by_marks(words, step, m, &mut marks)
-}
-
 fn with_marks(words: &[u32], step: usize, m: usize) -> Marked
     requires { ⌜ (step ≤ node-words) × (m ≤ most-cells) ⌝ }
     ensures { λ r. ⌜ ByMarks (strided step (now (words .entry))) m (r .small) (r .at) (r .steps) ⌝ }
 {
-    if m <= FEW_MARKED {
-        with_short_marks(words, step, m)
+    if m <= SHORT_UP_TO {
+        let mut marks = [0u8; SHORT_MARKS];
+        by_marks(words, step, m, &mut marks)
     } else {
-        with_long_marks(words, step, m)
+        let mut marks = [0u8; LONG_MARKS];
+        by_marks(words, step, m, &mut marks)
     }
 }
 
@@ -155,8 +145,8 @@ fn compare(words: &[u32], step: usize, k: usize, x: u32) -> Looked
 
 // The first repeat among few numbers, where every pair is compared.
 fn by_pairs(words: &[u32], step: usize, m: usize) -> Repeat
-    requires { ⌜ (step ≤ node-words) × (m ≤ 33) ⌝ }
-    ensures { λ r. ⌜ Answered (strided step (now (words .entry))) m 33 (r .at) (r .steps) ⌝ }
+    requires { ⌜ (step ≤ node-words) × (m ≤ 34) ⌝ }
+    ensures { λ r. ⌜ Answered (strided step (now (words .entry))) m 34 (r .at) (r .steps) ⌝ }
 {
     let mut k = 0;
     let mut steps: u64 = 0;
@@ -173,47 +163,53 @@ fn by_pairs(words: &[u32], step: usize, m: usize) -> Repeat
 
 // ---- many numbers
 
-// Looks for the number x in the tree of the first k places, and puts place k there if it is new.
-fn look(words: &[u32], step: usize, k: usize, x: u32, nexts: &mut [u16; NEXTS]) -> Looked
-    requires { ⌜ (step ≤ node-words) × (0 < k) × (k < most-cells) × PlaceTree (strided step (now words)) k (now nexts) ⌝ }
-    ensures { λ r. ⌜ spec.Looked (strided step (now (words .entry))) k x (now (nexts .exit)) (r .old) (r .steps) ⌝ }
+// The slot for the first place of the tree in which the number x is looked for: the high bits of a product.
+fn bucket(x: u32) -> usize
+    ensures { λ r. ⌜ r ≡ spec.bucket x ⌝ }
 {
-    let mut at: usize = 0;
+    (x as u64 * 2654435769 % 4294967296 / 1048576) as usize
+}
+
+// Looks for the number x in the trees of the first k places, and puts place k there if it is new.
+fn look(words: &[u32], step: usize, k: usize, x: u32, slots: &mut [u16]) -> Looked
+    requires { ⌜ (step ≤ node-words) × (k < most-cells) × (buckets + 4 * k + 4 ≤ length (now slots)) × PlaceTrees (strided step (now words)) k (now slots) ⌝ }
+    ensures { λ r. ⌜ spec.Looked (strided step (now (words .entry))) k x (now (slots .exit)) (r .old) (r .steps) ⌝ }
+{
+    let mut slot = bucket(x);
     let mut rest = x;
     let mut steps: u64 = 0;
     loop {
-        steps += 1; // the comparison with a number of the tree
-        if nth(words, step, at) == x {
-            return Looked { old: true, steps };
-        }
-        let slot = 4 * at + (rest % 4) as usize;
-        let next = nexts[slot] as usize;
+        let next = slots[slot] as usize;
         steps += 1; // the look for the next place
         if next == 0 {
             steps += 1; // the store of place k
-            nexts[slot] = k as u16;
+            slots[slot] = (k + 1) as u16;
             return Looked { old: false, steps };
         }
-        at = next;
+        let at = next - 1;
+        steps += 1; // the comparison with its number
+        if nth(words, step, at) == x {
+            return Looked { old: true, steps };
+        }
+        slot = BUCKETS + 4 * at + (rest % 4) as usize;
         rest = rest / 4;
     }
 }
 
-// The first repeat among numbers, at least one, by a tree of the places before.
-fn by_tree(words: &[u32], step: usize, m: usize) -> Repeat
-    requires { ⌜ (step ≤ node-words) × (0 < m) × (m ≤ most-cells) ⌝ }
-    ensures { λ r. ⌜ Answered (strided step (now (words .entry))) m 33 (r .at) (r .steps) ⌝ }
+// The first repeat among numbers, by trees of the places before.
+fn by_trees(words: &[u32], step: usize, m: usize, slots: &mut [u16]) -> Repeat
+    requires { ⌜ (step ≤ node-words) × (m ≤ most-cells) × Empty (strided step (now words)) m (now slots) ⌝ }
+    ensures { λ r. ⌜ Answered (strided step (now (words .entry))) m 34 (r .at) (r .steps) ⌝ }
 {
-    let mut nexts = [0u16; NEXTS];
-    let mut k = 1;
+    let mut place = 0;
     let mut steps: u64 = 0;
-    while k < m {
-        let p = look(words, step, k, nth(words, step, k), &mut nexts);
+    while place < m {
+        let p = look(words, step, place, nth(words, step, place), slots);
         steps += p.steps;
         if p.old {
-            return Repeat { at: k, steps };
+            return Repeat { at: place, steps };
         }
-        k += 1;
+        place += 1;
     }
     Repeat { at: m, steps }
 }
@@ -223,12 +219,16 @@ fn by_tree(words: &[u32], step: usize, m: usize) -> Repeat
 // The first repeat among numbers of any size and order.
 fn compared(words: &[u32], step: usize, m: usize) -> Repeat
     requires { ⌜ (step ≤ node-words) × (m ≤ most-cells) ⌝ }
-    ensures { λ r. ⌜ Answered (strided step (now (words .entry))) m 33 (r .at) (r .steps) ⌝ }
+    ensures { λ r. ⌜ Answered (strided step (now (words .entry))) m 34 (r .at) (r .steps) ⌝ }
 {
     if m <= FEW {
         by_pairs(words, step, m)
+    } else if m <= SHORT_UP_TO {
+        let mut slots = [0u16; SHORT_SLOTS];
+        by_trees(words, step, m, &mut slots)
     } else {
-        by_tree(words, step, m)
+        let mut slots = [0u16; LONG_SLOTS];
+        by_trees(words, step, m, &mut slots)
     }
 }
 

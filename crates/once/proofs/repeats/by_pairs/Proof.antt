@@ -11,7 +11,7 @@ pub by-pairs-spec : {M : Type 1} → statement M
 by-pairs-spec =
     tie.close
     (tie.spec
-    (λ words step m k₀ steps₀ k steps. (k ≤ m) × (steps ≤ 33 * k) × (k ≤ steps + 1) × AllNew (strided step words) k)
+    (λ words step m k₀ steps₀ k steps. (k ≤ m) × (steps ≤ 34 * k) × (k ≤ steps + 1) × AllNew (strided step words) k)
     (λ words step m k₀ steps₀ k steps. m - k)
     (λ c. (omega arith, omega arith, omega arith, none-new _))
     (λ c κs. omega arith) (λ c κs. omega arith) (λ c. omega arith)

@@ -1,4 +1,4 @@
--- The numbers ascend, or their marks tell, or they are compared: 1, 3 and 33 steps for each.
+-- The numbers ascend, or their marks tell, or they are compared: 1, 3 and 34 steps for each.
 use mathlib.Core.Path.{_≡_}
 use borrow.Author.Needs.{needs}
 use native.Mathlib.Omega.{arith}
