@@ -39,6 +39,10 @@ uint32_t digarumbi_abi(void);
 /* Bytes of stack in which a thread can call any function. docs/BENCHMARKS.md has what each was measured to need. */
 #define DIGARUMBI_STACK 524288
 
+/* Bytes of stack in which a thread can call digarumbi_read_member with a member of at most DIGARUMBI_SMALL_MEMBER bytes. */
+#define DIGARUMBI_SMALL_STACK 32768
+#define DIGARUMBI_SMALL_MEMBER 2560
+
 /* Refusal numbers (01, "Refusal numbers"). A place is an offset in the input. 0 is no refusal.
  *
  *   No.  When                                                                     Place

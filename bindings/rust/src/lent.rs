@@ -64,6 +64,10 @@ pub const CASES_FEED_ANSWER: usize = 4;
 
 /// Bytes of stack in which a thread can call any of these functions.
 pub const STACK: usize = 524_288;
+/// Bytes of stack in which a thread can call [`read_member`] with at most [`SMALL_MEMBER`] bytes.
+pub const SMALL_STACK: usize = 32_768;
+/// Bytes of a member for which [`SMALL_STACK`] is enough.
+pub const SMALL_MEMBER: usize = 2_560;
 
 /// Bytes of the longest look.
 pub const LONGEST_LOOK: usize = 3_160;
