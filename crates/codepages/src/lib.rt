@@ -4,8 +4,8 @@ mod tables; // the constant tables
 mod utf8; // the rows of UTF-8
 
 ghost use mathlib.Core.Path.{_≡_};
-ghost use Prim.Native.Nat.{_+_, _-_, _≤_, _<_};
-ghost use mathlib.Core.Bool.{true};
+ghost use Prim.Native.Nat.{_+_, _-_, _/_, _≤_, _<_};
+ghost use mathlib.Core.Bool.{true, false};
 ghost use mathlib.Core.List.{_++_};
 ghost use lib.ListN.{getD, length, take, drop};
 ghost use lib.Seq.{sets};
@@ -14,7 +14,9 @@ ghost use Rattle.codepages.specs.Pages as pages;
 ghost use Rattle.codepages.specs.Utf8 as utf8_spec;
 ghost use Rattle.codepages.specs.Convert as spec;
 ghost use Rattle.codepages.specs.Laws.Places.{places};
-ghost use Rattle.codepages.specs.Laws.Passes.{half, Run, Found, Grown, Counts, Ready, Wrote};
+ghost use Rattle.codepages.specs.Laws.Passes.{half, Run, Skips, Found, Grown, Counts, Ready, Wrote};
+ghost use Rattle.codepages.specs.Laws.Usual.{many, oddOf, Usual};
+ghost use Rattle.codepages.specs.Laws.Pairs.{firstOf};
 use crate::ascii::ASCII;
 use crate::ascii::run_end;
 use crate::tables::ENTRIES;
@@ -39,6 +41,11 @@ const PAGE_ENTRIES: usize = 128;
 const NO_BYTE: u32 = 256;
 
 const SLOTS: usize = 512;
+
+// bytes that are counted together
+const MANY: usize = 64;
+
+const FEW: usize = 8;
 
 const UNKNOWN_PAGE: u32 = 24;
 
@@ -110,7 +117,8 @@ fn in_page(
         return refuse(OUTPUT_SHORT, 0);
     }
     let run = copy_run(input, 0, m.run, out, 0);
-    write(t, p, k, back, input, run, out);
+    let each = dense(input.len(), m.length);
+    write(t, p, k, back, each, input, run, out);
     Answer {
         refusal: 0,
         place: 0,
@@ -186,33 +194,26 @@ struct Taken {
     made: usize,
 }
 
-// A run of bytes under 128, or one character.
+// What stands at a place: several characters, or one.
 fn find(t: &[u16; ENTRIES], p: &[u8], k: usize, back: bool, input: &[u8], i: usize) -> Taken
     requires { ⌜ (k < pages.page-count) × (i < length (now input)) × (now t ≡ entries) × (back ≡ true → now p ≡ places) ⌝ }
     ensures { λ r. ⌜ Found (spec.way back k) (now (input .entry)) i (r .taken) (r .made) ⌝ }
 {
-    let b = input[i];
-    if b < ASCII {
-        let n = run_end(input, i + 1) - i;
-        return Taken { taken: n, made: n };
-    }
     if back {
         return find_back(t, p, k, input, i);
     }
-    let c = code_point(t, k, b);
-    if NO_CODE_POINT <= c {
-        return Taken { taken: 0, made: 0 };
-    }
-    Taken {
-        taken: 1,
-        made: size(c),
-    }
+    find_to(t, k, input, i)
 }
 
+// A run of bytes under 128, or one character.
 fn find_back(t: &[u16; ENTRIES], p: &[u8], k: usize, input: &[u8], i: usize) -> Taken
     requires { ⌜ (k < pages.page-count) × (i < length (now input)) × (now t ≡ entries) × (now p ≡ places) ⌝ }
     ensures { λ r. ⌜ Found (spec.from k) (now (input .entry)) i (r .taken) (r .made) ⌝ }
 {
+    if input[i] < ASCII {
+        let n = run_end(input, i + 1) - i;
+        return Taken { taken: n, made: n };
+    }
     let c = character(t, p, k, input, i);
     if NO_BYTE <= c {
         return Taken { taken: 0, made: 0 };
@@ -223,14 +224,113 @@ fn find_back(t: &[u16; ENTRIES], p: &[u8], k: usize, input: &[u8], i: usize) -> 
     }
 }
 
+// Many usual bytes, or few, or one byte.
+fn find_to(t: &[u16; ENTRIES], k: usize, input: &[u8], i: usize) -> Taken
+    requires { ⌜ (k < pages.page-count) × (i < length (now input)) × (now t ≡ entries) ⌝ }
+    ensures { λ r. ⌜ Found (spec.to k) (now (input .entry)) i (r .taken) (r .made) ⌝ }
+{
+    let rest = input.len() - i;
+    let n = at_most(rest, MANY);
+    let m = usual(k, input, i, n);
+    if 0 < m {
+        return Taken { taken: n, made: m };
+    }
+    let few = at_most(rest, FEW);
+    let made = usual(k, input, i, few);
+    if 0 < made {
+        return Taken {
+            taken: few,
+            made: made,
+        };
+    }
+    find_byte(t, k, input, i)
+}
+
+fn find_byte(t: &[u16; ENTRIES], k: usize, input: &[u8], i: usize) -> Taken
+    requires { ⌜ (k < pages.page-count) × (i < length (now input)) × (now t ≡ entries) ⌝ }
+    ensures { λ r. ⌜ Found (spec.to k) (now (input .entry)) i (r .taken) (r .made) ⌝ }
+{
+    let c = code_point(t, k, input[i]);
+    if NO_CODE_POINT <= c {
+        return Taken { taken: 0, made: 0 };
+    }
+    Taken {
+        taken: 1,
+        made: size(c),
+    }
+}
+
+fn at_most(n: usize, m: usize) -> usize
+    ensures { λ r. ⌜ (r ≤ n) × (r ≤ m) × (0 < n → 0 < m → 0 < r) ⌝ }
+{
+    if n < m { n } else { m }
+}
+
+// ---- usual bytes: those under 128, and those that have two bytes in UTF-8. They are counted without a table and without an exit on the way,
+// so that many are taken at once.
+
+// How many bytes the n bytes from i on have in UTF-8; 0 if one of them is not usual.
+fn usual(k: usize, input: &[u8], i: usize, n: usize) -> usize
+    requires { ⌜ (k < pages.page-count) × (i + n ≤ length (now input)) × (n ≤ many) ⌝ }
+    ensures { λ r. ⌜ (r ≤ n + n) × (0 < r → Skips (spec.to k) (now (input .entry)) i n r) ⌝ }
+{
+    let odd = odd_of(k);
+    let mut high: u8 = 0;
+    let mut bad: u8 = 0;
+    let mut j: usize = 0;
+    while j < n {
+        let b = input[i + j];
+        high = high + top(b);
+        bad = bad | unusual(b, odd);
+        j += 1;
+    }
+    if bad == 0 { n + high as usize } else { 0 }
+}
+
+// The highest bit of a byte.
+fn top(b: u8) -> u8
+    ensures { λ r. ⌜ (r ≡ b / 128) × (r ≤ 1) ⌝ }
+{
+    b / 128
+}
+
+// 0 for a usual byte.
+fn unusual(b: u8, odd: u8) -> u8
+    ensures { λ r. ⌜ (r ≡ 0 → Usual odd b) × (b < pages.no-byte) ⌝ }
+{
+    mark(b / 32 == 4) | mark(b == odd)
+}
+
+fn mark(t: bool) -> u8
+    ensures { λ r. ⌜ (r ≡ 0 → t ≡ false) ⌝ }
+{
+    if t { 1 } else { 0 }
+}
+
+// The byte of a page, beside those from 128 to 159, that is not usual.
+fn odd_of(k: usize) -> u8
+    ensures { λ r. ⌜ r ≡ oddOf k ⌝ }
+{
+    if k == 1 { 185 } else { 128 }
+}
+
 // ---- the second pass
 
-// Writes what the text from `start` on becomes, from that place of the output on.
+// Whether many of n bytes that become m are not under 128.
+fn dense(n: usize, m: usize) -> bool {
+    if n < m {
+        return n / 16 < m - n;
+    }
+    n / 16 < n - m
+}
+
+// Writes what the text from `start` on becomes, from that place of the output on: each byte by itself, or by runs.
 fn write(
     t: &[u16; ENTRIES],
     p: &[u8],
     k: usize,
     back: bool,
+    each: bool,
     input: &[u8],
     start: usize,
     out: &mut [u8],
@@ -241,18 +341,19 @@ fn write(
     let mut i = start;
     let mut w = start;
     while i < input.len() {
-        let s = store(t, p, k, back, input, i, out, w);
+        let s = store(t, p, k, back, each, input, i, out, w);
         i += s.taken;
         w += s.made;
     }
 }
 
-// Stores what `find` finds.
+// Stores what stands at a place.
 fn store(
     t: &[u16; ENTRIES],
     p: &[u8],
     k: usize,
     back: bool,
+    each: bool,
     input: &[u8],
     i: usize,
     out: &mut [u8],
@@ -261,19 +362,62 @@ fn store(
     requires { ⌜ (k < pages.page-count) × (i < length (now input)) × (now t ≡ entries) × (back ≡ true → now p ≡ places) × Ready (spec.way back k) (now input) i (now out) w ⌝ }
     ensures { λ r. ⌜ Wrote (spec.way back k) (now (input .entry)) i (now (out .entry)) w (r .taken) (r .made) (now (out .exit)) ⌝ }
 {
-    let b = input[i];
-    if b < ASCII {
+    let run = by_run(each, input[i]);
+    if run {
         let n = copy_run(input, i, run_end(input, i + 1), out, w);
         return Taken { taken: n, made: n };
     }
     if back {
         return store_back(t, p, k, input, i, out, w);
     }
-    let c = code_point(t, k, b);
+    store_to(t, k, input, i, out, w)
+}
+
+fn by_run(each: bool, b: u8) -> bool
+    ensures { λ r. ⌜ (r ≡ true → b < pages.ascii) ⌝ }
+{
+    if each {
+        return false;
+    }
+    b < ASCII
+}
+
+// Stores what a byte becomes. If others follow and its entry has two bytes, two are stored for a byte under 128 too: the second is then
+// overwritten, and there is no branch to miss.
+fn store_to(t: &[u16; ENTRIES], k: usize, input: &[u8], i: usize, out: &mut [u8], w: usize) -> Taken
+    requires { ⌜ (k < pages.page-count) × (i < length (now input)) × (now t ≡ entries) × Ready (spec.to k) (now input) i (now out) w ⌝ }
+    ensures { λ r. ⌜ Wrote (spec.to k) (now (input .entry)) i (now (out .entry)) w (r .taken) (r .made) (now (out .exit)) ⌝ }
+{
+    let b = input[i];
+    let e = entry(t, PAGE_ENTRIES * k + (b % ASCII) as usize);
+    if i + 1 < input.len() {
+        if e < 2048 {
+            out[w] = first_of(b, e);
+            out[w + 1] = (128 + e % 64) as u8;
+            return Taken {
+                taken: 1,
+                made: made_of(b),
+            };
+        }
+    }
     Taken {
         taken: 1,
-        made: put(out, w, c),
+        made: put(out, w, code_point(t, k, b)),
     }
+}
+
+// How many of the two count.
+fn made_of(b: u8) -> usize
+    ensures { λ r. ⌜ (r ≡ 1 + b / 128) ⌝ }
+{
+    1 + top(b) as usize
+}
+
+fn first_of(b: u8, e: u16) -> u8
+    requires { ⌜ e < utf8_spec.three-bytes ⌝ }
+    ensures { λ r. ⌜ (r ≡ firstOf b e) × (b < pages.no-byte) ⌝ }
+{
+    if b < ASCII { b } else { (192 + e / 64) as u8 }
 }
 
 fn store_back(

@@ -21,8 +21,9 @@ in-page-spec = tie.close (tie.spec
     let x = m .measure .ensures in
     let g = may-write _ _ _ _ _ (x .0) (e .before .before .if1 .left) (e .if2 .left) in
     (omega arith, x .1 .inside (omega arith), first-fits _ _ (x .1) _ (g .1)))
+    (λ c κs. tt)
     (λ c κs.
-    let r = c .before .before .before in
+    let r = c .before .before .before .before in
     let e = r .before .before in
     let m = e .before .before .before .before in
     let s = m .before .before .before .before in
@@ -32,7 +33,7 @@ in-page-spec = tie.close (tie.spec
     (λ c. search needs)
     (λ c.
     let w = c .before .before in
-    let r = w .before .before .before .before in
+    let r = w .before .before .before .before .before in
     let e = r .before .before in
     let m = e .before .before .before .before in
     let x = m .measure .ensures in

@@ -7,10 +7,10 @@ use Rattle.codepages.proofs.write.Statement.{statement}
 use Rattle.codepages.proofs.write.Tie as tie
 
 abbrev Inv-loop : tie.InvT-loop
-Inv-loop t p k back input start out₀ i₀ w₀ out i w = (Writing (way back k) input start out₀ out i w) × (length out₀ < half)
+Inv-loop t p k back each input start out₀ i₀ w₀ out i w = (Writing (way back k) input start out₀ out i w) × (length out₀ < half)
 
 abbrev μ-loop : tie.MeasureT-loop
-μ-loop t p k back input start out₀ i₀ w₀ out i w = length input - i
+μ-loop t p k back each input start out₀ i₀ w₀ out i w = length input - i
 
 pub write-spec : {M : Type 1} → statement M
 write-spec = tie.close (tie.spec Inv-loop μ-loop

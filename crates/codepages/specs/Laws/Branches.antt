@@ -26,7 +26,7 @@ past u i h = sym (List·getD-eq-default u 0 {n = i} h)
 
 -- ---- a page
 
-entry-page : (k j e : ℕ) → j < page-entries → e ≡ getD entries (page-entries * k + j) 0 → getD (page k) j 0 ≡ e
+pub entry-page : (k j e : ℕ) → j < page-entries → e ≡ getD entries (page-entries * k + j) 0 → getD (page k) j 0 ≡ e
 unfolding page
 entry-page k j e h q = getD-take page-entries (drop (page-entries * k) entries) j 0 h ∙ getD-drop (page-entries * k) entries j 0 ∙ sym q
 
