@@ -8,4 +8,5 @@ pub mod Passes
 pub mod Branches
 pub mod Usual
 pub mod Pairs
+pub mod Back
 pub mod Answers

@@ -8,13 +8,13 @@ pub find-to-spec : {M : Type 1} → statement M
 find-to-spec = tie.close (tie.spec
     (λ c. search needs)
     (λ c κs. tt)
-    (λ c κs. let x = c .at-most .ensures in (c .before .before .pre .0, omega (arith, x .0), x .1))
+    (λ c κs. let x = c .at-most .ensures in (c .before .before .before .pre .0, omega (arith, x .0), x .1))
     (λ c.
     let n = c .before .before in
     let x = n .at-most .ensures in
     found-some (omega (arith, x .2 (omega arith) (omega arith))) (c .before .usual .ensures .1 (c .if1 .taken)) (omega (arith, c .before .usual .ensures .0, x .1)))
     (λ c κs. tt)
-    (λ c κs. let x = c .at-most2 .ensures in (c .before .before .before .before .before .pre .0, omega (arith, x .0), omega (arith, x .1)))
+    (λ c κs. let x = c .at-most2 .ensures in (c .before .before .before .before .before .before .pre .0, omega (arith, x .0), omega (arith, x .1)))
     (λ c.
     let n = c .before .before in
     let x = n .at-most2 .ensures in

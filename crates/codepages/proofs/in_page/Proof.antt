@@ -26,7 +26,7 @@ in-page-spec = tie.close (tie.spec
     let r = c .before .before .before .before in
     let e = r .before .before in
     let m = e .before .before .before .before in
-    let s = m .before .before .before .before in
+    let s = m .before .before .before .before .before in
     let x = m .measure .ensures in
     let g = may-write _ _ _ _ _ (x .0) (e .before .before .if1 .left) (e .if2 .left) in
     (s .pre .0, omega (arith, x .1 .inside (omega arith), r .copy-run .ensures .1), s .pre .1, s .pre .2, first-ready _ _ (x .1) _ _ _ (g .1) (r .copy-run .ensures) (g .0)))

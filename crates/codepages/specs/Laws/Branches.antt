@@ -12,7 +12,6 @@ use lib.ListN.{length, getD, take, drop, set, length-drop, List·getD-eq-default
 use lib.Seq.{getD-take, getD-drop, sets, sets-eq, length-sets, length-take-le}
 use borrow.Author.Tests.{lt-ltb, le-ltb, ne-eqb}
 use Rattle.layout.specs.Layout.{pick}
-use Rattle.codepages.specs.Table.{entries}
 use Rattle.codepages.specs.Pages.{page-count, page-entries, ascii, no-code-point, no-byte, page, listed, code-point, byte}
 use Rattle.codepages.specs.Utf8.{two-bytes, three-bytes, four-bytes, surrogates, after-surrogates, scalar, encode, continuation, shortest, row-two, row-three, row, decode}
 use Rattle.codepages.specs.Convert.{Step, invalid, converts, to, from, way, valid-up-to, output}
@@ -26,17 +25,13 @@ past u i h = sym (List·getD-eq-default u 0 {n = i} h)
 
 -- ---- a page
 
-pub entry-page : (k j e : ℕ) → j < page-entries → e ≡ getD entries (page-entries * k + j) 0 → getD (page k) j 0 ≡ e
-unfolding page
-entry-page k j e h q = getD-take page-entries (drop (page-entries * k) entries) j 0 h ∙ getD-drop (page-entries * k) entries j 0 ∙ sym q
-
-pub point-none : (k b e : ℕ) → ascii ≤ b → b < no-byte → e ≡ getD entries (page-entries * k + (b - ascii)) 0 → e ≡ 0 → no-code-point ≡ code-point k b
+pub point-none : (k b e : ℕ) → ascii ≤ b → e ≡ getD (page k) (b - ascii) 0 → e ≡ 0 → no-code-point ≡ code-point k b
 unfolding listed pick
-point-none k b e l h q z = sym (point-high k b l ∙ rw (entry-page k (b - ascii) e (omega arith) q, z))
+point-none k b e l q z = sym (point-high k b l ∙ rw (← q, z))
 
-pub point-entry : (k b e : ℕ) → ascii ≤ b → b < no-byte → e ≡ getD entries (page-entries * k + (b - ascii)) 0 → (e ≡ 0 → ⊥) → e ≡ code-point k b
+pub point-entry : (k b e : ℕ) → ascii ≤ b → e ≡ getD (page k) (b - ascii) 0 → (e ≡ 0 → ⊥) → e ≡ code-point k b
 unfolding listed pick
-point-entry k b e l h q z = sym (point-high k b l ∙ rw (entry-page k (b - ascii) e (omega arith) q, ne-eqb e 0 z))
+point-entry k b e l q z = sym (point-high k b l ∙ rw (← q, ne-eqb e 0 z))
 
 -- ---- UTF-8
 
@@ -146,7 +141,7 @@ getD-front : (u : List ℕ) (i : ℕ) → getD (drop i u) 0 0 ≡ getD u i 0
 getD-front u i = let e : i + 0 ≡ i = omega arith in rw e at (getD-drop i u 0 0)
 
 module _ (k : ℕ) (u : List ℕ) (i a : ℕ) (ea : a ≡ getD u i 0) where
-  lead : getD (drop i u) 0 0 ≡ a
+  pub lead : getD (drop i u) 0 0 ≡ a
   lead = getD-front u i ∙ sym ea
 
   pub decode-one : a < 128 → a ≡ byte k (decode (drop i u))

@@ -10,14 +10,13 @@ use lib.ListN.{length, getD, drop, set, length-set}
 use lib.Seq.{sets}
 use borrow.Author.Tests.{lt-ltb, le-ltb}
 use Rattle.layout.specs.Layout.{pick}
-use Rattle.codepages.specs.Table.{entries}
 use Rattle.codepages.specs.Pages.{page-count, page-entries, ascii, no-code-point, no-byte, page, code-point}
 use Rattle.codepages.specs.Utf8.{two-bytes, three-bytes, four-bytes, encode}
 use Rattle.codepages.specs.Convert.{Step, to, output}
 use Rattle.codepages.specs.Laws.Pages.{side, rule, point-low}
 use Rattle.codepages.specs.Laws.Utf8.{encode-one, encode-two, encode-length}
 use Rattle.codepages.specs.Laws.Passes.{Passes, Skips, skips, Ready, Wrote, wrote}
-use Rattle.codepages.specs.Laws.Branches.{entry-page, point-none, point-entry, put-two, to-ready}
+use Rattle.codepages.specs.Laws.Branches.{point-none, point-entry, put-two, to-ready}
 
 set-set : (l : List ℕ) (i x y : ℕ) → set (set l i x) i y ≡ set l i y
 set-set [] i x y = refl
@@ -49,7 +48,7 @@ follows {k} {u} {i} {o} {w} {x} hk h p t =
     let q = to-ready k u (i + 1) c refl hk h r in
     omega (arith, skips (q .1) .counts, encode-length c .0)
 
-module _ (k : ℕ) (u : List ℕ) (i : ℕ) (o : List ℕ) (w b e : ℕ) (hk : k < page-count) (h : i + 1 < length u) (eb : b ≡ getD u i 0) (hb : b < no-byte) (ee : e ≡ getD entries (page-entries * k + b % 128) 0) (he : e < three-bytes)
+module _ (k : ℕ) (u : List ℕ) (i : ℕ) (o : List ℕ) (w b e : ℕ) (hk : k < page-count) (h : i + 1 < length u) (eb : b ≡ getD u i 0) (hb : b < no-byte) (ee : e ≡ getD (page k) (b % 128) 0) (he : e < three-bytes)
     (t : Ready (to k) u i o w) where
   point : (code-point k b < four-bytes) × Passes (to k) u i 1 (encode (code-point k b))
   point = to-ready k u i (code-point k b) (ap (code-point k) eb) hk (omega arith) t
@@ -58,12 +57,12 @@ module _ (k : ℕ) (u : List ℕ) (i : ℕ) (o : List ℕ) (w b e : ℕ) (hk : k
   high-entry : ascii ≤ b → (two-bytes ≤ e) × (e ≡ code-point k b)
   high-entry l =
       let z : b % 128 ≡ b - ascii = omega arith in
-      let q : e ≡ getD entries (page-entries * k + (b - ascii)) 0 = rw z at ee in
-      ⊎-elim (λ (m : e < 1). let y : e ≡ 0 = omega arith in absurd (omega (arith, point .0, point-none k b e l hb q y)))
+      let q : e ≡ getD (page k) (b - ascii) 0 = rw z at ee in
+      ⊎-elim (λ (m : e < 1). let y : e ≡ 0 = omega arith in absurd (omega (arith, point .0, point-none k b e l q y)))
       (λ (m : 1 ≤ e).
-      let g = entry-page k (b - ascii) e (omega arith) q in
+      let g = sym q in
       let r = rw g at (rule k hk (b - ascii) (omega arith) (rw g m)) in
-      (r .above, point-entry k b e l hb q (λ y. omega arith)))
+      (r .above, point-entry k b e l q (λ y. omega arith)))
       (side e 1)
 
   pub pair-fits : w + 1 < length o
