@@ -1,4 +1,3 @@
-use borrow.Author.Needs.{needs}
 use Rattle.codepages.specs.Laws.Branches.{way-from, way-to}
 use Rattle.codepages.proofs.find.Statement.{statement}
 use Rattle.codepages.proofs.find.Tie as tie

@@ -1,6 +1,5 @@
 use borrow.Author.Needs.{needs}
 use native.Mathlib.Omega.{arith}
-use mathlib.Core.Path.{_≡_, refl, _∙_}
 use Rattle.codepages.specs.Laws.Answers.{has-none, is-short, is-written, may-write, answers-refused, answers-written}
 use Rattle.codepages.specs.Laws.Branches.{first-fits, first-ready, first-then}
 use Rattle.codepages.proofs.in_page.Statement.{statement}

@@ -1,10 +1,9 @@
-use borrow.Author.Needs.{needs}
 use native.Mathlib.Omega.{arith}
-use mathlib.Core.Path.{_≡_, ap, _∙_}
+use mathlib.Core.Path.{ap, _∙_}
 use mathlib.Core.List.{List}
 use Prim.Native.Nat.{ℕ}
 use lib.ListN.{getD, length}
-use Rattle.codepages.specs.Laws.Places.{look, rowsOf, length-rows, row-below}
+use Rattle.codepages.specs.Laws.Places.{look, length-rows, row-below}
 use Rattle.codepages.proofs.look_up.Statement.{statement}
 use Rattle.codepages.proofs.look_up.Tie as tie
 

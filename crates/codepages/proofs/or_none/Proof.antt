@@ -1,4 +1,3 @@
-use borrow.Author.Needs.{needs}
 use Rattle.codepages.specs.Laws.Back.{or-none-is, or-some-is}
 use Rattle.codepages.proofs.or_none.Statement.{statement}
 use Rattle.codepages.proofs.or_none.Tie as tie

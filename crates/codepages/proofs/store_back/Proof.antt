@@ -1,5 +1,4 @@
 use borrow.Author.Needs.{needs}
-use native.Mathlib.Omega.{arith}
 use mathlib.Core.Path.{refl}
 use Rattle.codepages.specs.Laws.Branches.{lead-one, lead-two, lead-three, decode-one}
 use Rattle.codepages.specs.Laws.Back.{ready-byte, ready-lead, back-fits, back-wrote}

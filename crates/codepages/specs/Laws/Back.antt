@@ -1,19 +1,18 @@
 -- What is found for a character of UTF-8, by its bytes.
 use mathlib.Core.Path.{_≡_, refl, sym, ap, _∙_}
-use mathlib.Core.Bool.{Bool, true, false}
-use mathlib.Core.List.{List, [], _∷_}
+use mathlib.Core.List.{List}
 use mathlib.Core.Logic.{⊎-elim}
-use Prim.Native.Nat.{ℕ, zero, suc, _+_, _-_, _*_, _/_, _%_, _≤_, _<_}
+use Prim.Native.Nat.{ℕ, _+_, _-_, _*_, _/_, _%_, _≤_, _<_}
 use native.Mathlib.Omega.{arith}
-use lib.Dec.{eqb, ltb}
+use lib.Dec.{eqb}
 use lib.ListN.{length, getD, drop, set}
-use borrow.Author.Tests.{lt-ltb, le-ltb, ne-eqb}
+use borrow.Author.Tests.{ne-eqb}
 use Rattle.layout.specs.Layout.{pick}
-use Rattle.codepages.specs.Pages.{page-count, ascii, no-code-point, no-byte, byte}
-use Rattle.codepages.specs.Utf8.{two-bytes, three-bytes, surrogates, row-two, row-three, row, decode}
-use Rattle.codepages.specs.Laws.Pages.{side, byte-most, byte-none, byte-below}
-use Rattle.codepages.specs.Laws.Utf8.{Shortest, Decoded, from-one, from-two, from-three, from-four, decoded-by, row-two-is, row-three-is, two-is, three-is, scalar-below}
-use Rattle.codepages.specs.Laws.Places.{groups, look, groupOf, point, point-low, point-high, look-some, look-none, Reached, reach, group-point, lowest-point}
+use Rattle.codepages.specs.Pages.{page-count, ascii, no-byte, byte}
+use Rattle.codepages.specs.Utf8.{row-two, row-three, row, decode}
+use Rattle.codepages.specs.Laws.Pages.{side, byte-most, byte-below}
+use Rattle.codepages.specs.Laws.Utf8.{Decoded, from-one, from-two, from-three, from-four, decoded-by, row-two-is, row-three-is, two-is, three-is, scalar-below}
+use Rattle.codepages.specs.Laws.Places.{groups, look, groupOf, point, point-low, point-high, look-some, look-none, reach, group-point, lowest-point}
 use Rattle.codepages.specs.Convert.{from}
 use Rattle.codepages.specs.Laws.Passes.{Ready, fits, Wrote, wrote}
 use Rattle.codepages.specs.Laws.Branches.{past, decode-two, decode-three, decode-four, leadSize, from-at, from-some, from-ready}

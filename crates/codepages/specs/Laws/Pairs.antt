@@ -1,21 +1,21 @@
 -- A byte stored as two, whether it becomes one or two: what a byte under 128 has too many is overwritten by what follows.
 use mathlib.Core.Path.{_≡_, refl, sym, ap, _∙_}
-use mathlib.Core.List.{List, [], _∷_, _++_}
+use mathlib.Core.List.{List, [], _∷_}
 use mathlib.Core.Logic.{⊎-elim}
-use Prim.Native.Nat.{ℕ, zero, suc, _+_, _-_, _*_, _/_, _%_, _≤_, _<_}
+use Prim.Native.Nat.{ℕ, zero, suc, _+_, _-_, _/_, _%_, _≤_, _<_}
 use native.Mathlib.Numerals.{add-one}
 use native.Mathlib.Omega.{arith}
-use lib.Dec.{eqb, ltb}
+use lib.Dec.{ltb}
 use lib.ListN.{length, getD, drop, set, length-set}
 use lib.Seq.{sets}
 use borrow.Author.Tests.{lt-ltb, le-ltb}
 use Rattle.layout.specs.Layout.{pick}
-use Rattle.codepages.specs.Pages.{page-count, page-entries, ascii, no-code-point, no-byte, page, code-point}
+use Rattle.codepages.specs.Pages.{page-count, ascii, no-byte, page, code-point}
 use Rattle.codepages.specs.Utf8.{two-bytes, three-bytes, four-bytes, encode}
-use Rattle.codepages.specs.Convert.{Step, to, output}
+use Rattle.codepages.specs.Convert.{to, output}
 use Rattle.codepages.specs.Laws.Pages.{side, rule, point-low}
 use Rattle.codepages.specs.Laws.Utf8.{encode-one, encode-two, encode-length}
-use Rattle.codepages.specs.Laws.Passes.{Passes, Skips, skips, Ready, Wrote, wrote}
+use Rattle.codepages.specs.Laws.Passes.{Passes, skips, Ready, Wrote, wrote}
 use Rattle.codepages.specs.Laws.Branches.{point-none, point-entry, put-two, to-ready}
 
 set-set : (l : List ℕ) (i x y : ℕ) → set (set l i x) i y ≡ set l i y

@@ -1,8 +1,8 @@
 -- Where the byte of a code point stands, so that two looks find it or that it has none. A page's way back is ten rows of 64 numbers. The first row has
 -- for the higher bits of a code point the number of the row of its bytes, the others have the bytes by the lowest six bits; 0 is none, and row 9 has
 -- none at all. Nothing here has to be believed: two tests computed once say that each entry stands there, and nothing else.
-use mathlib.Core.Path.{_≡_, refl, sym, ap, _∙_}
-use mathlib.Core.Bool.{Bool, true, false}
+use mathlib.Core.Path.{_≡_, refl, _∙_}
+use mathlib.Core.Bool.{Bool, true}
 use mathlib.Core.List.{List, [], _∷_}
 use mathlib.Core.Logic.{⊎-elim}
 use Prim.Native.Nat.{ℕ, zero, suc, _+_, _-_, _*_, _/_, _%_, _≤_, _<_}

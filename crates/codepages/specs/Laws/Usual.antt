@@ -1,23 +1,22 @@
 -- Usual bytes: those under 128, and those whose code points have two bytes in UTF-8. A text of them is measured by counting.
-use mathlib.Core.Path.{_≡_, refl, sym, ap, _∙_}
+use mathlib.Core.Path.{_≡_, ap, _∙_}
 use mathlib.Core.Bool.{Bool, true, false}
-use mathlib.Core.List.{List, [], _∷_, _++_}
+use mathlib.Core.List.{List}
 use mathlib.Core.Logic.{⊎-elim}
-use Prim.Native.Nat.{ℕ, zero, suc, _+_, _-_, _*_, _/_, _%_, _≤_, _<_}
-use native.Mathlib.Numerals.{add-one}
+use Prim.Native.Nat.{ℕ, zero, suc, _+_, _-_, _/_, _≤_, _<_}
 use native.Mathlib.Omega.{arith}
 use lib.Dec.{T, eqb, leb, ltb}
-use lib.ListN.{length, getD, drop}
+use lib.ListN.{length, getD}
 use lib.Bits.{bitOr, or-add-and, and-le-l, and-le-r}
-use borrow.Author.Tests.{leb-true, ltb-true, eqb-false, ne-eqb, lt-ltb, le-ltb}
+use borrow.Author.Tests.{leb-true, ltb-true, eqb-false, ne-eqb, le-ltb}
 use Rattle.layout.specs.Layout.{pick}
 use Rattle.codepages.specs.Table.{entries}
-use Rattle.codepages.specs.Pages.{page-count, page-entries, ascii, no-code-point, no-byte, page, listed, code-point}
+use Rattle.codepages.specs.Pages.{page-count, ascii, no-code-point, no-byte, page, listed, code-point}
 use Rattle.codepages.specs.Utf8.{two-bytes, three-bytes, encode}
-use Rattle.codepages.specs.Convert.{Step, to, output}
+use Rattle.codepages.specs.Convert.{Step, to}
 use Rattle.codepages.specs.Laws.Pages.{side, both, both-left, both-right, is-true, every, at-each, length-page, point-low, point-high}
 use Rattle.codepages.specs.Laws.Utf8.{encode-one, encode-two}
-use Rattle.codepages.specs.Laws.Passes.{Passes, Skips, skips}
+use Rattle.codepages.specs.Laws.Passes.{Skips, skips}
 use Rattle.codepages.specs.Laws.Branches.{to-at}
 
 -- bytes that are counted together at most
