@@ -425,8 +425,8 @@ fn store_to(t: &[u16], k: usize, input: &[u8], i: usize, out: &mut [u8], w: usiz
 {
     let b = input[i];
     let e = entry(t, k, (b % ASCII) as usize);
-    if i + 1 < input.len() {
-        if e < 2048 {
+    if e < 2048 {
+        if i + 1 < input.len() {
             out[w] = first_of(b, e);
             out[w + 1] = (128 + e % 64) as u8;
             return Taken {

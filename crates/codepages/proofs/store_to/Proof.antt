@@ -18,7 +18,7 @@ store-to-spec = tie.close (tie.spec
     let e = i .before in
     let s = e .before .before .before .before .before in
     let a = s .args in
-    omega (arith, pair-fits (a .k) (a .input .now) (a .i) (a .out .now) (a .w) _ _ (s .pre .0) (i .if1 .taken) refl (f .first-of .ensures .1) (e .entry .ensures) (j .if2 .taken) (s .pre .3)))
+    omega (arith, pair-fits (a .k) (a .input .now) (a .i) (a .out .now) (a .w) _ _ (s .pre .0) (j .if2 .taken) refl (f .first-of .ensures .1) (e .entry .ensures) (i .if1 .taken) (s .pre .3)))
     (λ c. search needs) (λ c. search needs) (λ c. search needs)
     (λ c.
     let f = c in
@@ -27,7 +27,7 @@ store-to-spec = tie.close (tie.spec
     let e = i .before in
     let s = e .before .before .before .before .before in
     let a = s .args in
-    simp length-set (pair-fits (a .k) (a .input .now) (a .i) (a .out .now) (a .w) _ _ (s .pre .0) (i .if1 .taken) refl (f .first-of .ensures .1) (e .entry .ensures) (j .if2 .taken) (s .pre .3)))
+    simp length-set (pair-fits (a .k) (a .input .now) (a .i) (a .out .now) (a .w) _ _ (s .pre .0) (j .if2 .taken) refl (f .first-of .ensures .1) (e .entry .ensures) (i .if1 .taken) (s .pre .3)))
     (λ c κs. tt)
     (λ c. search needs)
     (λ c.
@@ -37,7 +37,7 @@ store-to-spec = tie.close (tie.spec
     let e = i .before in
     let s = e .before .before .before .before .before in
     let a = s .args in
-    rw (c .made-of .ensures, f .first-of .ensures .0) (pair-wrote (a .k) (a .input .now) (a .i) (a .out .now) (a .w) _ _ (s .pre .0) (i .if1 .taken) refl (f .first-of .ensures .1) (e .entry .ensures) (j .if2 .taken) (s .pre .3)))
+    rw (c .made-of .ensures, f .first-of .ensures .0) (pair-wrote (a .k) (a .input .now) (a .i) (a .out .now) (a .w) _ _ (s .pre .0) (j .if2 .taken) refl (f .first-of .ensures .1) (e .entry .ensures) (i .if1 .taken) (s .pre .3)))
     (λ c κs. search needs)
     (λ c κs.
     let s = c .before .before .before .before .before .before .before .before in
