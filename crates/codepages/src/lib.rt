@@ -4,28 +4,31 @@ mod tables; // the constant tables
 mod utf8; // the rows of UTF-8
 
 ghost use mathlib.Core.Path.{_≡_};
-ghost use Prim.Native.Nat.{_+_, _-_, _≤_, _<_};
-ghost use mathlib.Core.Bool.{true};
+ghost use Prim.Native.Nat.{_+_, _-_, _/_, _≤_, _<_};
+ghost use mathlib.Core.Bool.{true, false};
 ghost use mathlib.Core.List.{_++_};
 ghost use lib.ListN.{getD, length, take, drop};
 ghost use lib.Seq.{sets};
-ghost use Rattle.codepages.specs.Table.{entries};
 ghost use Rattle.codepages.specs.Pages as pages;
 ghost use Rattle.codepages.specs.Utf8 as utf8_spec;
 ghost use Rattle.codepages.specs.Convert as spec;
-ghost use Rattle.codepages.specs.Laws.Places.{places};
-ghost use Rattle.codepages.specs.Laws.Passes.{half, Run, Found, Grown, Counts, Ready, Wrote};
+ghost use Rattle.codepages.specs.Laws.Places.{groups, rowsOf, look};
+ghost use Rattle.codepages.specs.Laws.Passes.{half, Run, Skips, Found, Grown, Counts, Ready, Wrote};
+ghost use Rattle.codepages.specs.Laws.Usual.{many, oddOf, Usual};
+ghost use Rattle.codepages.specs.Laws.Pairs.{firstOf};
+ghost use Rattle.codepages.specs.Laws.Back.{orNone};
 use crate::ascii::ASCII;
 use crate::ascii::run_end;
+use crate::tables::BACK_1250;
+use crate::tables::BACK_1251;
+use crate::tables::BACK_1252;
 use crate::tables::ENTRIES;
 use crate::tables::PAGES;
-use crate::tables::PLACES;
+use crate::tables::Page;
 use crate::utf8::NO_CODE_POINT;
 use crate::utf8::THREE_BYTES;
 use crate::utf8::TWO_BYTES;
 use crate::utf8::lead_size;
-use crate::utf8::row_three;
-use crate::utf8::row_two;
 use crate::utf8::size;
 
 // ---- numbers, under the names of `specs/`
@@ -34,11 +37,12 @@ const FIRST_PAGE: u32 = 1250;
 
 const PAGE_COUNT: u32 = 3;
 
-const PAGE_ENTRIES: usize = 128;
-
 const NO_BYTE: u32 = 256;
 
-const SLOTS: usize = 512;
+// bytes that are counted together
+const MANY: usize = 64;
+
+const FEW: usize = 8;
 
 const UNKNOWN_PAGE: u32 = 24;
 
@@ -81,28 +85,63 @@ fn convert(back: bool, page: u32, input: &[u8], out: &mut [u8]) -> Answer
         return refuse(UNKNOWN_PAGE, 0);
     }
     let k = (page - FIRST_PAGE) as usize;
-    let t = PAGES;
     if back {
-        let p = PLACES;
-        return in_page(&t, &p, k, back, input, out);
+        return from_page(k, input, out);
     }
-    in_page(&t, b"", k, back, input, out)
+    to_page(k, input, out)
 }
 
-// The same, for a page that is known. Only the way back needs the places.
-fn in_page(
-    t: &[u16; ENTRIES],
-    p: &[u8],
-    k: usize,
-    back: bool,
-    input: &[u8],
-    out: &mut [u8],
-) -> Answer
-    requires { ⌜ (k < pages.page-count) × (now t ≡ entries) × (back ≡ true → now p ≡ places) ⌝ }
+// To UTF-8, by the entries of the page.
+fn to_page(k: usize, input: &[u8], out: &mut [u8]) -> Answer
+    requires { ⌜ k < pages.page-count ⌝ }
+    ensures { λ r. ⌜ r ≡ spec.answer (spec.outcome (spec.to k) (length (now (out .entry))) (now (input .entry))) ⌝ }
+    ensures { λ _. ⌜ now (out .exit) ≡ spec.after (spec.outcome (spec.to k) (length (now (out .entry))) (now (input .entry))) (now (out .entry)) ⌝ }
+{
+    let page = page_of(k);
+    let t = page.entries;
+    in_page(&t, b"", k, false, input, out)
+}
+
+// A page's entries. Each is taken from the table by a constant, so that no other is copied.
+fn page_of(k: usize) -> Page
+    requires { ⌜ k < pages.page-count ⌝ }
+    ensures { λ r. ⌜ r .entries ≡ pages.page k ⌝ }
+{
+    if k == 0 {
+        return PAGES[0];
+    }
+    if k == 1 {
+        return PAGES[1];
+    }
+    PAGES[2]
+}
+
+// From UTF-8, by the page's way back.
+fn from_page(k: usize, input: &[u8], out: &mut [u8]) -> Answer
+    requires { ⌜ k < pages.page-count ⌝ }
+    ensures { λ r. ⌜ r ≡ spec.answer (spec.outcome (spec.from k) (length (now (out .entry))) (now (input .entry))) ⌝ }
+    ensures { λ _. ⌜ now (out .exit) ≡ spec.after (spec.outcome (spec.from k) (length (now (out .entry))) (now (input .entry))) (now (out .entry)) ⌝ }
+{
+    let t: [u16; 1] = [0];
+    if k == 0 {
+        let y = BACK_1250;
+        return in_page(&t, &y, k, true, input, out);
+    }
+    if k == 1 {
+        let y = BACK_1251;
+        return in_page(&t, &y, k, true, input, out);
+    }
+    let y = BACK_1252;
+    in_page(&t, &y, k, true, input, out)
+}
+
+// Either direction, for a page that is known: to UTF-8 by its entries, back by its rows.
+fn in_page(t: &[u16], y: &[u8], k: usize, back: bool, input: &[u8], out: &mut [u8]) -> Answer
+    requires { ⌜ (k < pages.page-count) × (back ≡ false → now t ≡ pages.page k) × (back ≡ true → now y ≡ rowsOf k) ⌝ }
     ensures { λ r. ⌜ r ≡ spec.answer (spec.outcome (spec.way back k) (length (now (out .entry))) (now (input .entry))) ⌝ }
     ensures { λ _. ⌜ now (out .exit) ≡ spec.after (spec.outcome (spec.way back k) (length (now (out .entry))) (now (input .entry))) (now (out .entry)) ⌝ }
 {
-    let m = measure(t, p, k, back, input, out.len());
+    let m = measure(t, y, k, back, input, out.len());
     if m.place < input.len() {
         return refuse(NO_CHARACTER, m.place);
     }
@@ -110,7 +149,8 @@ fn in_page(
         return refuse(OUTPUT_SHORT, 0);
     }
     let run = copy_run(input, 0, m.run, out, 0);
-    write(t, p, k, back, input, run, out);
+    let each = dense(input.len(), m.length);
+    write(t, y, k, back, each, input, run, out);
     Answer {
         refusal: 0,
         place: 0,
@@ -138,15 +178,8 @@ struct Measured {
     length: usize,
 }
 
-fn measure(
-    t: &[u16; ENTRIES],
-    p: &[u8],
-    k: usize,
-    back: bool,
-    input: &[u8],
-    room: usize,
-) -> Measured
-    requires { ⌜ (k < pages.page-count) × (room < half) × (now t ≡ entries) × (back ≡ true → now p ≡ places) ⌝ }
+fn measure(t: &[u16], y: &[u8], k: usize, back: bool, input: &[u8], room: usize) -> Measured
+    requires { ⌜ (k < pages.page-count) × (room < half) × (back ≡ false → now t ≡ pages.page k) × (back ≡ true → now y ≡ rowsOf k) ⌝ }
     ensures { λ r. ⌜ (r .place ≡ spec.valid-up-to (spec.way back k) 0 0 (now (input .entry))) × Counts room (r .length) (length (spec.output (spec.way back k) 0 (now (input .entry)))) ⌝ }
     ensures { λ r. ⌜ Run (now (input .entry)) 0 (r .run) ⌝ }
 {
@@ -154,7 +187,7 @@ fn measure(
     let mut i = run;
     let mut n = run;
     while i < input.len() {
-        let s = find(t, p, k, back, input, i);
+        let s = find(t, y, k, back, input, i);
         if s.taken == 0 {
             return Measured {
                 run: run,
@@ -186,34 +219,27 @@ struct Taken {
     made: usize,
 }
 
-// A run of bytes under 128, or one character.
-fn find(t: &[u16; ENTRIES], p: &[u8], k: usize, back: bool, input: &[u8], i: usize) -> Taken
-    requires { ⌜ (k < pages.page-count) × (i < length (now input)) × (now t ≡ entries) × (back ≡ true → now p ≡ places) ⌝ }
+// What stands at a place: several characters, or one.
+fn find(t: &[u16], y: &[u8], k: usize, back: bool, input: &[u8], i: usize) -> Taken
+    requires { ⌜ (k < pages.page-count) × (i < length (now input)) × (back ≡ false → now t ≡ pages.page k) × (back ≡ true → now y ≡ rowsOf k) ⌝ }
     ensures { λ r. ⌜ Found (spec.way back k) (now (input .entry)) i (r .taken) (r .made) ⌝ }
 {
-    let b = input[i];
-    if b < ASCII {
+    if back {
+        return find_back(y, k, input, i);
+    }
+    find_to(t, k, input, i)
+}
+
+// A run of bytes under 128, or one character.
+fn find_back(y: &[u8], k: usize, input: &[u8], i: usize) -> Taken
+    requires { ⌜ (k < pages.page-count) × (i < length (now input)) × (now y ≡ rowsOf k) ⌝ }
+    ensures { λ r. ⌜ Found (spec.from k) (now (input .entry)) i (r .taken) (r .made) ⌝ }
+{
+    if input[i] < ASCII {
         let n = run_end(input, i + 1) - i;
         return Taken { taken: n, made: n };
     }
-    if back {
-        return find_back(t, p, k, input, i);
-    }
-    let c = code_point(t, k, b);
-    if NO_CODE_POINT <= c {
-        return Taken { taken: 0, made: 0 };
-    }
-    Taken {
-        taken: 1,
-        made: size(c),
-    }
-}
-
-fn find_back(t: &[u16; ENTRIES], p: &[u8], k: usize, input: &[u8], i: usize) -> Taken
-    requires { ⌜ (k < pages.page-count) × (i < length (now input)) × (now t ≡ entries) × (now p ≡ places) ⌝ }
-    ensures { λ r. ⌜ Found (spec.from k) (now (input .entry)) i (r .taken) (r .made) ⌝ }
-{
-    let c = character(t, p, k, input, i);
+    let c = character(y, k, input, i);
     if NO_BYTE <= c {
         return Taken { taken: 0, made: 0 };
     }
@@ -223,34 +249,158 @@ fn find_back(t: &[u16; ENTRIES], p: &[u8], k: usize, input: &[u8], i: usize) -> 
     }
 }
 
+// Many usual bytes, or few, or one byte.
+fn find_to(t: &[u16], k: usize, input: &[u8], i: usize) -> Taken
+    requires { ⌜ (k < pages.page-count) × (i < length (now input)) × (now t ≡ pages.page k) ⌝ }
+    ensures { λ r. ⌜ Found (spec.to k) (now (input .entry)) i (r .taken) (r .made) ⌝ }
+{
+    let rest = input.len() - i;
+    let n = at_most(rest, MANY);
+    let m = usual(k, input, i, n);
+    if 0 < m {
+        return Taken { taken: n, made: m };
+    }
+    let few = at_most(rest, FEW);
+    let made = usual(k, input, i, few);
+    if 0 < made {
+        return Taken {
+            taken: few,
+            made: made,
+        };
+    }
+    find_byte(t, k, input, i)
+}
+
+fn find_byte(t: &[u16], k: usize, input: &[u8], i: usize) -> Taken
+    requires { ⌜ (k < pages.page-count) × (i < length (now input)) × (now t ≡ pages.page k) ⌝ }
+    ensures { λ r. ⌜ Found (spec.to k) (now (input .entry)) i (r .taken) (r .made) ⌝ }
+{
+    let c = code_point(t, k, input[i]);
+    if NO_CODE_POINT <= c {
+        return Taken { taken: 0, made: 0 };
+    }
+    Taken {
+        taken: 1,
+        made: size(c),
+    }
+}
+
+fn at_most(n: usize, m: usize) -> usize
+    ensures { λ r. ⌜ (r ≤ n) × (r ≤ m) × (0 < n → 0 < m → 0 < r) ⌝ }
+{
+    if n < m { n } else { m }
+}
+
+// ---- usual bytes: those under 128, and those that have two bytes in UTF-8. They are counted without a table and without an exit on the way,
+// so that many are taken at once.
+
+// How many bytes the n bytes from i on have in UTF-8; 0 if one of them is not usual.
+fn usual(k: usize, input: &[u8], i: usize, n: usize) -> usize
+    requires { ⌜ (k < pages.page-count) × (i + n ≤ length (now input)) × (n ≤ many) ⌝ }
+    ensures { λ r. ⌜ (r ≤ n + n) × (0 < r → Skips (spec.to k) (now (input .entry)) i n r) ⌝ }
+{
+    let odd = odd_of(k);
+    let mut high: u8 = 0;
+    let mut bad: u8 = 0;
+    let mut j: usize = 0;
+    while j < n {
+        let b = input[i + j];
+        high = high + top(b);
+        bad = bad | unusual(b, odd);
+        j += 1;
+    }
+    if bad == 0 { n + high as usize } else { 0 }
+}
+
+// The highest bit of a byte.
+fn top(b: u8) -> u8
+    ensures { λ r. ⌜ (r ≡ b / 128) × (r ≤ 1) ⌝ }
+{
+    b / 128
+}
+
+// 0 for a usual byte.
+fn unusual(b: u8, odd: u8) -> u8
+    ensures { λ r. ⌜ (r ≡ 0 → Usual odd b) × (b < pages.no-byte) ⌝ }
+{
+    mark(b / 32 == 4) | mark(b == odd)
+}
+
+fn mark(t: bool) -> u8
+    ensures { λ r. ⌜ (r ≡ 0 → t ≡ false) ⌝ }
+{
+    if t { 1 } else { 0 }
+}
+
+// The byte of a page, beside those from 128 to 159, that is not usual.
+fn odd_of(k: usize) -> u8
+    ensures { λ r. ⌜ r ≡ oddOf k ⌝ }
+{
+    if k == 1 { 185 } else { 128 }
+}
+
 // ---- the second pass
 
-// Writes what the text from `start` on becomes, from that place of the output on.
+// Whether many of n bytes that become m are not under 128.
+fn dense(n: usize, m: usize) -> bool {
+    if n < m {
+        return n / 16 < m - n;
+    }
+    n / 16 < n - m
+}
+
+// Writes what the text from `start` on becomes, from that place of the output on: each byte by itself, or by runs.
 fn write(
-    t: &[u16; ENTRIES],
-    p: &[u8],
+    t: &[u16],
+    y: &[u8],
     k: usize,
     back: bool,
+    each: bool,
     input: &[u8],
     start: usize,
     out: &mut [u8],
 )
-    requires { ⌜ (k < pages.page-count) × (start ≤ length (now input)) × (now t ≡ entries) × (back ≡ true → now p ≡ places) × Ready (spec.way back k) (now input) start (now out) start ⌝ }
+    requires { ⌜ (k < pages.page-count) × (start ≤ length (now input)) × (back ≡ false → now t ≡ pages.page k) × (back ≡ true → now y ≡ rowsOf k) × Ready (spec.way back k) (now input) start (now out) start ⌝ }
     ensures { λ _. ⌜ now (out .exit) ≡ sets (now (out .entry)) start (spec.output (spec.way back k) 0 (drop start (now (input .entry)))) ⌝ }
 {
     let mut i = start;
     let mut w = start;
     while i < input.len() {
-        let s = store(t, p, k, back, input, i, out, w);
+        let s = store(t, y, k, back, each, input, i, out, w);
         i += s.taken;
         w += s.made;
     }
 }
 
-// Stores what `find` finds.
+// Stores what stands at a place: a run of bytes under 128 unless each byte is stored by itself, or one character.
 fn store(
-    t: &[u16; ENTRIES],
-    p: &[u8],
+    t: &[u16],
+    y: &[u8],
+    k: usize,
+    back: bool,
+    each: bool,
+    input: &[u8],
+    i: usize,
+    out: &mut [u8],
+    w: usize,
+) -> Taken
+    requires { ⌜ (k < pages.page-count) × (i < length (now input)) × (back ≡ false → now t ≡ pages.page k) × (back ≡ true → now y ≡ rowsOf k) × Ready (spec.way back k) (now input) i (now out) w ⌝ }
+    ensures { λ r. ⌜ Wrote (spec.way back k) (now (input .entry)) i (now (out .entry)) w (r .taken) (r .made) (now (out .exit)) ⌝ }
+{
+    if each {
+        return store_one(t, y, k, back, input, i, out, w);
+    }
+    if input[i] < ASCII {
+        let n = copy_run(input, i, run_end(input, i + 1), out, w);
+        return Taken { taken: n, made: n };
+    }
+    store_one(t, y, k, back, input, i, out, w)
+}
+
+// Stores one character.
+fn store_one(
+    t: &[u16],
+    y: &[u8],
     k: usize,
     back: bool,
     input: &[u8],
@@ -258,42 +408,89 @@ fn store(
     out: &mut [u8],
     w: usize,
 ) -> Taken
-    requires { ⌜ (k < pages.page-count) × (i < length (now input)) × (now t ≡ entries) × (back ≡ true → now p ≡ places) × Ready (spec.way back k) (now input) i (now out) w ⌝ }
+    requires { ⌜ (k < pages.page-count) × (i < length (now input)) × (back ≡ false → now t ≡ pages.page k) × (back ≡ true → now y ≡ rowsOf k) × Ready (spec.way back k) (now input) i (now out) w ⌝ }
     ensures { λ r. ⌜ Wrote (spec.way back k) (now (input .entry)) i (now (out .entry)) w (r .taken) (r .made) (now (out .exit)) ⌝ }
 {
-    let b = input[i];
-    if b < ASCII {
-        let n = copy_run(input, i, run_end(input, i + 1), out, w);
-        return Taken { taken: n, made: n };
-    }
     if back {
-        return store_back(t, p, k, input, i, out, w);
+        return store_back(y, k, input, i, out, w);
     }
-    let c = code_point(t, k, b);
+    store_to(t, k, input, i, out, w)
+}
+
+// Stores what a byte becomes. If others follow and its entry has two bytes, two are stored for a byte under 128 too: the second is then
+// overwritten, and there is no branch to miss.
+fn store_to(t: &[u16], k: usize, input: &[u8], i: usize, out: &mut [u8], w: usize) -> Taken
+    requires { ⌜ (k < pages.page-count) × (i < length (now input)) × (now t ≡ pages.page k) × Ready (spec.to k) (now input) i (now out) w ⌝ }
+    ensures { λ r. ⌜ Wrote (spec.to k) (now (input .entry)) i (now (out .entry)) w (r .taken) (r .made) (now (out .exit)) ⌝ }
+{
+    let b = input[i];
+    let e = entry(t, k, (b % ASCII) as usize);
+    if e < 2048 {
+        if i + 1 < input.len() {
+            out[w] = first_of(b, e);
+            out[w + 1] = (128 + e % 64) as u8;
+            return Taken {
+                taken: 1,
+                made: made_of(b),
+            };
+        }
+    }
     Taken {
         taken: 1,
-        made: put(out, w, c),
+        made: put(out, w, code_point(t, k, b)),
     }
 }
 
-fn store_back(
-    t: &[u16; ENTRIES],
-    p: &[u8],
-    k: usize,
-    input: &[u8],
-    i: usize,
-    out: &mut [u8],
-    w: usize,
-) -> Taken
-    requires { ⌜ (k < pages.page-count) × (i < length (now input)) × (now t ≡ entries) × (now p ≡ places) × Ready (spec.from k) (now input) i (now out) w ⌝ }
+// How many of the two count.
+fn made_of(b: u8) -> usize
+    ensures { λ r. ⌜ (r ≡ 1 + b / 128) ⌝ }
+{
+    1 + wide(b) / 128
+}
+
+fn first_of(b: u8, e: u16) -> u8
+    requires { ⌜ e < utf8_spec.three-bytes ⌝ }
+    ensures { λ r. ⌜ (r ≡ firstOf b e) × (b < pages.no-byte) ⌝ }
+{
+    if b < ASCII { b } else { (192 + e / 64) as u8 }
+}
+
+fn store_back(y: &[u8], k: usize, input: &[u8], i: usize, out: &mut [u8], w: usize) -> Taken
+    requires { ⌜ (k < pages.page-count) × (i < length (now input)) × (now y ≡ rowsOf k) × Ready (spec.from k) (now input) i (now out) w ⌝ }
     ensures { λ r. ⌜ Wrote (spec.from k) (now (input .entry)) i (now (out .entry)) w (r .taken) (r .made) (now (out .exit)) ⌝ }
 {
-    let c = character(t, p, k, input, i);
-    out[w] = c as u8;
-    Taken {
-        taken: lead_size(input[i]),
-        made: 1,
+    let a = input[i];
+    if a < ASCII {
+        out[w] = a;
+        return Taken { taken: 1, made: 1 };
     }
+    if a < 224 {
+        out[w] = known_two(y, k, input, i);
+        return Taken { taken: 2, made: 1 };
+    }
+    out[w] = known_three(y, k, input, i);
+    Taken { taken: 3, made: 1 }
+}
+
+// The byte of a character that is known to have one: nothing is tested again.
+fn known_two(y: &[u8], k: usize, input: &[u8], i: usize) -> u8
+    requires { ⌜ (k < pages.page-count) × (now y ≡ rowsOf k) × (i < length (now input)) × (pages.byte k (utf8_spec.decode (drop i (now input))) < pages.no-byte) × (128 ≤ getD (now input) i 0) × (getD (now input) i 0 < 224) ⌝ }
+    ensures { λ r. ⌜ r ≡ pages.byte k (utf8_spec.decode (drop i (now (input .entry)))) ⌝ }
+{
+    look_up(y, k, wide(input[i]) - 192, wide(input[i + 1]) - 128)
+}
+
+fn known_three(y: &[u8], k: usize, input: &[u8], i: usize) -> u8
+    requires { ⌜ (k < pages.page-count) × (now y ≡ rowsOf k) × (i < length (now input)) × (pages.byte k (utf8_spec.decode (drop i (now input))) < pages.no-byte) × (224 ≤ getD (now input) i 0) × (getD (now input) i 0 < 240) ⌝ }
+    ensures { λ r. ⌜ r ≡ pages.byte k (utf8_spec.decode (drop i (now (input .entry)))) ⌝ }
+{
+    look_up(y, k, wide(input[i + 1]) - 96, wide(input[i + 2]) - 128)
+}
+
+fn wide(x: u8) -> usize
+    ensures { λ r. ⌜ r ≡ x ⌝ }
+{
+    x as usize
 }
 
 // Stores the bytes from i to e; answers how many.
@@ -327,8 +524,8 @@ fn put(out: &mut [u8], w: usize, c: u32) -> usize
 // ---- a character
 
 // The byte of the character at a place, NO_BYTE if it is refused. No page has a character of four bytes, so the bytes of that row are not read.
-fn character(t: &[u16; ENTRIES], p: &[u8], k: usize, input: &[u8], i: usize) -> u32
-    requires { ⌜ (k < pages.page-count) × (i < length (now input)) × (now t ≡ entries) × (now p ≡ places) ⌝ }
+fn character(y: &[u8], k: usize, input: &[u8], i: usize) -> u32
+    requires { ⌜ (k < pages.page-count) × (i < length (now input)) × (now y ≡ rowsOf k) ⌝ }
     ensures { λ r. ⌜ r ≡ pages.byte k (utf8_spec.decode (drop i (now (input .entry)))) ⌝ }
 {
     let a = input[i];
@@ -336,15 +533,10 @@ fn character(t: &[u16; ENTRIES], p: &[u8], k: usize, input: &[u8], i: usize) -> 
         return a as u32;
     }
     if a < 224 {
-        return byte(t, p, k, row_two(a, byte_at(input, i + 1)));
+        return two(y, k, a, byte_at(input, i + 1));
     }
     if a < 240 {
-        return byte(
-            t,
-            p,
-            k,
-            row_three(a, byte_at(input, i + 1), byte_at(input, i + 2)),
-        );
+        return three(y, k, a, byte_at(input, i + 1), byte_at(input, i + 2));
     }
     NO_BYTE
 }
@@ -356,52 +548,76 @@ fn byte_at(input: &[u8], i: usize) -> u8
     if i < input.len() { input[i] } else { 0 }
 }
 
+// The byte of a character of two bytes. C0 and C1 have a row of none, since they begin overlong forms.
+fn two(y: &[u8], k: usize, a: u8, b: u8) -> u32
+    requires { ⌜ (k < pages.page-count) × (128 ≤ a) × (a < 224) × (now y ≡ rowsOf k) ⌝ }
+    ensures { λ r. ⌜ r ≡ pages.byte k (utf8_spec.row-two a b) ⌝ }
+{
+    if a < 192 {
+        return NO_BYTE;
+    }
+    if b / 64 == 2 {
+        return or_none(look_up(y, k, (a - 192) as usize, (b - 128) as usize));
+    }
+    NO_BYTE
+}
+
+// The same for three: only those from E2 80 to E2 87 stand in any page.
+fn three(y: &[u8], k: usize, a: u8, b: u8, d: u8) -> u32
+    requires { ⌜ (k < pages.page-count) × (224 ≤ a) × (a < 240) × (now y ≡ rowsOf k) ⌝ }
+    ensures { λ r. ⌜ r ≡ pages.byte k (utf8_spec.row-three a b d) ⌝ }
+{
+    if a == 226 {
+        if b / 8 == 16 {
+            if d / 64 == 2 {
+                return or_none(look_up(y, k, (b - 96) as usize, (d - 128) as usize));
+            }
+            return NO_BYTE;
+        }
+        return NO_BYTE;
+    }
+    NO_BYTE
+}
+
+fn or_none(x: u8) -> u32
+    ensures { λ r. ⌜ r ≡ orNone x ⌝ }
+{
+    if x == 0 {
+        return NO_BYTE;
+    }
+    x as u32
+}
+
 // ---- a page
 
-// The entry at a place of the table.
-fn entry(t: &[u16; ENTRIES], i: usize) -> u16
-    requires { ⌜ (i < 384) × (now t ≡ entries) ⌝ }
-    ensures { λ r. ⌜ r ≡ getD entries i 0 ⌝ }
+// The entry at a place of a page.
+fn entry(t: &[u16], k: usize, i: usize) -> u16
+    requires { ⌜ (i < pages.page-entries) × (k < pages.page-count) × (now t ≡ pages.page k) ⌝ }
+    ensures { λ r. ⌜ r ≡ getD (pages.page k) i 0 ⌝ }
 {
     t[i]
 }
 
 // The code point of a byte; NO_CODE_POINT if it has none.
-fn code_point(t: &[u16; ENTRIES], k: usize, b: u8) -> u32
-    requires { ⌜ (k < pages.page-count) × (now t ≡ entries) ⌝ }
+fn code_point(t: &[u16], k: usize, b: u8) -> u32
+    requires { ⌜ (k < pages.page-count) × (now t ≡ pages.page k) ⌝ }
     ensures { λ r. ⌜ r ≡ pages.code-point k b ⌝ }
 {
     if b < ASCII {
         return b as u32;
     }
-    let e = entry(t, PAGE_ENTRIES * k + (b - ASCII) as usize);
+    let e = entry(t, k, (b - ASCII) as usize);
     if e == 0 {
         return NO_CODE_POINT;
     }
     e as u32
 }
 
-// The place by a slot.
-fn place(p: &[u8], i: usize) -> u8
-    requires { ⌜ (i < 1536) × (now p ≡ places) ⌝ }
-    ensures { λ r. ⌜ r ≡ getD places i 0 ⌝ }
+// The number in a page's rows for the lowest six bits d of a code point of group i.
+fn look_up(y: &[u8], k: usize, i: usize, d: usize) -> u8
+    requires { ⌜ (k < pages.page-count) × (i < groups) × (d < 64) × (now y ≡ rowsOf k) ⌝ }
+    ensures { λ r. ⌜ r ≡ look k i d ⌝ }
 {
-    p[i]
-}
-
-// The byte of a code point; NO_BYTE if it has none.
-fn byte(t: &[u16; ENTRIES], p: &[u8], k: usize, c: u32) -> u32
-    requires { ⌜ (k < pages.page-count) × (now t ≡ entries) × (now p ≡ places) ⌝ }
-    ensures { λ r. ⌜ r ≡ pages.byte k c ⌝ }
-{
-    if c < 128 {
-        return c;
-    }
-    let n = c as usize;
-    let g = place(p, SLOTS * k + (n + n / 256 * 89) % SLOTS);
-    let e = entry(t, PAGE_ENTRIES * k + g as usize) as u32;
-    if e == c {
-        return 128 + g as u32;
-    }
-    NO_BYTE
+    let row = wide(y[i]);
+    y[64 * row + d]
 }

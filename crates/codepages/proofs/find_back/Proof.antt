@@ -1,21 +1,32 @@
 use borrow.Author.Needs.{needs}
-use Rattle.codepages.specs.Laws.Branches.{from-none, from-found}
-use Rattle.codepages.specs.Laws.Passes.{found-none}
+use native.Mathlib.Omega.{arith}
+use mathlib.Core.Bool.{true}
 use mathlib.Core.Path.{refl}
+use Rattle.codepages.specs.Convert.{way}
+use Rattle.codepages.specs.Laws.Branches.{run-found, from-none, from-found}
+use Rattle.codepages.specs.Laws.Passes.{found-none}
 use Rattle.codepages.proofs.find_back.Statement.{statement}
 use Rattle.codepages.proofs.find_back.Tie as tie
 
 pub find-back-spec : {M : Type 1} → statement M
-find-back-spec = tie.close (tie.spec (λ c κs. search needs)
+unfolding way
+find-back-spec = tie.close (tie.spec
+    (λ c. search needs) (λ c. search needs) (λ c κs. tt) (λ c. search needs)
+    (λ c.
+    let i = c .before in
+    let a = i .before .before .before .before .args in
+    let r = c .run-end .ensures in
+    run-found true (a .k) (a .input .now) (a .i) _ (i .if1 .taken) (r .onward) (r .inside (omega arith)) (r .all) (omega arith))
+    (λ c κs. search needs)
     (λ c.
     let m = c .before in
-    let s = m .before .before .before in
+    let s = m .before .before .before .before .before in
     let a = s .args in
-    found-none (from-none (a .k) (a .input .now) (a .i) _ _ (s .pre .0) (s .pre .1) (m .character .ensures) refl (c .if1 .taken)))
+    found-none (from-none (a .k) (a .input .now) (a .i) _ _ (s .pre .0) (s .pre .1) (m .character .ensures) refl (c .if2 .taken)))
     (λ c. search needs) (λ c κs. tt)
     (λ c.
     let e = c .before .before in
     let m = e .before in
-    let s = m .before .before .before in
+    let s = m .before .before .before .before .before in
     let a = s .args in
-    from-found (a .k) (a .input .now) (a .i) _ _ (s .pre .0) (s .pre .1) (m .character .ensures) (c .lead-size .ensures) (e .if1 .left)))
+    from-found (a .k) (a .input .now) (a .i) _ _ (s .pre .0) (s .pre .1) (m .character .ensures) (c .lead-size .ensures) (e .if2 .left)))

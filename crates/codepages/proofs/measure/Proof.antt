@@ -9,10 +9,10 @@ use Rattle.codepages.proofs.measure.Statement.{statement}
 use Rattle.codepages.proofs.measure.Tie as tie
 
 abbrev Inv-loop : tie.InvT-loop
-Inv-loop t p k back input room run i₀ n₀ i n = (Tally (way back k) input room i n) × (length input < half)
+Inv-loop t y k back input room run i₀ n₀ i n = (Tally (way back k) input room i n) × (length input < half)
 
 abbrev μ-loop : tie.MeasureT-loop
-μ-loop t p k back input room run i₀ n₀ i n = length input - i
+μ-loop t y k back input room run i₀ n₀ i n = length input - i
 
 pub measure-spec : {M : Type 1} → statement M
 measure-spec = tie.close (tie.spec Inv-loop μ-loop

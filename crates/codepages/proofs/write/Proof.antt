@@ -7,17 +7,17 @@ use Rattle.codepages.proofs.write.Statement.{statement}
 use Rattle.codepages.proofs.write.Tie as tie
 
 abbrev Inv-loop : tie.InvT-loop
-Inv-loop t p k back input start out₀ i₀ w₀ out i w = (Writing (way back k) input start out₀ out i w) × (length out₀ < half)
+Inv-loop t y k back each input start out₀ i₀ w₀ out i w = (Writing (way back k) input start out₀ out i w) × (length out₀ < half)
 
 abbrev μ-loop : tie.MeasureT-loop
-μ-loop t p k back input start out₀ i₀ w₀ out i w = length input - i
+μ-loop t y k back each input start out₀ i₀ w₀ out i w = length input - i
 
 pub write-spec : {M : Type 1} → statement M
 write-spec = tie.close (tie.spec Inv-loop μ-loop
-    (λ c. (writing (c .before .before .before .pre .1) (c .before .before .before .pre .4), omega arith))
+    (λ c. (writing (c .before .before .before .before .pre .1) (c .before .before .before .before .pre .4), omega arith))
     (λ c κs.
     let l = c .before .before in
-    let s = l .before .before .before .before in
+    let s = l .before .before .before .before .before in
     (s .pre .0, c .before .loop-test .taken, s .pre .2, s .pre .3, l .loop .inv .0 .ready))
     (λ c. omega (arith, c .before .before .before .store .ensures .skipped .inside))
     (λ c.

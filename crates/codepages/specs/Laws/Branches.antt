@@ -3,102 +3,37 @@ use mathlib.Core.Path.{_≡_, refl, sym, ap, _∙_}
 use mathlib.Core.Bool.{Bool, true, false}
 use mathlib.Core.List.{List, [], _∷_, _++_}
 use mathlib.Core.Logic.{⊎-elim}
-use Prim.Native.Nat.{ℕ, zero, suc, _+_, _-_, _*_, _/_, _%_, _≤_, _<_}
+use Prim.Native.Nat.{ℕ, suc, _+_, _-_, _/_, _%_, _≤_, _<_}
 use native.Mathlib.Nat.{zero-add}
 use native.Mathlib.Numerals.{add-one}
 use native.Mathlib.Omega.{arith}
 use lib.Dec.{ltb}
 use lib.ListN.{length, getD, take, drop, set, length-drop, List·getD-eq-default}
-use lib.Seq.{getD-take, getD-drop, sets, sets-eq, length-sets, length-take-le}
+use lib.Seq.{getD-drop, sets, sets-eq, length-sets, length-take-le}
 use borrow.Author.Tests.{lt-ltb, le-ltb, ne-eqb}
 use Rattle.layout.specs.Layout.{pick}
-use Rattle.codepages.specs.Table.{entries}
-use Rattle.codepages.specs.Pages.{page-count, page-entries, ascii, no-code-point, no-byte, page, listed, code-point, byte}
-use Rattle.codepages.specs.Utf8.{two-bytes, three-bytes, four-bytes, surrogates, after-surrogates, scalar, encode, continuation, shortest, row-two, row-three, row, decode}
-use Rattle.codepages.specs.Convert.{Step, invalid, converts, to, from, way, valid-up-to, output}
-use Rattle.codepages.specs.Laws.Pages.{side, point-low, point-high, point-byte, byte-low, byte-below, byte-none}
+use Rattle.codepages.specs.Pages.{page-count, ascii, no-code-point, no-byte, page, listed, code-point, byte}
+use Rattle.codepages.specs.Utf8.{two-bytes, three-bytes, four-bytes, surrogates, encode, row-two, row-three, decode}
+use Rattle.codepages.specs.Convert.{invalid, converts, to, from, way, valid-up-to, output}
+use Rattle.codepages.specs.Laws.Pages.{side, point-high, point-byte, byte-low, byte-below, byte-none}
 use Rattle.codepages.specs.Laws.Utf8.{encode-one, encode-two, encode-three, encode-four, encode-length, row-one-is, row-two-is, row-three-is, decoded-by, Decoded, from-one, from-two, from-three, from-four, encode-decode}
 use Rattle.codepages.specs.Laws.Steps.{to-converts, to-invalid, from-converts, from-invalid}
-use Rattle.codepages.specs.Laws.Passes.{half, Ascii, Run, Tally, tally, tally-step, Grown, sets-append, ascii-one, ascii-more, passes-ascii, Passes, passes-one, Skips, skips, Found, found-none, found-some, Ready, not-refused, fits, Wrote, wrote}
+use Rattle.codepages.specs.Laws.Passes.{half, Ascii, Run, Tally, tally, tally-step, Grown, sets-append, ascii-one, ascii-more, passes-ascii, Passes, passes-one, Skips, skips, Found, found-some, Ready, not-refused, fits, Wrote, wrote}
 
 pub past : (u : List ℕ) (i : ℕ) → length u ≤ i → 0 ≡ getD u i 0
 past u i h = sym (List·getD-eq-default u 0 {n = i} h)
 
 -- ---- a page
 
-entry-page : (k j e : ℕ) → j < page-entries → e ≡ getD entries (page-entries * k + j) 0 → getD (page k) j 0 ≡ e
-unfolding page
-entry-page k j e h q = getD-take page-entries (drop (page-entries * k) entries) j 0 h ∙ getD-drop (page-entries * k) entries j 0 ∙ sym q
-
-pub point-none : (k b e : ℕ) → ascii ≤ b → b < no-byte → e ≡ getD entries (page-entries * k + (b - ascii)) 0 → e ≡ 0 → no-code-point ≡ code-point k b
+pub point-none : (k b e : ℕ) → ascii ≤ b → e ≡ getD (page k) (b - ascii) 0 → e ≡ 0 → no-code-point ≡ code-point k b
 unfolding listed pick
-point-none k b e l h q z = sym (point-high k b l ∙ rw (entry-page k (b - ascii) e (omega arith) q, z))
+point-none k b e l q z = sym (point-high k b l ∙ rw (← q, z))
 
-pub point-entry : (k b e : ℕ) → ascii ≤ b → b < no-byte → e ≡ getD entries (page-entries * k + (b - ascii)) 0 → (e ≡ 0 → ⊥) → e ≡ code-point k b
+pub point-entry : (k b e : ℕ) → ascii ≤ b → e ≡ getD (page k) (b - ascii) 0 → (e ≡ 0 → ⊥) → e ≡ code-point k b
 unfolding listed pick
-point-entry k b e l h q z = sym (point-high k b l ∙ rw (entry-page k (b - ascii) e (omega arith) q, ne-eqb e 0 z))
+point-entry k b e l q z = sym (point-high k b l ∙ rw (← q, ne-eqb e 0 z))
 
 -- ---- UTF-8
-
-pub continuation-low : (x : ℕ) → x < 128 → false ≡ continuation x
-unfolding continuation pick
-continuation-low x h = rw (lt-ltb x 128 h)
-
-pub continuation-high : (x : ℕ) → 128 ≤ x → ltb x 192 ≡ continuation x
-unfolding continuation pick
-continuation-high x h = rw (le-ltb x 128 h)
-
-pub scalar-low : (c : ℕ) → c < surrogates → true ≡ scalar c
-unfolding scalar pick
-scalar-low c h = rw (lt-ltb c surrogates h)
-
-pub scalar-surrogate : (c : ℕ) → surrogates ≤ c → c < after-surrogates → false ≡ scalar c
-unfolding scalar pick
-scalar-surrogate c l h = rw (le-ltb c surrogates l, lt-ltb c after-surrogates h)
-
-pub scalar-high : (c : ℕ) → after-surrogates ≤ c → ltb c no-code-point ≡ scalar c
-unfolding scalar pick
-scalar-high c l = let k : surrogates ≤ c = omega arith in rw (le-ltb c surrogates k, le-ltb c after-surrogates l)
-
-pub shortest-below : (least c : ℕ) → c < least → no-code-point ≡ shortest least c
-unfolding shortest pick
-shortest-below least c h = rw (lt-ltb c least h)
-
-pub shortest-value : (least c : ℕ) (t : Bool) → least ≤ c → t ≡ scalar c → t ≡ true → c ≡ shortest least c
-unfolding shortest pick
-shortest-value least c t h q e = let s : scalar c ≡ true = sym q ∙ e in rw (le-ltb c least h, s)
-
-pub shortest-other : (least c : ℕ) (t : Bool) → least ≤ c → t ≡ scalar c → t ≡ false → no-code-point ≡ shortest least c
-unfolding shortest pick
-shortest-other least c t h q e = let s : scalar c ≡ false = sym q ∙ e in rw (le-ltb c least h, s)
-
-module _ (a b x y r : ℕ) (ea : x ≡ a - 192) (eb : y ≡ b - 128) (t : Bool) (q : t ≡ continuation b) where
-  pub two-good : t ≡ true → r ≡ shortest two-bytes (x * 64 + y) → r ≡ row-two a b
-  unfolding row-two pick
-  two-good e z = let s : continuation b ≡ true = sym q ∙ e in rw (s, ← ea, ← eb) z
-
-pub two-bad : (a b : ℕ) (t : Bool) → t ≡ continuation b → t ≡ false → no-code-point ≡ row-two a b
-unfolding row-two pick
-two-bad a b t q e = let s : continuation b ≡ false = sym q ∙ e in rw s
-
-module _ (a b d : ℕ) (t s : Bool) (q : t ≡ continuation b) (e : t ≡ true) (q′ : s ≡ continuation d) where
-  pub three-good : (x y z r : ℕ) → x ≡ a - 224 → y ≡ b - 128 → z ≡ d - 128 → s ≡ true → r ≡ shortest three-bytes (x * 4096 + y * 64 + z) → r ≡ row-three a b d
-  unfolding row-three pick
-  three-good x y z r ea eb ed e′ i =
-      let p : continuation b ≡ true = sym q ∙ e in
-      let p′ : continuation d ≡ true = sym q′ ∙ e′ in
-      rw (p, p′, ← ea, ← eb, ← ed) i
-
-  pub three-bad : s ≡ false → no-code-point ≡ row-three a b d
-  unfolding row-three pick
-  three-bad e′ =
-      let p : continuation b ≡ true = sym q ∙ e in
-      let p′ : continuation d ≡ false = sym q′ ∙ e′ in
-      rw (p, p′)
-
-pub three-worse : (a b d : ℕ) (t : Bool) → t ≡ continuation b → t ≡ false → no-code-point ≡ row-three a b d
-unfolding row-three pick
-three-worse a b d t q e = let p : continuation b ≡ false = sym q ∙ e in rw p
 
 pub size-one : (c : ℕ) → c < two-bytes → 1 ≡ length (encode c)
 size-one c h = rw (encode-one c h)
@@ -146,7 +81,7 @@ getD-front : (u : List ℕ) (i : ℕ) → getD (drop i u) 0 0 ≡ getD u i 0
 getD-front u i = let e : i + 0 ≡ i = omega arith in rw e at (getD-drop i u 0 0)
 
 module _ (k : ℕ) (u : List ℕ) (i a : ℕ) (ea : a ≡ getD u i 0) where
-  lead : getD (drop i u) 0 0 ≡ a
+  pub lead : getD (drop i u) 0 0 ≡ a
   lead = getD-front u i ∙ sym ea
 
   pub decode-one : a < 128 → a ≡ byte k (decode (drop i u))

@@ -81,11 +81,11 @@ pub row-four-is : (a b d e : ℕ) → 240 ≤ a → row a b d e ≡ row-four a b
 unfolding row pick
 row-four-is a b d e l = let k : 128 ≤ a = omega arith in let m : 224 ≤ a = omega arith in rw (le-ltb a 128 k, le-ltb a 224 m, le-ltb a 240 l)
 
-two-is : (a b c : ℕ) → 128 ≤ b → b < 192 → (a - 192) * 64 + (b - 128) ≡ c → two-bytes ≤ c → scalar c ≡ true → row-two a b ≡ c
+pub two-is : (a b c : ℕ) → 128 ≤ b → b < 192 → (a - 192) * 64 + (b - 128) ≡ c → two-bytes ≤ c → scalar c ≡ true → row-two a b ≡ c
 unfolding row-two pick
 two-is a b c l h e m s = rw (continuation-is b l h, e) (shortest-is two-bytes c m s)
 
-three-is : (a b d c : ℕ) → 128 ≤ b → b < 192 → 128 ≤ d → d < 192 → (a - 224) * 4096 + (b - 128) * 64 + (d - 128) ≡ c → three-bytes ≤ c → scalar c ≡ true → row-three a b d ≡ c
+pub three-is : (a b d c : ℕ) → 128 ≤ b → b < 192 → 128 ≤ d → d < 192 → (a - 224) * 4096 + (b - 128) * 64 + (d - 128) ≡ c → three-bytes ≤ c → scalar c ≡ true → row-three a b d ≡ c
 unfolding row-three pick
 three-is a b d c lb hb ld hd e m s = rw (continuation-is b lb hb, continuation-is d ld hd, e) (shortest-is three-bytes c m s)
 
