@@ -6,7 +6,7 @@ ghost use Rattle.total.specs.Laws.Words as words_spec;
 ghost use Rattle.total.specs.Laws.Sums.{Within};
 use crate::sums::Sums;
 use crate::sums::add;
-use contents::read_value;
+use contents::read_figure;
 use counts::kind_of;
 use member::part;
 use once::word;
@@ -48,9 +48,8 @@ pub fn add_cell(member: &[u8], version: u64, words: &[u32], i: usize, s: Sums) -
     let at = CELL_WORDS * i;
     let place = word(words, at + 1);
     let n = word(words, at + 2) as usize;
-    let x = read_value(part(member, place as usize, n), version);
-    let raw = x.raw;
-    add(kind_of(raw.form, raw.bits), place, s)
+    let x = read_figure(part(member, place as usize, n), version);
+    add(kind_of(x.form, x.bits), place, s)
 }
 
 // The same, if the cell is under the leaf.
