@@ -13,6 +13,7 @@ use Rattle.once.specs.Once.{word}
 use Rattle.contents.specs.declared.RawValue.{RawValue}
 use Rattle.contents.specs.Laws.Answers.{valueAnswer}
 use Rattle.contents.specs.Laws.Figure.{figure, figureWith, no-figure}
+use Rattle.counts.specs.declared.Kind.{Kind}
 use Rattle.counts.specs.Count.{kind}
 use Rattle.total.specs.declared.sums.Sums.{Sums}
 use Rattle.total.specs.Total.{CellSays, addCell, withCell, sums}
@@ -25,6 +26,10 @@ recordSays bs version ws i = record {
   place = word ws (cell-words * i + 1);
   contents = valueAnswer version (partOf bs (word ws (cell-words * i + 1)) (word ws (cell-words * i + 2)));
 }
+
+-- what it counts as
+abbrev pub kindAt : List ℕ → ℕ → List ℕ → ℕ → Kind
+kindAt bs version ws i = kind (recordSays bs version ws i .contents .raw .form) (recordSays bs version ws i .contents .raw .bits)
 
 -- those of k records from record i on
 unfoldable pub recordsSay : List ℕ → ℕ → List ℕ → ℕ → ℕ → List CellSays
