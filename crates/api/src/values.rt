@@ -5,11 +5,16 @@ ghost use Rattle.layout.specs.declared.Step.the-variants.{Next};
 ghost use Rattle.store.specs.Puts.{PutsWords};
 ghost use Rattle.store.specs.Values.{bit};
 ghost use Rattle.contents.specs.Number.{numberOf};
+ghost use Rattle.contents.specs.Laws.Plain.{plainValue};
 ghost use Rattle.api.specs.Values as spec;
 use contents::Argument;
 use contents::Contents;
 use contents::RawValue;
 use contents::number as number_of;
+use contents::plain::PLAIN_BYTES;
+use contents::plain::is_plain;
+use contents::plain::plain_bits;
+use contents::plain::plain_format;
 use contents::read_argument;
 use contents::read_value;
 use layout::Step;
@@ -68,6 +73,42 @@ fn value_words(out: &mut [u32], x: Contents) -> Step
     raw_words(out, st, raw)
 }
 
+// The same of a plain number.
+fn plain_words(out: &mut [u32], value: &[u8]) -> Step
+    ensures { λ r. ⌜ PutsWords (spec.valueWords (plainValue (now (value .entry)))) (now (out .entry)) (Next 0) (now (out .exit)) r ⌝ }
+{
+    let bits = plain_bits(value);
+    let format = plain_format(value);
+    put(
+        out,
+        Step::Next(0),
+        &[
+            0,
+            0,
+            PLAIN_BYTES as u32,
+            0,
+            1,
+            format,
+            (bits % 4294967296) as u32,
+            (bits / 4294967296) as u32,
+            0,
+            0,
+            0,
+            0,
+            0,
+            0,
+            0,
+            0,
+            0,
+            0,
+            0,
+            0,
+            0,
+            0,
+        ],
+    )
+}
+
 fn argument_words(out: &mut [u32], x: Argument) -> Step
     ensures { λ r. ⌜ PutsWords (spec.argumentWords x) (now (out .entry)) (Next 0) (now (out .exit)) r ⌝ }
 {
@@ -92,6 +133,11 @@ pub extern "C" fn digarumbi_value(version: u32, value: &[u8], answer: &mut [u32]
 {
     let room = VALUE_ANSWER_WORDS <= answer.len();
     if room {
+        let plain = is_plain(value, version as u64);
+        if plain {
+            plain_words(answer, value);
+            return VALUE_ANSWER_WORDS;
+        }
         let x = read_value(value, version as u64);
         value_words(answer, x);
         VALUE_ANSWER_WORDS

@@ -1,9 +1,13 @@
 // What a Value says: its form, its numbers by value, and its strings and arguments by their places in the bytes given.
 mod forms; // the fields of each form
 mod double; // the number that a double is
+mod figure; // the double of a Value
+pub mod plain; // numbers with nothing but a format and a double
 
 pub use double::Double;
 pub use double::number;
+pub use figure::Figure;
+pub use figure::read_figure;
 ghost use mathlib.Core.Path.{_≡_};
 ghost use Rattle.contents.specs.Answers as spec;
 use crate::forms::blank;
@@ -27,6 +31,8 @@ pub struct RawValue {
     pub format: u32,
     // the double's
     pub bits: u64,
+    // how many
+    pub arguments: u32,
     pub show: u8,
     pub fixed: bool,
     // local, s or template
@@ -36,8 +42,7 @@ pub struct RawValue {
     pub label: Name,
     pub id: Name,
     pub c: Name,
-    // how many, and where the first starts
-    pub arguments: u32,
+    // where it starts
     pub first_argument: usize,
 }
 

@@ -1,9 +1,10 @@
 -- One turn of each loop: the first of a list is passed.
 use mathlib.Core.Path.{_≡_, refl, sym, _∙_}
-use mathlib.Core.Bool.{Bool, true, false}
+use mathlib.Core.Bool.{Bool, true, false, _&&_, not}
 use mathlib.Core.List.{List, [], _∷_}
 use Prim.Native.Nat.{ℕ, zero, suc, _+_, _-_, _*_, _/_, _%_, _≤_, _<_, min}
-use native.Mathlib.Nat.{min-eq-left, min-eq-right, mul-zero, mul-one, mul-assoc, mul-le-mul-left, mul-le-mul-right}
+use native.Mathlib.Nat.{min-eq-left, min-eq-right, mul-zero, mul-one, mul-assoc, mul-le-mul-left, mul-le-mul-right, sub-zero, div-div-eq-div-mul, div-eq-of-lt}
+use native.Mathlib.Numerals.{sub-one}
 use native.Mathlib.Omega.{arith}
 use borrow.Author.Tests.{eq-eqb, ne-eqb, lt-ltb, le-ltb, leb-true, leb-false}
 use lib.Dec.{leb}
@@ -29,6 +30,16 @@ module _ (n : ℕ → ℕ) (k e : ℕ) {ds rest : List ℕ} {x : ℕ} (front : d
   pub past-entry : (x ≡ e → ⊥) → {q : ℕ} → q ≡ k / v → coordinateOn n rest q e ≡ r
   unfolding coordinateOn pick
   past-entry s q = rw (q, size) (rw (front, ne-eqb e x (λ t. s (sym t))) at is)
+
+-- what is left of k after the n of a list is k over their product, which may be cut off above k
+pub cut-off : (k p v : ℕ) {q : ℕ} → k < most-places + 1 → q ≡ min (p * v) (most-places + 1) → k / q ≡ k / p / v
+cut-off k p v h e = rw e (go (leb (p * v) (most-places + 1)) refl)
+  where
+    go : (b : Bool) → leb (p * v) (most-places + 1) ≡ b → k / min (p * v) (most-places + 1) ≡ k / p / v
+    go true i = rw (min-eq-left (leb-true (p * v) (most-places + 1) i), div-div-eq-div-mul)
+    go false i =
+        let l : most-places + 1 ≤ p * v = omega (arith, leb-false (p * v) (most-places + 1) i) in
+        rw (min-eq-right l, div-div-eq-div-mul, div-eq-of-lt h) (sym (div-eq-of-lt (omega arith)))
 
 -- ---- a position: one dimension more
 
@@ -86,6 +97,26 @@ module _ (d : ℕ) {ds rest : List ℕ} {x : ℕ} (front : ds ≡ x ∷ rest) {b
     pub one-new : t ≡ false → onceEach d rest ≡ b
     unfolding onceEach fresh
     one-new h = rw (front, ← entry, lt-ltb u d low, ← again, h) at is
+
+none-after : (b : Bool) → b && false ≡ false
+none-after true = refl
+none-after false = refl
+
+-- those from entry i on do not, so all do not
+pub not-all : (d : ℕ) (w : ℕ → ℕ) (i : ℕ) → i ≤ d → false ≡ onceEach d (part w i (d - i)) → false ≡ onceEach d (part w 0 d)
+unfolding onceEach
+not-all d w zero h e = simp sub-zero at e
+not-all d w (suc i) h e =
+    let q = simp sub-one at (part-back w (suc i) d (omega arith) h) in
+    not-all d w i (omega arith) (rw (q, ← e) (sym (none-after (fresh d (part w (suc i) (d - suc i)) (w i)))))
+
+pub marked-again : (b : Bool) → not b ≡ false → b ≡ true
+marked-again true e = refl
+marked-again false e = sym e
+
+pub not-marked : (b : Bool) → not b ≡ true → b ≡ false
+not-marked true e = sym e
+not-marked false e = refl
 
 -- ---- the axis from entry i on
 

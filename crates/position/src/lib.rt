@@ -31,13 +31,13 @@ pub struct CellIndex {
     pub index: u32,
 }
 
-// ---- a coordinate
+// ---- quotients
 
 // k divided by n, 0 for an n of 0.
-fn quotient(k: u64, n: u32) -> u64
+fn quotient(k: u64, n: u64) -> u64
     ensures { λ r. ⌜ r ≡ k / n ⌝ }
 {
-    if n == 0 { 0 } else { k / n as u64 }
+    if n == 0 { 0 } else { k / n }
 }
 
 // What is left of k after division by n, k for an n of 0.
@@ -47,24 +47,7 @@ fn remainder(k: u64, n: u32) -> u64
     if n == 0 { k } else { k % n as u64 }
 }
 
-// The coordinate of the index k on dimension e.
-fn coordinate(ns: &[u32], e: usize, k: u32) -> u64
-    ensures { λ r. ⌜ r ≡ coordinateOn (word (now (ns .entry))) (down (length (now (ns .entry)))) k e ⌝ }
-{
-    let mut i = ns.len();
-    let mut rest = k as u64;
-    while 0 < i {
-        i -= 1;
-        let n = word(ns, i);
-        if i == e {
-            return remainder(rest, n);
-        }
-        rest = quotient(rest, n);
-    }
-    0
-}
-
-// ---- products
+// ---- products, and a coordinate
 
 // The first product that is too large.
 const TOO_MANY: u64 = MOST_PLACES + 1;
@@ -76,6 +59,24 @@ fn times(p: u64, n: u32) -> u64
 {
     let q = p * n as u64;
     if q <= TOO_MANY { q } else { TOO_MANY }
+}
+
+// The coordinate of the index k on dimension e: of what k is over the product of the n behind it. Products take less time than quotients,
+// and one that is too large is above any k.
+fn coordinate(ns: &[u32], e: usize, k: u32) -> u64
+    ensures { λ r. ⌜ r ≡ coordinateOn (word (now (ns .entry))) (down (length (now (ns .entry)))) k e ⌝ }
+{
+    let mut i = ns.len();
+    let mut step: u64 = 1;
+    while 0 < i {
+        i -= 1;
+        let n = word(ns, i);
+        if i == e {
+            return remainder(quotient(k as u64, step), n);
+        }
+        step = times(step, n);
+    }
+    0
 }
 
 // The product of all n, as far as one too large. An n of 0 makes it 0, even after the limit was met.
@@ -126,22 +127,23 @@ fn on_axis(order: &[u32], from: usize, count: usize, e: usize) -> bool
     false
 }
 
-// Whether the first d entries of the order are numbers below d, once each.
+// Whether the first d entries of the order are numbers below d, once each: the last first, with marks for those that follow.
 fn permutes(order: &[u32], d: usize) -> bool
     requires { ⌜ d ≤ most-dimensions ⌝ }
     ensures { λ r. ⌜ r ≡ answers.onceEach d (part (word (now (order .entry))) 0 d) ⌝ }
 {
-    let mut i = 0;
-    let mut left = d;
-    while 0 < left {
+    let mut marks = [0u8; MOST_DIMENSIONS];
+    let mut i = d;
+    while 0 < i {
+        i -= 1;
         let e = word(order, i) as usize;
-        i += 1;
-        left -= 1;
         if d <= e {
             return false;
         }
-        let again = on_axis(order, i, left, e);
-        if again {
+        let new = marks[e] == 0;
+        if new {
+            marks[e] = 1;
+        } else {
             return false;
         }
     }
@@ -254,7 +256,7 @@ fn coordinate_on(ns: &[u32], order: &[u32], from: usize, count: usize, k: u32, e
         if x == e {
             return remainder(rest, n);
         }
-        rest = quotient(rest, n);
+        rest = quotient(rest, n as u64);
         i += 1;
         left -= 1;
     }

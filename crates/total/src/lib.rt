@@ -10,7 +10,7 @@ mod words; // totals as words
 
 ghost use Prim.Native.Nat.{_≤_};
 ghost use lib.ListN.{length};
-ghost use Rattle.member.specs.Laws.Whole.{short-member};
+ghost use Rattle.member.specs.Laws.Whole.{medium-lists};
 ghost use Rattle.total.specs.Answers.{Totalled, ByDerivation, AllTotalled, AllByDerivation};
 use crate::all::all_with_lists;
 use crate::call::with_lists;
@@ -61,7 +61,7 @@ fn total_short(
     nodes: &mut [u32],
     cells: &mut [u32],
 ) -> LeafTotal
-    requires { ⌜ length (now member) ≤ short-member ⌝ }
+    requires { ⌜ length (now member) ≤ medium-lists ⌝ }
     ensures { λ r. ⌜ Totalled (now (member .entry)) (now (nodes .entry)) (now (cells .entry)) dimension leaf r (now (nodes .exit)) (now (cells .exit)) ⌝ }
 {
     let mut node_list = [0u32; SHORT_NODE_LIST];
@@ -126,7 +126,7 @@ fn totals_short(
     nodes: &mut [u32],
     cells: &mut [u32],
 ) -> DimensionTotals
-    requires { ⌜ length (now member) ≤ short-member ⌝ }
+    requires { ⌜ length (now member) ≤ medium-lists ⌝ }
     ensures { λ r. ⌜ AllTotalled (now (member .entry)) (now (totals .entry)) (now (nodes .entry)) (now (cells .entry)) dimension r (now (totals .exit)) (now (nodes .exit)) (now (cells .exit)) ⌝ }
 {
     let mut node_list = [0u32; SHORT_NODE_LIST];

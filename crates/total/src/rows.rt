@@ -12,8 +12,9 @@ use crate::LeafTotal;
 use crate::leaf::answered;
 use crate::leaf::grid_of;
 use crate::sums::Sums;
-use crate::under::add_cell;
+use crate::sums::add;
 use crate::under::coordinate;
+use crate::under::kind_at;
 use crate::under::no_sums;
 use crate::words::sum_words;
 use layout::Step;
@@ -107,8 +108,9 @@ fn scatter(
     let leaf = coordinate(word(words, CELL_WORDS * i), block, step);
     if leaf < n as u64 {
         let j = leaf as usize;
-        let s = add_cell(member, version, words, i, row(area, j));
-        set_row(area, j, s);
+        let k = kind_at(member, version, words, i);
+        let place = word(words, CELL_WORDS * i + 1);
+        set_row(area, j, add(k, place, row(area, j)));
     }
 }
 

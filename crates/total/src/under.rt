@@ -3,10 +3,10 @@ ghost use mathlib.Core.Path.{_≡_};
 ghost use Prim.Native.Nat.{_+_, _/_, _%_, _^_, _<_, _≤_};
 ghost use Rattle.total.specs.Total as spec;
 ghost use Rattle.total.specs.Laws.Words as words_spec;
-ghost use Rattle.total.specs.Laws.Sums.{Within};
 use crate::sums::Sums;
 use crate::sums::add;
-use contents::read_value;
+use contents::read_figure;
+use counts::Kind;
 use counts::kind_of;
 use member::part;
 use once::word;
@@ -40,39 +40,16 @@ fn is_under(index: u32, block: u64, step: u64, leaf: u32) -> bool
     coordinate(index, block, step) == leaf as u64
 }
 
-// The cell of record i before those behind it.
-pub fn add_cell(member: &[u8], version: u64, words: &[u32], i: usize, s: Sums) -> Sums
-    requires { ⌜ (i < 2 ^ 32) × Within (2 ^ 31) s ⌝ }
-    ensures { λ r. ⌜ r ≡ spec.addCell (words_spec.recordSays (now (member .entry)) version (now (words .entry)) i) s ⌝ }
+// What the cell of record i counts as.
+pub fn kind_at(member: &[u8], version: u64, words: &[u32], i: usize) -> Kind
+    requires { ⌜ i < 2 ^ 32 ⌝ }
+    ensures { λ r. ⌜ r ≡ words_spec.kindAt (now (member .entry)) version (now (words .entry)) i ⌝ }
 {
     let at = CELL_WORDS * i;
-    let place = word(words, at + 1);
+    let place = word(words, at + 1) as usize;
     let n = word(words, at + 2) as usize;
-    let x = read_value(part(member, place as usize, n), version);
-    let raw = x.raw;
-    add(kind_of(raw.form, raw.bits), place, s)
-}
-
-// The same, if the cell is under the leaf.
-fn with_cell(
-    member: &[u8],
-    version: u64,
-    words: &[u32],
-    i: usize,
-    block: u64,
-    step: u64,
-    leaf: u32,
-    s: Sums,
-) -> Sums
-    requires { ⌜ (i < 2 ^ 32) × Within (2 ^ 31) s ⌝ }
-    ensures { λ r. ⌜ r ≡ spec.withCell (words_spec.underBy block step leaf) (words_spec.recordSays (now (member .entry)) version (now (words .entry)) i) s ⌝ }
-{
-    let under = is_under(word(words, CELL_WORDS * i), block, step, leaf);
-    if under {
-        add_cell(member, version, words, i, s)
-    } else {
-        s
-    }
+    let x = read_figure(part(member, place, n), version);
+    kind_of(x.form, x.bits)
 }
 
 pub fn no_sums() -> Sums
@@ -90,7 +67,8 @@ pub fn no_sums() -> Sums
     }
 }
 
-// The sums of the cells under a leaf, of m records.
+// The sums of the cells under a leaf, of m records. Those of other leaves are not touched: sums that are handed over and back are copied
+// for each of them.
 pub fn sums_under(
     member: &[u8],
     version: u64,
@@ -107,7 +85,12 @@ pub fn sums_under(
     let mut i = m;
     while 0 < i {
         i -= 1;
-        s = with_cell(member, version, words, i, block, step, leaf, s);
+        let at = CELL_WORDS * i;
+        let under = is_under(word(words, at), block, step, leaf);
+        if under {
+            let k = kind_at(member, version, words, i);
+            s = add(k, word(words, at + 1), s);
+        }
     }
     s
 }

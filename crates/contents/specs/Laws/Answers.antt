@@ -82,7 +82,7 @@ answers-unread e z h = record {
 }
 
 -- what was read is the derivation in front
-derived-in-front : {B : Type 0} {g : Layout} {f : Tree g → ℕ → B} {s : List ℕ} {r : Step} {y : B} → Bytes s → Shows g f s (Next 0) r y
+pub derived-in-front : {B : Type 0} {g : Layout} {f : Tree g → ℕ → B} {s : List ℕ} {r : Step} {y : B} → Bytes s → Shows g f s (Next 0) r y
     → (t : Tree g) (rest : List ℕ) → Spells g s t rest → (r ≡ Next (size g t)) × (f t 0 ≡ y)
 unfolding step chain size
 derived-in-front {g = g} {f = f} {s} {r} bs h t rest sp =

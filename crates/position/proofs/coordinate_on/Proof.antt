@@ -2,6 +2,7 @@
 use Prim.Native.Nat.{_+_, _≤_}
 use mathlib.Core.Path.{_≡_, refl}
 use native.Mathlib.Omega.{arith}
+use borrow.Author.Needs.{needs}
 use Rattle.sizes.specs.Sizes.{most-dimensions}
 use Rattle.once.specs.Once.{word}
 use Rattle.position.specs.Axes.{part, coordinateOn}
@@ -24,7 +25,7 @@ coordinate-on-spec =
     let l = a .before .before .before .loop in
     let u = a .before .word .ensures in
     at-entry _ _ _ (part-front _ (l .i) (l .left) (omega arith)) (l .inv .1) (rw u at (a .word2 .ensures)) (rw u at (c .before .if1 .taken)) (c .remainder .ensures))
-    (λ _ _. tt) (λ c. omega arith) (λ c. omega arith) (λ c. omega arith)
+    (λ c. search needs) (λ _ _. tt) (λ c. omega arith) (λ c. omega arith) (λ c. omega arith)
     (λ c.
     let a = c .before .before in
     let l = a .before .before .before .loop in

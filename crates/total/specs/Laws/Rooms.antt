@@ -12,15 +12,15 @@ use Rattle.table.specs.Table.{Dimension, Cell}
 use Rattle.table.specs.Records.{sum, dimNodes}
 use Rattle.table.specs.Laws.Lengths.{size-all, size-dimension}
 use Rattle.table.specs.Laws.LeastBytes.{least-category, least-cell, categories-bytes, cells-bytes}
-use Rattle.member.specs.Laws.Whole.{short-member}
+use Rattle.member.specs.Laws.Whole.{medium-lists}
 use Rattle.member.specs.Member.{version, cellsSection, dimensions, cells, MemberDerivation, LargeEnough}
 
 -- lists that the code has for a short member
 abbrev pub short-nodes : ℕ
-short-nodes = short-member / least-category * node-words
+short-nodes = medium-lists / least-category * node-words
 
 abbrev pub short-cells : ℕ
-short-cells = short-member / least-cell * cell-words
+short-cells = medium-lists / least-cell * cell-words
 
 -- lists of those lengths are large enough for what the bytes derive
 abbrev pub Roomy : List ℕ → ℕ → ℕ → Type 0
@@ -51,7 +51,7 @@ module _ {bs : List ℕ} (d : MemberDerivation bs) where
       let whole = simp length-append at (ap length (d .spells)) in
       omega (arith, whole, size-all (Dimension (version (d .tree))) (dimensions (d .tree)), size-all (Cell (version (d .tree))) (cells (d .tree)))
 
-  pub in-short-lists : length bs ≤ short-member → LargeEnough (d .tree) short-nodes short-cells
+  pub in-short-lists : length bs ≤ medium-lists → LargeEnough (d .tree) short-nodes short-cells
   in-short-lists h =
       let n = dimensions-bytes (version (d .tree)) (d .valid .1 .2 .0 .0 .1 .2 .1) in
       let m = cells-bytes (version (d .tree)) (d .valid .1 .2 .1 .2 .1) in

@@ -4,16 +4,17 @@ use mathlib.Core.Bool.{Bool, true, false}
 use mathlib.Core.List.{List, [], _∷_}
 use Prim.Native.Nat.{ℕ, zero, suc, _+_, _-_, _*_, _/_, _%_, _^_, _≤_, _<_}
 use native.Mathlib.Omega.{arith}
-use lib.ListN.{length, take, drop}
-use lib.Dec.{eqb, leb}
+use lib.ListN.{length}
+use lib.Dec.{eqb}
 use Rattle.sizes.specs.Sizes.{cell-words}
-use Rattle.layout.specs.Layout.{pick, Bytes, no-bytes}
+use Rattle.layout.specs.Layout.{pick, among}
 use Rattle.layout.specs.Part.{partOf}
-use Rattle.layout.specs.Steps.Slices.{take-bytes, drop-bytes}
 use Rattle.once.specs.Once.{word}
-use Rattle.contents.specs.declared.Contents.{Contents}
-use Rattle.contents.specs.Answers.{ValueAnswers}
-use Rattle.contents.specs.Laws.Answers.{answer-is, valueAnswer}
+use Rattle.contents.specs.declared.RawValue.{RawValue}
+use Rattle.contents.specs.Laws.Answers.{valueAnswer}
+use Rattle.contents.specs.Laws.Figure.{figure, figureWith, no-figure}
+use Rattle.counts.specs.declared.Kind.{Kind}
+use Rattle.counts.specs.Count.{kind}
 use Rattle.total.specs.declared.sums.Sums.{Sums}
 use Rattle.total.specs.Total.{CellSays, addCell, withCell, sums}
 use Rattle.total.specs.Laws.Sums.{Within, sums-within, within-more}
@@ -25,6 +26,10 @@ recordSays bs version ws i = record {
   place = word ws (cell-words * i + 1);
   contents = valueAnswer version (partOf bs (word ws (cell-words * i + 1)) (word ws (cell-words * i + 2)));
 }
+
+-- what it counts as
+abbrev pub kindAt : List ℕ → ℕ → List ℕ → ℕ → Kind
+kindAt bs version ws i = kind (recordSays bs version ws i .contents .raw .form) (recordSays bs version ws i .contents .raw .bits)
 
 -- those of k records from record i on
 unfoldable pub recordsSay : List ℕ → ℕ → List ℕ → ℕ → ℕ → List CellSays
@@ -46,17 +51,15 @@ module _ (test : ℕ → Bool) (c : CellSays) (s : Sums) where
   unfolding withCell pick
   cell-left t b = rw (← t, b)
 
-part-bytes : (s : List ℕ) (place n : ℕ) → Bytes s → Bytes (partOf s place n)
-unfolding partOf
-part-bytes s place n h = go (leb (place + n) (length s))
+-- a cell counts as its figure does
+pub figure-counts : (x : RawValue) → kind (figure x .form) (figure x .bits) ≡ kind (x .form) (x .bits)
+unfolding kind figureWith among pick
+figure-counts x = go (among (x .form) (1 ∷ 2 ∷ [])) refl
   where
-    go : (b : Bool) → Bytes (pick b (take n (drop place s)) [])
-    go true = take-bytes n (drop-bytes place h)
-    go false = no-bytes
-
--- what a record's Value says is what is answered for its part
-pub part-says : (bs : List ℕ) (version place n : ℕ) {part : List ℕ} {x : Contents} → Bytes bs → part ≡ partOf bs place n → ValueAnswers version part x → x ≡ valueAnswer version (partOf bs place n)
-part-says bs version place n h e a = answer-is (part-bytes bs place n h) (rw e at a)
+    go : (b : Bool) → among (x .form) (1 ∷ 2 ∷ []) ≡ b
+        → kind (pick b (record { form = x .form; bits = x .bits }) no-figure .form) (pick b (record { form = x .form; bits = x .bits }) no-figure .bits) ≡ kind (x .form) (x .bits)
+    go true e = refl
+    go false e = rw e
 
 -- ---- the loop: the record before those behind it
 
