@@ -219,11 +219,22 @@ pub fn name(s: &[u8], st: Step) -> GotName
 pub fn text(s: &[u8], st: Step) -> GotName
     ensures { λ r. ⌜ GivesValue grammar.lestring (now (s .entry)) st (r .next) (lent (r .value)) (r .value) (record { place = 0; length = 0 }) ⌝ }
 {
-    let value = name_at(s, part(s, st, LITTLE, 4));
-    match string(s, st, LITTLE, 4) {
-        Step::Next(p) => GotName {
-            value,
-            next: Step::Next(p),
+    match st {
+        Step::Next(at) => match string(s, Step::Next(at), LITTLE, 4) {
+            Step::Next(p) => GotName {
+                value: Name {
+                    place: at + 4,
+                    length: p - at - 4,
+                },
+                next: Step::Next(p),
+            },
+            Step::Refused(r, p) => GotName {
+                value: Name {
+                    place: 0,
+                    length: 0,
+                },
+                next: Step::Refused(r, p),
+            },
         },
         Step::Refused(r, p) => GotName {
             value: Name {

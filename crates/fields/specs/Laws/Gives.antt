@@ -3,7 +3,7 @@ use mathlib.Core.Path.{_≡_, refl, ap, sym, _∙_, subst}
 use mathlib.Core.Logic.{_⊎_, inl, inr, ⊎-elim}
 use mathlib.Core.Bool.{Bool, true, false, false≢true, _||_}
 use mathlib.Core.List.{List, [], _∷_}
-use Prim.Native.Nat.{ℕ, zero, suc, _+_, _≤_, _<_}
+use Prim.Native.Nat.{ℕ, zero, suc, _+_, _-_, _≤_, _<_}
 use native.Mathlib.Nat.{add-sub-cancel-left}
 use native.Mathlib.Numerals.{sub-one}
 use native.Mathlib.Omega.{arith}
@@ -237,6 +237,50 @@ string-gives {o} {w} {c} {s} {st} {r} {p} {n} h y a e = record {
       let k : p ≡ part o w s (Next at) = rw i at a in
       record { tree = x .tree; reads = x .is; is = ap lent (sym (named o w c s at (x .tree) (drop q s) q (x .is) h) ∙ sym (e ∙ rw k)) };
 }
+
+-- where a string that was read ends
+ended : {A : Type 0} (b : Bool) (c t : A) (r r′ : List ℕ) (p p′ n : ℕ) → pick b (got c r p) (no zero-byte n) ≡ got t r′ p′ → p ≡ p′
+unfolding pick
+ended true c t r r′ p p′ n e = cc
+ended false c t r r′ p p′ n e = absurd (let z : _≡_ {A = ℕ} 0 1 = cc in omega arith)
+
+string-end : (o : Order) (w : ℕ) (c : Content) (s : List ℕ) (at : ℕ) (t r : List ℕ) (p : ℕ) → read (string o w c) (drop at s) at ≡ got t r p → p ≡ at + w + length t
+unfolding read bind
+string-end o w c s at t r p e = go (counted-view o w (drop at s) at) e
+  where
+    go : {x : Got (List ℕ)} → Announced w (drop at s) at x
+        → bind x (λ content rest at₁. pick (suits c content) (got content rest (at₁ + length content)) (no zero-byte at)) ≡ got t r p
+        → p ≡ at + w + length t
+    go (announced n l) i =
+        let t≡ : take n (drop w (drop at s)) ≡ t = suited (suits c (take n (drop w (drop at s)))) _ _ _ _ _ i in
+        let e : at + w + length (take n (drop w (drop at s))) ≡ p = ended (suits c (take n (drop w (drop at s)))) _ _ _ _ _ _ _ i in
+        rw (← t≡) (sym e)
+    go too-few i = absurd (let z : _≡_ {A = ℕ} 0 1 = cc in omega arith)
+
+module _ {o : Order} {w : ℕ} {c : Content} {s : List ℕ} {st r : Step} {at p : ℕ} (y : Reads (string o w c) s st r) (here : st ≡ Next at) (there : r ≡ Next p) where
+  -- it lies after its length
+  pub string-after : at + w ≤ p
+  string-after =
+      let x = tree-of y here there in
+      omega (arith, string-end o w c s at (x .tree) (drop p s) p (x .is))
+
+  -- the same by where it ends
+  pub string-to : Gives (string o w c) s st r (lent (record { place = at + w; length = p - at - w }))
+  unfolding placed
+  string-to = record {
+    reads = y;
+    found = λ bs at′ q i j.
+        let x = tree-of y i j in
+        let a : at′ ≡ at = cc in
+        let b : q ≡ p = cc in
+        let n : length (x .tree) ≡ p - at - w = omega (arith, string-end o w c s at′ (x .tree) (drop q s) q (x .is), a, b) in
+        let m : at′ + w ≡ at + w = omega (arith, a) in
+        record {
+          tree = x .tree;
+          reads = x .is;
+          is = ap (λ (k : ℕ). lent (record { place = k; length = length (x .tree) })) m ∙ ap (λ (k : ℕ). lent (record { place = at + w; length = k })) n;
+        };
+  }
 
 -- a value is a field
 pub of-value : {A : Type 0} {g : Layout} {s : List ℕ} {st r : Step} {f : Fields g} {v zero : A} → GivesValue g s st r f v zero → Gives g s st r f
