@@ -17,6 +17,7 @@ ghost use Rattle.codepages.specs.Laws.Passes.{half, Run, Skips, Found, G
 ghost use Rattle.codepages.specs.Laws.Usual.{many, oddOf, Usual};
 ghost use Rattle.codepages.specs.Laws.Pairs.{firstOf};
 ghost use Rattle.codepages.specs.Laws.Back.{orNone};
+ghost use Rattle.codepages.specs.Laws.Answers.{Numbered};
 use crate::ascii::ASCII;
 use crate::ascii::run_end;
 use crate::tables::BACK_1250;
@@ -35,7 +36,7 @@ use crate::utf8::size;
 
 const FIRST_PAGE: u32 = 1250;
 
-const PAGE_COUNT: u32 = 3;
+const PAGE_COUNT: usize = 3;
 
 const NO_BYTE: u32 = 256;
 
@@ -63,32 +64,36 @@ pub fn to_utf8(page: u32, input: &[u8], out: &mut [u8]) -> Answer
     ensures { λ r. ⌜ r ≡ spec.answer (spec.converted spec.to page (length (now (out .entry))) (now (input .entry))) ⌝ }
     ensures { λ _. ⌜ now (out .exit) ≡ spec.after (spec.converted spec.to page (length (now (out .entry))) (now (input .entry))) (now (out .entry)) ⌝ }
 {
-    convert(false, page, input, out)
+    let k = page_number(page);
+    if k < PAGE_COUNT {
+        return to_page(k, input, out);
+    }
+    refuse(UNKNOWN_PAGE, 0)
 }
 
 pub fn from_utf8(page: u32, input: &[u8], out: &mut [u8]) -> Answer
     ensures { λ r. ⌜ r ≡ spec.answer (spec.converted spec.from page (length (now (out .entry))) (now (input .entry))) ⌝ }
     ensures { λ _. ⌜ now (out .exit) ≡ spec.after (spec.converted spec.from page (length (now (out .entry))) (now (input .entry))) (now (out .entry)) ⌝ }
 {
-    convert(true, page, input, out)
-}
-
-// Either direction: to UTF-8, or back. The text is measured before the first store.
-fn convert(back: bool, page: u32, input: &[u8], out: &mut [u8]) -> Answer
-    ensures { λ r. ⌜ r ≡ spec.answer (spec.converted (spec.way back) page (length (now (out .entry))) (now (input .entry))) ⌝ }
-    ensures { λ _. ⌜ now (out .exit) ≡ spec.after (spec.converted (spec.way back) page (length (now (out .entry))) (now (input .entry))) (now (out .entry)) ⌝ }
-{
-    if page < FIRST_PAGE {
-        return refuse(UNKNOWN_PAGE, 0);
-    }
-    if PAGE_COUNT <= page - FIRST_PAGE {
-        return refuse(UNKNOWN_PAGE, 0);
-    }
-    let k = (page - FIRST_PAGE) as usize;
-    if back {
+    let k = page_number(page);
+    if k < PAGE_COUNT {
         return from_page(k, input, out);
     }
-    to_page(k, input, out)
+    refuse(UNKNOWN_PAGE, 0)
+}
+
+// The number of a page, PAGE_COUNT if it is unknown.
+fn page_number(page: u32) -> usize
+    ensures { λ r. ⌜ Numbered page r ⌝ }
+{
+    if page < FIRST_PAGE {
+        return PAGE_COUNT;
+    }
+    let k = (page - FIRST_PAGE) as usize;
+    if PAGE_COUNT <= k {
+        return PAGE_COUNT;
+    }
+    k
 }
 
 // To UTF-8, by the entries of the page.
