@@ -9,7 +9,6 @@ use borrow.Author.Tests.{eqb-true, eqb-false, eq-eqb, ne-eqb, ltb-true, ltb-fals
 use borrow.Author.Count.{below-more}
 use lib.Dec.{eqb, ltb}
 use lib.ListN.{getD, set}
-use Rattle.sizes.specs.Sizes.{repeat-steps}
 use Rattle.layout.specs.Layout.{among}
 use Rattle.once.specs.Once.{word, firsts}
 use Rattle.once.specs.Laws.Marks.{Marks, marked}
@@ -173,5 +172,5 @@ module _ {w : ℕ → ℕ} {m at steps : ℕ} {small : Bool} (b : ByMarks w m sm
 
 -- Ordered: they are not, and that took a step for each number at most
 pub after-order : {w : ℕ → ℕ} {m steps at′ steps′ a s : ℕ} → steps ≤ m → Answered w m 37 at′ steps′ → (a ≡ at′) × (s ≡ steps + steps′)
-    → Answered w m repeat-steps a s
+    → Answered w m 38 a s
 after-order h r e = rw (e .0) (allowed r (omega (arith, e .1)) (omega (arith, e .1, r .few)))

@@ -43,9 +43,11 @@ pub +first-repeat-spec : {M : Type 1} → statement M
     let o = c .before .before .before .before in
     let a = o .before in
     let e : min (a .before .before .before .args .m) most-cells ≡ a .before .before .before .args .m = omega arith in
-    rw (e, ← (a .at-most .ensures)) (after-order (o .order .ensures .0) (c .before .with-short-lists .ensures) (c .after-steps .ensures)))
+    let r = after-order (o .order .ensures .0) (c .before .with-short-lists .ensures) (c .after-steps .ensures) in
+    rw (e, ← (a .at-most .ensures)) (allowed r (omega arith) (omega (arith, r .few))))
     (λ c.
     let o = c .before .before .before .before in
     let a = o .before in
     let e : min (a .before .before .before .args .m) most-cells ≡ a .before .before .before .args .m = omega arith in
-    rw (e, ← (a .at-most .ensures)) (after-order (o .order .ensures .0) (c .before .with-long-lists .ensures) (c .after-steps2 .ensures))))
+    let r = after-order (o .order .ensures .0) (c .before .with-long-lists .ensures) (c .after-steps2 .ensures) in
+    rw (e, ← (a .at-most .ensures)) (allowed r (omega arith) (omega (arith, r .few)))))
