@@ -111,19 +111,6 @@ fn by_marks(words: &[u32], step: usize, m: usize, marks: &mut [u8]) -> Marked
     }
 }
 
-fn with_marks(words: &[u32], step: usize, m: usize) -> Marked
-    requires { ⌜ (step ≤ node-words) × (m ≤ most-cells) ⌝ }
-    ensures { λ r. ⌜ ByMarks (strided step (now (words .entry))) m (r .small) (r .at) (r .steps) ⌝ }
-{
-    if m <= SHORT_UP_TO {
-        let mut marks = [0u8; SHORT_MARKS];
-        by_marks(words, step, m, &mut marks)
-    } else {
-        let mut marks = [0u8; LONG_MARKS];
-        by_marks(words, step, m, &mut marks)
-    }
-}
-
 // ---- few numbers
 
 // Looks for the number x at the first k places, one after the other.
@@ -216,28 +203,77 @@ fn by_trees(words: &[u32], step: usize, m: usize, slots: &mut [u16]) -> Repeat
 
 // ---- all numbers
 
-// The first repeat among numbers of any size and order.
-fn compared(words: &[u32], step: usize, m: usize) -> Repeat
-    requires { ⌜ (step ≤ node-words) × (m ≤ most-cells) ⌝ }
-    ensures { λ r. ⌜ Answered (strided step (now (words .entry))) m 34 (r .at) (r .steps) ⌝ }
+// The answer r, found after so many steps.
+fn after_steps(steps: u64, r: Repeat) -> Repeat
+    requires { ⌜ steps + r .steps ≤ repeat-steps * most-cells ⌝ }
+    ensures { λ a. ⌜ (a .at ≡ r .at) × (a .steps ≡ steps + r .steps) ⌝ }
 {
-    if m <= FEW {
-        by_pairs(words, step, m)
-    } else if m <= SHORT_UP_TO {
-        let mut slots = [0u16; SHORT_SLOTS];
-        by_trees(words, step, m, &mut slots)
-    } else {
-        let mut slots = [0u16; LONG_SLOTS];
-        by_trees(words, step, m, &mut slots)
+    Repeat {
+        at: r.at,
+        steps: steps + r.steps,
     }
 }
 
+// The first repeat among at most 512 numbers: their marks tell, or they are compared.
+fn with_short_lists(words: &[u32], step: usize, m: usize) -> Repeat
+    requires { ⌜ (step ≤ node-words) × (m ≤ 512) ⌝ }
+    ensures { λ r. ⌜ Answered (strided step (now (words .entry))) m 37 (r .at) (r .steps) ⌝ }
+{
+    let mut marks = [0u8; SHORT_MARKS];
+    let b = by_marks(words, step, m, &mut marks);
+    if b.small {
+        return Repeat {
+            at: b.at,
+            steps: b.steps,
+        };
+    }
+    if m <= FEW {
+        return after_steps(b.steps, by_pairs(words, step, m));
+    }
+    let mut slots = [0u16; SHORT_SLOTS];
+    after_steps(b.steps, by_trees(words, step, m, &mut slots))
+}
+
+fn with_long_marks(words: &[u32], step: usize, m: usize) -> Marked
+    requires { ⌜ (step ≤ node-words) × (m ≤ most-cells) ⌝ }
+    ensures { λ r. ⌜ ByMarks (strided step (now (words .entry))) m (r .small) (r .at) (r .steps) ⌝ }
+{
+    let mut marks = [0u8; LONG_MARKS];
+    by_marks(words, step, m, &mut marks)
+}
+
+fn with_long_slots(words: &[u32], step: usize, m: usize) -> Repeat
+    requires { ⌜ (step ≤ node-words) × (m ≤ most-cells) ⌝ }
+    ensures { λ r. ⌜ Answered (strided step (now (words .entry))) m 34 (r .at) (r .steps) ⌝ }
+{
+    let mut slots = [0u16; LONG_SLOTS];
+    by_trees(words, step, m, &mut slots)
+}
+
+// The same among all numbers. Each long list is in a function of its own, so that the slots can have the place of the marks.
+fn with_long_lists(words: &[u32], step: usize, m: usize) -> Repeat
+    requires { ⌜ (step ≤ node-words) × (m ≤ most-cells) ⌝ }
+    ensures { λ r. ⌜ Answered (strided step (now (words .entry))) m 37 (r .at) (r .steps) ⌝ }
+{
+    let b = with_long_marks(words, step, m);
+    if b.small {
+        return Repeat {
+            at: b.at,
+            steps: b.steps,
+        };
+    }
+    after_steps(b.steps, with_long_slots(words, step, m))
+}
+
 // The first repeat among the first words of the first m records of so many words: their order tells, or their marks, or they are compared.
+// It calls itself: into such a function the compiler puts none that has long lists. So the long ones are there for many numbers only.
 pub fn first_repeat(words: &[u32], step: usize, m: usize) -> Repeat
     ensures { λ r. ⌜ Answered (strided (min step node-words) (now (words .entry))) (min m most-cells) repeat-steps (r .at) (r .steps) ⌝ }
 {
+    if MOST_CELLS < m {
+        return first_repeat(words, step, MOST_CELLS);
+    }
     let step = at_most(step, NODE_WORDS);
-    let m = at_most(m, MOST_CELLS);
     let o = order(words, step, m);
     if o.holds {
         return Repeat {
@@ -245,16 +281,9 @@ pub fn first_repeat(words: &[u32], step: usize, m: usize) -> Repeat
             steps: o.steps,
         };
     }
-    let b = with_marks(words, step, m);
-    if b.small {
-        return Repeat {
-            at: b.at,
-            steps: o.steps + b.steps,
-        };
-    }
-    let r = compared(words, step, m);
-    Repeat {
-        at: r.at,
-        steps: o.steps + b.steps + r.steps,
+    if m <= SHORT_UP_TO {
+        after_steps(o.steps, with_short_lists(words, step, m))
+    } else {
+        after_steps(o.steps, with_long_lists(words, step, m))
     }
 }

@@ -161,3 +161,16 @@ pub record ByMarks (w : ℕ → ℕ) (m : ℕ) (small : Bool) (at steps : ℕ) :
   pub few : steps ≤ 3 * m
   pub counted : 3 * at ≤ steps
   pub found : small ≡ true → Answered w m 3 at steps
+
+-- Marked: they tell, or another way does after them
+module _ {w : ℕ → ℕ} {m at steps : ℕ} {small : Bool} (b : ByMarks w m small at steps) where
+  pub marks-tell : small ≡ true → Answered w m 37 at steps
+  marks-tell e = allowed (b .found e) (omega arith) (omega (arith, b .few))
+
+  pub after-marks : {at′ steps′ a s : ℕ} → Answered w m 34 at′ steps′ → (a ≡ at′) × (s ≡ steps + steps′) → Answered w m 37 a s
+  after-marks r e = rw (e .0) (allowed r (omega (arith, e .1)) (omega (arith, e .1, b .few, r .few)))
+
+-- Ordered: they are not, and that took a step for each number at most
+pub after-order : {w : ℕ → ℕ} {m steps at′ steps′ a s : ℕ} → steps ≤ m → Answered w m 37 at′ steps′ → (a ≡ at′) × (s ≡ steps + steps′)
+    → Answered w m 38 a s
+after-order h r e = rw (e .0) (allowed r (omega (arith, e .1)) (omega (arith, e .1, r .few)))
