@@ -12,7 +12,6 @@ use layout::number::boolean;
 use layout::number::field;
 use layout::number::fixed;
 use layout::number::peek;
-use layout::region::again;
 use layout::region::nothing;
 use layout::region::string;
 use layout::run::past;
@@ -134,21 +133,12 @@ fn value_in(s: &[u8], st: Step, depth: usize, version: u64) -> Step
     }
 }
 
-fn template_at(s: &[u8], at: usize, depth: usize, version: u64) -> Step
-    ensures { λ r. ⌜ Reads (grammar.TemplateOf (grammar.ValueIn version depth)) (now (s .entry)) (Next at) r ⌝ }
-{
-    let st = string(s, Step::Next(at), LITTLE, 4);
-    let n = peek(s, st, LITTLE, 4);
-    arguments(s, any(s, st, 4), n, depth, version)
-}
-
 fn template(s: &[u8], st: Step, depth: usize, version: u64) -> Step
     ensures { λ r. ⌜ Reads (grammar.TemplateOf (grammar.ValueIn version depth)) (now (s .entry)) st r ⌝ }
 {
-    match st {
-        Step::Next(at) => again(template_at(whole(s), at, depth, version)),
-        Step::Refused(r, p) => Step::Refused(r, p),
-    }
+    let st = string(s, st, LITTLE, 4);
+    let n = peek(s, st, LITTLE, 4);
+    arguments(s, any(s, st, 4), n, depth, version)
 }
 
 // n arguments at a position.

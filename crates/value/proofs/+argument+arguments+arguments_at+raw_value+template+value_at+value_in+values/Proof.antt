@@ -15,36 +15,32 @@ use Rattle.value.specs.Value as grammar
 use Rattle.value.specs.Laws.Forms.{too-deep, after-zeros, form-of, long-form, long-form-left-out, no-form}
 use Rattle.value.proofs.argument.Reads as argument
 use Rattle.value.proofs.argument.Kinds as argument-kinds
-use Rattle.value.proofs.+argument+arguments+arguments_at+raw_value+template+template_at+value_at+value_in+values.Lts-argument as argument-lts
+use Rattle.value.proofs.+argument+arguments+arguments_at+raw_value+template+value_at+value_in+values.Lts-argument as argument-lts
 use Rattle.value.proofs.arguments.Reads as arguments
 use Rattle.value.proofs.arguments.Kinds as arguments-kinds
-use Rattle.value.proofs.+argument+arguments+arguments_at+raw_value+template+template_at+value_at+value_in+values.Lts-arguments as arguments-lts
+use Rattle.value.proofs.+argument+arguments+arguments_at+raw_value+template+value_at+value_in+values.Lts-arguments as arguments-lts
 use Rattle.value.proofs.arguments_at.Reads as arguments-at
 use Rattle.value.proofs.arguments_at.Kinds as arguments-at-kinds
-use Rattle.value.proofs.+argument+arguments+arguments_at+raw_value+template+template_at+value_at+value_in+values.Lts-arguments_at as arguments-at-lts
+use Rattle.value.proofs.+argument+arguments+arguments_at+raw_value+template+value_at+value_in+values.Lts-arguments_at as arguments-at-lts
 use Rattle.value.proofs.raw_value.Reads as raw-value
 use Rattle.value.proofs.raw_value.Kinds as raw-value-kinds
-use Rattle.value.proofs.+argument+arguments+arguments_at+raw_value+template+template_at+value_at+value_in+values.Lts-raw_value as raw-value-lts
+use Rattle.value.proofs.+argument+arguments+arguments_at+raw_value+template+value_at+value_in+values.Lts-raw_value as raw-value-lts
 use Rattle.value.proofs.template.Reads as template
 use Rattle.value.proofs.template.Kinds as template-kinds
-use Rattle.value.proofs.+argument+arguments+arguments_at+raw_value+template+template_at+value_at+value_in+values.Lts-template as template-lts
-use Rattle.value.proofs.template_at.Reads as template-at
-use Rattle.value.proofs.template_at.Kinds as template-at-kinds
-use Rattle.value.proofs.+argument+arguments+arguments_at+raw_value+template+template_at+value_at+value_in+values.Lts-template_at as template-at-lts
+use Rattle.value.proofs.+argument+arguments+arguments_at+raw_value+template+value_at+value_in+values.Lts-template as template-lts
 use Rattle.value.proofs.value_at.Reads as value-at
 use Rattle.value.proofs.value_at.Kinds as value-at-kinds
-use Rattle.value.proofs.+argument+arguments+arguments_at+raw_value+template+template_at+value_at+value_in+values.Lts-value_at as value-at-lts
+use Rattle.value.proofs.+argument+arguments+arguments_at+raw_value+template+value_at+value_in+values.Lts-value_at as value-at-lts
 use Rattle.value.proofs.value_in.Reads as value-in
 use Rattle.value.proofs.value_in.Kinds as value-in-kinds
-use Rattle.value.proofs.+argument+arguments+arguments_at+raw_value+template+template_at+value_at+value_in+values.Lts-value_in as value-in-lts
+use Rattle.value.proofs.+argument+arguments+arguments_at+raw_value+template+value_at+value_in+values.Lts-value_in as value-in-lts
 use Rattle.value.proofs.values.Reads as values
 use Rattle.value.proofs.values.Kinds as values-kinds
-use Rattle.value.proofs.+argument+arguments+arguments_at+raw_value+template+template_at+value_at+value_in+values.Lts-values as values-lts
+use Rattle.value.proofs.+argument+arguments+arguments_at+raw_value+template+value_at+value_in+values.Lts-values as values-lts
 use Rattle.layout.proofs.number.any.Reads as any-reads
 use Rattle.layout.proofs.number.field.Reads as field-reads
 use Rattle.layout.proofs.number.fixed.Reads as fixed-reads
 use Rattle.layout.proofs.number.peek.Reads as peek-reads
-use Rattle.layout.proofs.region.again.Reads as again-reads
 use Rattle.layout.proofs.region.nothing.Reads as nothing-reads
 use Rattle.layout.proofs.region.string.Reads as string-reads
 use Rattle.layout.proofs.run.past.Reads as past-reads
@@ -56,40 +52,37 @@ use Rattle.value.proofs.form_04.Reads as form-04-reads
 use Rattle.value.proofs.form_05.Reads as form-05-reads
 use Rattle.value.proofs.form_06.Reads as form-06-reads
 use Rattle.value.proofs.modifier.modifiers.Reads as modifiers-reads
-use Rattle.value.proofs.+argument+arguments+arguments_at+raw_value+template+template_at+value_at+value_in+values.{statement}
-use Rattle.value.proofs.+argument+arguments+arguments_at+raw_value+template+template_at+value_at+value_in+values.Tie.{close}
+use Rattle.value.proofs.+argument+arguments+arguments_at+raw_value+template+value_at+value_in+values.{statement}
+use Rattle.value.proofs.+argument+arguments+arguments_at+raw_value+template+value_at+value_in+values.Tie.{close}
 
 abbrev μ-value-at : Measures 1 value-at-kinds.ps ℕ
-μ-value-at κs a = 9 * a .1 .1 .0
+μ-value-at κs a = 8 * a .1 .1 .0
 
 abbrev μ-value-in : Measures 1 value-in-kinds.ps ℕ
-μ-value-in κs a = 9 * a .1 .1 .0 + 1
+μ-value-in κs a = 8 * a .1 .1 .0 + 1
 
 abbrev μ-values : Measures 1 values-kinds.ps ℕ
-μ-values κs a = 9 * a .1 .1 .1 .0 + 2
+μ-values κs a = 8 * a .1 .1 .1 .0 + 2
 
 abbrev μ-argument : Measures 1 argument-kinds.ps ℕ
-μ-argument κs a = 9 * a .1 .1 .0 + 3
+μ-argument κs a = 8 * a .1 .1 .0 + 3
 
 abbrev μ-arguments-at : Measures 1 arguments-at-kinds.ps ℕ
-μ-arguments-at κs a = 9 * a .1 .1 .1 .0 + 4
+μ-arguments-at κs a = 8 * a .1 .1 .1 .0 + 4
 
 abbrev μ-arguments : Measures 1 arguments-kinds.ps ℕ
-μ-arguments κs a = 9 * a .1 .1 .1 .0 + 5
-
-abbrev μ-template-at : Measures 1 template-at-kinds.ps ℕ
-μ-template-at κs a = 9 * a .1 .1 .0 + 6
+μ-arguments κs a = 8 * a .1 .1 .1 .0 + 5
 
 abbrev μ-template : Measures 1 template-kinds.ps ℕ
-μ-template κs a = 9 * a .1 .1 .0 + 7
+μ-template κs a = 8 * a .1 .1 .0 + 6
 
 abbrev μ-raw-value : Measures 1 raw-value-kinds.ps ℕ
-μ-raw-value κs a = 9 * a .1 .1 .0 + 8
+μ-raw-value κs a = 8 * a .1 .1 .0 + 7
 
-pub +argument+arguments+arguments-at+raw-value+template+template-at+value-at+value-in+values-spec : {M : Type 1} → statement M
+pub +argument+arguments+arguments-at+raw-value+template+value-at+value-in+values-spec : {M : Type 1} → statement M
 unfolding pick passes among skip grammar.ArgumentOf grammar.TemplateOf
-+argument+arguments+arguments-at+raw-value+template+template-at+value-at+value-in+values-spec =
-    close μ-argument μ-arguments μ-arguments-at μ-raw-value μ-template μ-template-at μ-value-at μ-value-in μ-values
++argument+arguments+arguments-at+raw-value+template+value-at+value-in+values-spec =
+    close μ-argument μ-arguments μ-arguments-at μ-raw-value μ-template μ-value-at μ-value-in μ-values
     (λ t. argument-lts.spec
     (peek-reads.Asked, peek-reads.Learnt, any-reads.Asked, any-reads.Learnt, below value-in-kinds.ps μ-value-in value-in.Pre t, value-in.Post, fixed-reads.Asked, fixed-reads.Learnt, below values-kinds.ps μ-values values.Pre t, values.Post)
     (at argument-kinds.ps μ-argument argument.Pre t) argument.Post
@@ -157,14 +150,8 @@ unfolding pick passes among skip grammar.ArgumentOf grammar.TemplateOf
     let a = c .before .before in
     no-form _ _ (c .before .match .rest) (a .before .peek .ensures) (c .field2 .ensures)))
     (λ t. template-lts.spec
-    (whole-reads.Asked, whole-reads.Learnt, below template-at-kinds.ps μ-template-at template-at.Pre t, template-at.Post, again-reads.Asked, again-reads.Learnt)
-    (at template-kinds.ps μ-template template.Pre t) template.Post
-    (λ c. search needs) (λ _ _. tt) (λ c κs. omega arith) (λ _ _. tt) (λ c. search needs)
-    (λ c. rw (c .again .ensures) (from-next (c .before .before .before .before .st .given .1) (in-same (c .before .before .whole .ensures) (c .before .template-at .ensures))))
-    (λ c. from-refused (c .before .st2 .given .1)))
-    (λ t. template-at-lts.spec
     (string-reads.Asked, string-reads.Learnt, peek-reads.Asked, peek-reads.Learnt, any-reads.Asked, any-reads.Learnt, below arguments-kinds.ps μ-arguments arguments.Pre t, arguments.Post)
-    (at template-at-kinds.ps μ-template-at template-at.Pre t) template-at.Post
+    (at template-kinds.ps μ-template template.Pre t) template.Post
     (λ _ _. tt) (λ _ _. tt) (λ _ _. tt) (λ c κs. omega arith)
     (λ c. search reads))
     (λ t. value-at-lts.spec
