@@ -70,18 +70,24 @@ fn put(words: &mut [u32], i: usize, x: u32)
     }
 }
 
-// Three words from place i on, where there are such places.
+// Three words from place i on, where there are such places: after one test where there are all.
 pub fn put_three(words: &mut [u32], i: usize, a: u32, b: u32, c: u32)
     ensures { λ _. ⌜ now (words .exit) ≡ sets (now (words .entry)) i (a ∷ b ∷ c ∷ []) ⌝ }
 {
     if i < words.len() {
+        if 2 < words.len() - i {
+            words[i] = a;
+            words[i + 1] = b;
+            words[i + 2] = c;
+            return;
+        }
         put(words, i, a);
         put(words, i + 1, b);
         put(words, i + 2, c);
     }
 }
 
-// The record of node i, where there are such places.
+// The record of node i, where there are such places: after one test where there are all.
 fn store_node(
     nodes: &mut [u32],
     i: usize,
@@ -97,6 +103,16 @@ fn store_node(
     ensures { λ _. ⌜ now (nodes .exit) ≡ sets (now (nodes .entry)) (node-words * i) (nodeRecord kind dimension parent place size word many) ⌝ }
 {
     let at = NODE_WORDS * i;
+    if at + NODE_SIZE < nodes.len() {
+        nodes[at] = kind;
+        nodes[at + 1] = dimension;
+        nodes[at + 2] = parent;
+        nodes[at + 3] = place;
+        nodes[at + 4] = size;
+        nodes[at + 5] = word;
+        nodes[at + NODE_SIZE] = many;
+        return;
+    }
     put_three(nodes, at, kind, dimension, parent);
     put_three(nodes, at + 3, place, size, word);
     put(nodes, at + NODE_SIZE, many);

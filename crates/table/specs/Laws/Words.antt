@@ -37,6 +37,15 @@ sets-append (v ∷ vs) ws l i = let e : i + suc (length vs) ≡ suc i + length v
 pub four-sets : (ws : List ℕ) (i a b c d : ℕ) → set (set (set (set ws i a) (i + 1) b) (i + 2) c) (i + 3) d ≡ sets ws i (a ∷ b ∷ c ∷ d ∷ [])
 four-sets ws i a b c d = rw (three-sets ws i a b c) (sym (sets-append (a ∷ b ∷ c ∷ []) (d ∷ []) ws i))
 
+-- the words of a node's record
+pub seven-sets : (ws : List ℕ) (i a b c d e f g : ℕ)
+    → set (set (set (set (set (set (set ws i a) (i + 1) b) (i + 2) c) (i + 3) d) (i + 4) e) (i + 5) f) (i + 6) g ≡ sets ws i (a ∷ b ∷ c ∷ d ∷ e ∷ f ∷ g ∷ [])
+seven-sets ws i a b c d e f g =
+    let e₄ : i + 4 ≡ suc (i + 3) = omega arith in
+    let e₅ : i + 5 ≡ suc (suc (i + 3)) = omega arith in
+    let e₆ : i + 6 ≡ suc (suc (suc (i + 3))) = omega arith in
+    rw (three-sets ws i a b c, e₄, e₅, e₆) (sym (sets-append (a ∷ b ∷ c ∷ []) (d ∷ e ∷ f ∷ g ∷ []) ws i))
+
 -- some words, and others after them
 pub sets-then : (xs ys ws : List ℕ) (i : ℕ) {vs us : List ℕ} → vs ≡ sets ws i xs → us ≡ sets vs (i + length xs) ys → us ≡ sets ws i (xs ++ ys)
 sets-then xs ys ws i h k = k ∙ rw h (sym (sets-append xs ys ws i))
