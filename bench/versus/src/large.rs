@@ -91,6 +91,12 @@ pub fn member_with_nested_categories(nodes: u32) -> Vec<u8> {
     table_of(&[dimension(&categories)], &[]).bytes()
 }
 
+/// A member with one dimension, whose categories are leaves with these indexes.
+pub fn member_with_leaves(indexes: impl Iterator<Item = u32>) -> Vec<u8> {
+    let categories: Vec<Vec<u8>> = indexes.map(leaf).collect();
+    table_of(&[dimension(&categories)], &[]).bytes()
+}
+
 /// A member in which the name of a leaf that stands in seven groups is a Value with seven others
 /// inside it: both limits of depth at once.
 pub fn deepest_member() -> Vec<u8> {

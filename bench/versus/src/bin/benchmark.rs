@@ -24,7 +24,7 @@ use digarumbi_bench::random::Random;
 use digarumbi_bench::totals::{total, totals};
 use digarumbi_versus::large::{
     alike_in_low_bits, ascending, large_unordered, member_of_strings, member_with_cells,
-    member_with_large_indexes, member_with_nested_categories, shuffled,
+    member_with_large_indexes, member_with_leaves, member_with_nested_categories, shuffled,
 };
 use digarumbi_versus::stored;
 use digarumbi_versus::texts::{entries, in_utf8, mixed, russian};
@@ -32,13 +32,15 @@ use digarumbi_versus::timing::{measure, Times};
 
 const SIZES_IN_BYTES: [usize; 5] = [65_536, 131_072, 262_144, 524_288, MEMBER_BYTES];
 const NUMBERS_OF_CELLS: [u64; 5] = [256, 512, 1_024, 2_048, 4_096];
+const NUMBERS_OF_NODES: [u32; 5] = [256, 512, 1_024, 2_048, 4_096];
 
 /// The parts of the benchmark, each under the name by which it can be asked for.
-const PARTS: [(&str, fn()); 11] = [
+const PARTS: [(&str, fn()); 12] = [
     ("real", real_members),
     ("lists", lists),
     ("large", large_members),
     ("bytes", growth_with_bytes),
+    ("nodes", growth_with_nodes),
     ("cells", growth_with_cells),
     ("positions", positions),
     ("values", values),
@@ -161,6 +163,16 @@ fn growth_with_bytes() {
     table_head("Growth with bytes: strings of 12 letters", "member");
     for bytes in SIZES_IN_BYTES {
         member_row("strings", &[&member_of_strings(bytes)]);
+    }
+    println!();
+}
+
+fn growth_with_nodes() {
+    table_head("Growth with nodes", "categories");
+    for nodes in NUMBERS_OF_NODES {
+        member_row("nested", &[&member_with_nested_categories(nodes)]);
+        member_row("side by side, in order", &[&member_with_leaves(0..nodes)]);
+        member_row("side by side, in reverse", &[&member_with_leaves((0..nodes).rev())]);
     }
     println!();
 }
