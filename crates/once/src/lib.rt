@@ -28,6 +28,18 @@ pub enum Verdict {
     Bad(usize),
 }
 
+// How many leaves there are, and whether all their indexes are as they must be.
+pub struct Leaves {
+    pub count: usize,
+    pub verdict: Verdict,
+}
+
+// Whether leaf indexes are 0, 1, 2 and so on, and how many they are where they are.
+struct Numbered {
+    pub holds: bool,
+    pub count: usize,
+}
+
 // The place of the first number that stands at an earlier place too, or how many numbers there are where none does; and how many steps
 // it took to find.
 pub struct Repeat {
@@ -65,7 +77,7 @@ pub fn word(ws: &[u32], i: usize) -> u32
 // ---- leaves
 
 // How many leaves there are among the k nodes from the first on.
-pub fn count_leaves(nodes: &[u32], first: usize, k: usize) -> usize
+fn count_leaves(nodes: &[u32], first: usize, k: usize) -> usize
     ensures { λ r. ⌜ r ≡ length (spec.leaves (now (nodes .entry)) (min first most-nodes) (min k most-nodes)) ⌝ }
 {
     let mut i = at_most(first, MOST_NODES);
@@ -90,11 +102,11 @@ fn index_place(nodes: &[u32], i: usize) -> usize
     word(nodes, at + NAME_PLACE) as usize + word(nodes, at + NAME_LENGTH) as usize + NAME_TO_INDEX
 }
 
-// Whether the leaf indexes among the k nodes from the first on are 0, 1, 2 and so on, all below `end`: then they are as they must be,
-// and no marks are needed to tell.
-fn in_order(nodes: &[u32], first: usize, k: usize, end: usize) -> bool
+// Whether the leaf indexes among the k nodes from the first on are 0, 1, 2 and so on: then they are as they must be, there are as many as
+// the next would be, and no marks are needed to tell.
+fn in_order(nodes: &[u32], first: usize, k: usize) -> Numbered
     requires { ⌜ (first ≤ most-nodes) × (k ≤ most-nodes) ⌝ }
-    ensures { λ r. ⌜ (r ≡ true → spec.firstBad end [] (spec.leaves (now (nodes .entry)) first k) ≡ Fine) ⌝ }
+    ensures { λ r. ⌜ (r .holds ≡ true → spec.LeavesAre (spec.leaves (now (nodes .entry)) first k) (r .count) Fine) ⌝ }
 {
     let mut i = first;
     let mut left = k;
@@ -103,17 +115,20 @@ fn in_order(nodes: &[u32], first: usize, k: usize, end: usize) -> bool
         if word(nodes, NODE_WORDS * i) == 0 {
             let x = word(nodes, NODE_WORDS * i + LEAF_INDEX) as usize;
             if x != next {
-                return false;
-            }
-            if end <= next {
-                return false;
+                return Numbered {
+                    holds: false,
+                    count: 0,
+                };
             }
             next += 1;
         }
         i += 1;
         left -= 1;
     }
-    true
+    Numbered {
+        holds: true,
+        count: next,
+    }
 }
 
 // Whether the leaf indexes among the k nodes from the first on are below n and stand once each, in any order. The mark at x is 1 where
@@ -142,20 +157,21 @@ fn check_marked(nodes: &[u32], first: usize, k: usize, n: u64) -> Verdict
     Verdict::Fine
 }
 
-// Whether the leaf indexes among the k nodes from the first on are below n and stand once each.
-pub fn check_leaves(nodes: &[u32], first: usize, k: usize, n: u64) -> Verdict
-    ensures { λ r. ⌜ r ≡ spec.firstBad (min n most-nodes) [] (spec.leaves (now (nodes .entry)) (min first most-nodes) (min k most-nodes)) ⌝ }
+// How many leaves there are among the k nodes from the first on, and whether their indexes are below that number and stand once each.
+pub fn check_leaves(nodes: &[u32], first: usize, k: usize) -> Leaves
+    ensures { λ r. ⌜ spec.LeavesAre (spec.leaves (now (nodes .entry)) (min first most-nodes) (min k most-nodes)) (r .count) (r .verdict) ⌝ }
 {
-    let ordered = in_order(
-        nodes,
-        at_most(first, MOST_NODES),
-        at_most(k, MOST_NODES),
-        at_most(n as usize, MOST_NODES),
-    );
-    if ordered {
-        Verdict::Fine
-    } else {
-        check_marked(nodes, first, k, n)
+    let ordered = in_order(nodes, at_most(first, MOST_NODES), at_most(k, MOST_NODES));
+    if ordered.holds {
+        return Leaves {
+            count: ordered.count,
+            verdict: Verdict::Fine,
+        };
+    }
+    let n = count_leaves(nodes, first, k);
+    Leaves {
+        count: n,
+        verdict: check_marked(nodes, first, k, n as u64),
     }
 }
 

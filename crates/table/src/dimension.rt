@@ -29,7 +29,6 @@ use layout::number::fixed;
 use layout::number::peek;
 use once::Verdict;
 use once::check_leaves;
-use once::count_leaves;
 use sizes::CATEGORY_DEPTH;
 use sizes::DIMENSION_AREA;
 use sizes::DIMENSION_WORDS;
@@ -92,8 +91,9 @@ fn close(
     ensures { λ r. ⌜ spec.Closed i at size used p u (now (nodes .entry)) (now (dims .entry)) r (now (dims .exit)) ⌝ }
 {
     let k = between(used, u);
-    let n = count_leaves(nodes, used, k);
-    match check_leaves(nodes, used, k, n as u64) {
+    let leaves = check_leaves(nodes, used, k);
+    let verdict = leaves.verdict;
+    match verdict {
         Verdict::Bad(q) => Walk::Refused(8, q),
         Verdict::Fine => {
             store(
@@ -101,7 +101,7 @@ fn close(
                 i,
                 (at % 4294967296) as u32,
                 size,
-                (n % 4294967296) as u32,
+                (leaves.count % 4294967296) as u32,
                 (used % 4294967296) as u32,
             );
             Walk::On(p, u)

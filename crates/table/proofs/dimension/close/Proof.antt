@@ -7,10 +7,13 @@ pub close-spec : {M : Type 1} → statement M
 close-spec =
     tie.close
     (tie.spec
-    (λ c κs. search needs) (λ c κs. search needs) (λ c κs. search needs) (λ c. search needs) (λ c. search needs)
-    (λ c. search needs) (λ c. search needs) (λ c. search needs) (λ c κs. search needs)
-    (λ c. let k = c .before .before .before in bad-leaf (rw (← (k .before .before .between .ensures), ← (k .before .count-leaves .ensures), ← (k .check-leaves .ensures)) (c .before .q .given .1)))
-    (λ c. let e = c .before .before in let k = e .before .before in
-    closed (rw (← (k .before .before .between .ensures), ← (k .before .count-leaves .ensures), ← (k .check-leaves .ensures)) (e .enum-told .given .1))
-    (rw (← (k .before .before .between .ensures), ← (k .before .count-leaves .ensures)) (c .store .ensures)))
-    )
+    (λ _ _. tt) (λ _ _. tt) (λ c. search needs) (λ c. search needs) (λ c. search needs) (λ c. search needs) (λ c. search needs)
+    (λ c κs. search needs)
+    (λ c.
+    let l = c .before .before .before in
+    bad-leaf (rw (← (l .before .between .ensures), ← (l .check-leaves .ensures .verdict)) (c .before .verdict .given .1)))
+    (λ c.
+    let e = c .before .before .before in
+    let l = e .before .before in
+    closed (rw (← (l .before .between .ensures), ← (l .check-leaves .ensures .verdict)) (e .enum-told .given .1))
+    (rw (← (l .before .between .ensures), ← (l .check-leaves .ensures .count)) (c .store .ensures))))
