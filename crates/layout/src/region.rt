@@ -159,16 +159,6 @@ pub fn many_strings(s: &[u8], st: Step, high: bool, w: usize) -> Step
     strings(s, any(s, st, 4), high, w, n)
 }
 
-// The same step, as one of its own: what a function that is called gave stands in memory, and is taken out of there in its parts.
-pub fn again(st: Step) -> Step
-    ensures { λ r. ⌜ r ≡ st ⌝ }
-{
-    match st {
-        Step::Next(at) => Step::Next(at),
-        Step::Refused(r, p) => Step::Refused(r, p),
-    }
-}
-
 // What nothing has: a limit is passed.
 pub fn nothing(st: Step) -> Step
     ensures { λ r. ⌜ r ≡ spec.refused st ⌝ }

@@ -14,6 +14,7 @@ use Rattle.once.specs.declared.Verdict.the-variants.{Fine, Bad}
 use Rattle.layout.specs.Laws.Tests.{or-is-false, and-is-true, eqb-turned}
 use Rattle.once.specs.Once.{fresh, Distinct, OnceEach, AllFresh, Leaf, indexes, firstBad}
 mod Room
+pub mod Leaves
 pub mod Marks
 pub mod Repeats
 pub mod Places

@@ -3,10 +3,10 @@
 use mathlib.Core.Path.{_≡_}
 use mathlib.Core.Bool.{Bool, true, false, not, _&&_}
 use mathlib.Core.List.{List, [], _∷_, map}
-use Prim.Native.Nat.{ℕ, zero, suc, _+_, _*_, _<_, min}
-use lib.ListN.{getD, length}
+use Prim.Native.Nat.{ℕ, zero, suc, _+_, _*_, _<_}
+use lib.ListN.{getD}
 use lib.Dec.{eqb, ltb}
-use Rattle.sizes.specs.Sizes.{most-nodes, node-words, name-place, name-length, leaf-index, name-to-index}
+use Rattle.sizes.specs.Sizes.{node-words, name-place, name-length, leaf-index, name-to-index}
 use Rattle.layout.specs.Layout.{among, All, pick}
 use Rattle.once.specs.declared.Verdict.{Verdict}
 use Rattle.once.specs.declared.Verdict.the-variants.{Fine, Bad}
@@ -65,12 +65,6 @@ indexes ls = map (λ l. l .0) ls
 unfoldable pub firstBad : ℕ → List ℕ → List Leaf → Verdict
 firstBad n seen [] = Fine
 firstBad n seen (l ∷ ls) = pick (fresh n seen (l .0)) (firstBad n (l .0 ∷ seen) ls) (Bad (l .1))
-
--- how many leaves there are, and whether their indexes are below that number and stand once each (document 01: "Leaf indexes are 0 to n-1,
--- once each"); a number of leaves above the most nodes counts as that
-pub record LeavesAre (ls : List Leaf) (n : ℕ) (v : Verdict) : Type 0 where
-  pub count : n ≡ length ls
-  pub verdict : v ≡ firstBad (min (length ls) most-nodes) [] ls
 
 -- ---- axis entries and cell indexes
 

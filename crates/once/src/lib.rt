@@ -8,6 +8,7 @@ ghost use lib.ListN.{length};
 ghost use Rattle.sizes.specs.Sizes.{most-nodes, most-cells, node-words};
 ghost use Rattle.layout.specs.Layout.{among};
 ghost use Rattle.once.specs.Once as spec;
+ghost use Rattle.once.specs.Laws.Leaves.{LeavesAre};
 ghost use Rattle.once.specs.declared.Verdict.the-variants.{Fine};
 use layout::number::at_most;
 use sizes::LEAF_INDEX;
@@ -106,7 +107,7 @@ fn index_place(nodes: &[u32], i: usize) -> usize
 // the next would be, and no marks are needed to tell.
 fn in_order(nodes: &[u32], first: usize, k: usize) -> Numbered
     requires { ⌜ (first ≤ most-nodes) × (k ≤ most-nodes) ⌝ }
-    ensures { λ r. ⌜ (r .holds ≡ true → spec.LeavesAre (spec.leaves (now (nodes .entry)) first k) (r .count) Fine) ⌝ }
+    ensures { λ r. ⌜ (r .holds ≡ true → LeavesAre (spec.leaves (now (nodes .entry)) first k) (r .count) Fine) ⌝ }
 {
     let mut i = first;
     let mut left = k;
@@ -159,7 +160,7 @@ fn check_marked(nodes: &[u32], first: usize, k: usize, n: u64) -> Verdict
 
 // How many leaves there are among the k nodes from the first on, and whether their indexes are below that number and stand once each.
 pub fn check_leaves(nodes: &[u32], first: usize, k: usize) -> Leaves
-    ensures { λ r. ⌜ spec.LeavesAre (spec.leaves (now (nodes .entry)) (min first most-nodes) (min k most-nodes)) (r .count) (r .verdict) ⌝ }
+    ensures { λ r. ⌜ LeavesAre (spec.leaves (now (nodes .entry)) (min first most-nodes) (min k most-nodes)) (r .count) (r .verdict) ⌝ }
 {
     let ordered = in_order(nodes, at_most(first, MOST_NODES), at_most(k, MOST_NODES));
     if ordered.holds {
