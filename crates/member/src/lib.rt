@@ -1,22 +1,24 @@
 // The whole member.
 ghost use mathlib.Core.Path.{_≡_};
 ghost use mathlib.Core.List.{_++_};
-ghost use Prim.Native.Nat.{_*_, _≤_};
+ghost use Prim.Native.Nat.{_≤_};
 ghost use lib.ListN.{length, take, drop};
-ghost use Rattle.sizes.specs.Sizes.{member-bytes, most-nodes, most-cells, node-words, cell-words};
+ghost use Rattle.sizes.specs.Sizes.{member-bytes};
 ghost use Rattle.layout.specs.Part.{partOf};
 ghost use Rattle.layout.specs.Keeps.{Keeps};
 ghost use Rattle.layout.specs.Check.{check};
 ghost use Rattle.table.specs.Rules.{cellsRule};
 ghost use Rattle.table.specs.Laws.Within.{needed};
+ghost use Rattle.table.specs.Laws.Dims.{node-records};
 ghost use Rattle.cells.specs.Laws.Cells.{AllCells, cellsOut, cell-records};
 ghost use Rattle.member.specs.Answer as spec;
 ghost use Rattle.member.specs.Answer.{Delivered};
+ghost use Rattle.member.specs.IntoLists as lists;
+ghost use Rattle.member.specs.IntoLists.{small-lists, medium-lists, large-lists, intoLists, Stored, LongEnough};
 ghost use Rattle.member.specs.Demand3.{Demand3};
 ghost use Rattle.member.specs.Checked.{ended, checked};
 ghost use Rattle.member.specs.Laws.Header.{Bound, HeaderRead};
 ghost use Rattle.member.specs.Laws.Whole as whole;
-ghost use Rattle.member.specs.Laws.Whole.{small-lists, medium-lists, large-lists};
 use cells::AxisCounts;
 use cells::LEAST_CELL;
 use cells::axes;
@@ -24,6 +26,7 @@ use cells::cells as cells_section;
 use index::product_of;
 use layout::LITTLE;
 use layout::Step;
+use layout::number::at_most;
 use layout::number::peek;
 use layout::run::skip;
 use layout::slice::part as part_of;
@@ -34,7 +37,9 @@ use sizes::CELL_AREA;
 use sizes::CELL_WORDS;
 use sizes::DIMENSION_AREA;
 use sizes::MEMBER_BYTES;
+use sizes::MOST_CELLS;
 use sizes::MOST_DIMENSIONS;
+use sizes::MOST_NODES;
 use sizes::MOST_PLACES;
 use sizes::NODE_AREA;
 use sizes::NODE_WORDS;
@@ -45,11 +50,11 @@ use table::dimensions;
 
 // The bytes of a member that is read with small lists, with medium ones and with large ones: these have room for the records that so many
 // bytes hold at most.
-const SMALL_LISTS: usize = 2560;
+pub const SMALL_LISTS: usize = 2560;
 
-const MEDIUM_LISTS: usize = 4608;
+pub const MEDIUM_LISTS: usize = 4608;
 
-const LARGE_LISTS: usize = 16384;
+pub const LARGE_LISTS: usize = 16384;
 
 // The version of a member and where what follows it starts; or the refusal.
 enum Head {
@@ -214,46 +219,43 @@ pub fn part(member: &[u8], place: usize, length: usize) -> &[u8]
     part_of(member, place, length)
 }
 
-// The answer a, and its records into the lent areas, where these are large enough.
+// The first words of two lists into the lent areas, where these are large enough: 0; or the refusal, and nothing is copied.
 fn deliver(
-    a: Answer,
     node_list: &[u32],
+    node_words: usize,
     cell_list: &[u32],
+    cell_words: usize,
     nodes: &mut [u32],
     cells: &mut [u32],
-) -> Answer
-    requires { ⌜ (node-words * (a .nodes) ≤ length (now «node_list»)) × (cell-words * (a .cells) ≤ length (now «cell_list»)) × (a .nodes ≤ most-nodes) × (a .cells ≤ most-cells) ⌝ }
-    ensures { λ r. ⌜ whole.Filled a (now («node_list» .entry)) (now («cell_list» .entry)) (now (nodes .entry)) (now (cells .entry)) r (now (nodes .exit)) (now (cells .exit)) ⌝ }
+) -> u32
+    requires { ⌜ («node_words» ≤ length (now «node_list»)) × («cell_words» ≤ length (now «cell_list»)) ⌝ }
+    ensures { λ r. ⌜ whole.Filled «node_words» «cell_words» (now («node_list» .entry)) (now («cell_list» .entry)) (now (nodes .entry)) (now (cells .entry)) r (now (nodes .exit)) (now (cells .exit)) ⌝ }
 {
-    let used = a.nodes as usize;
-    let m = a.cells as usize;
-    let wide = NODE_WORDS * used <= nodes.len();
+    let wide = node_words <= nodes.len();
     if wide {
-        let long = CELL_WORDS * m <= cells.len();
+        let long = cell_words <= cells.len();
         if long {
-            copy(node_list, nodes, NODE_WORDS * used);
-            copy(cell_list, cells, CELL_WORDS * m);
-            a
+            copy(node_list, nodes, node_words);
+            copy(cell_list, cells, cell_words);
+            0
         } else {
-            refused(13, 0, a.nodes, a.cells)
+            13
         }
     } else {
-        refused(12, 0, a.nodes, a.cells)
+        12
     }
 }
 
-// Reads a member of that version, from the place after it on, with two lists for the words of its records: zeros, and long enough.
+// Reads a member of that version, from the place after it on, into two lists that are long enough for its records.
 fn read_body(
     member: &[u8],
     version: u64,
     start: usize,
     node_list: &mut [u32],
     cell_list: &mut [u32],
-    nodes: &mut [u32],
-    cells: &mut [u32],
 ) -> Answer
     requires { ⌜ whole.ReadyLists (now member) (now «node_list») (now «cell_list») × Bound (now member) version start ⌝ }
-    ensures { λ r. ⌜ Delivered (checked (now (member .entry))) (now (nodes .entry)) (now (cells .entry)) r (now (nodes .exit)) (now (cells .exit)) ⌝ }
+    ensures { λ r. ⌜ Stored (now («node_list» .entry)) (now («cell_list» .entry)) (checked (now (member .entry))) r (now («node_list» .exit)) (now («cell_list» .exit)) ⌝ }
 {
     let mut dims = [0u32; DIMENSION_AREA];
     match front(member, Step::Next(start), version) {
@@ -266,31 +268,71 @@ fn read_body(
                 let axes = tail.axes;
                 match axes {
                     AxisCounts::Refused(r, p) => refused(r, p, 0, 0),
-                    AxisCounts::Of(layers, rows, columns, _) => deliver(
-                        Answer {
-                            refusal: 0,
-                            place: 0,
-                            dims: (d % 4294967296) as u32,
-                            nodes: (used % 4294967296) as u32,
-                            cells: (tail.cells % 4294967296) as u32,
-                            dimensions: dims,
-                            layers,
-                            rows,
-                            columns,
-                            order,
-                        },
-                        node_list,
-                        cell_list,
-                        nodes,
-                        cells,
-                    ),
+                    AxisCounts::Of(layers, rows, columns, _) => Answer {
+                        refusal: 0,
+                        place: 0,
+                        dims: (d % 4294967296) as u32,
+                        nodes: (used % 4294967296) as u32,
+                        cells: (tail.cells % 4294967296) as u32,
+                        dimensions: dims,
+                        layers,
+                        rows,
+                        columns,
+                        order,
+                    },
                 }
             }
         },
     }
 }
 
-// Reads a member, with two lists for the words of its records: zeros, and long enough.
+// Reads a member into two lists that are long enough for its records.
+fn read_ready(member: &[u8], node_list: &mut [u32], cell_list: &mut [u32]) -> Answer
+    requires { ⌜ whole.ReadyLists (now member) (now «node_list») (now «cell_list») ⌝ }
+    ensures { λ r. ⌜ Stored (now («node_list» .entry)) (now («cell_list» .entry)) (checked (now (member .entry))) r (now («node_list» .exit)) (now («cell_list» .exit)) ⌝ }
+{
+    match header(member) {
+        Head::Refused(r, p) => refused(r, p, 0, 0),
+        Head::Of(version, at) => read_body(member, version, at, node_list, cell_list),
+    }
+}
+
+// How many words the node records of n bytes have at most.
+fn most_node_words(n: usize) -> usize
+    ensures { λ r. ⌜ r ≡ needed node-records n ⌝ }
+{
+    NODE_WORDS * at_most(n / LEAST_CATEGORY, MOST_NODES)
+}
+
+// How many words the cell records of n bytes have at most.
+fn most_cell_words(n: usize) -> usize
+    ensures { λ r. ⌜ r ≡ needed cell-records n ⌝ }
+{
+    CELL_WORDS * at_most(n / LEAST_CELL, MOST_CELLS)
+}
+
+// Reads a member into two lists: on acceptance they hold the records, and beyond them what was there; after a refusal they may hold
+// anything. Refused besides, before anything is read: a list that is too short for the records which so many bytes can hold, 12 at 0 for
+// that of the nodes and 13 at 0 for that of the cells.
+pub fn read_into(member: &[u8], node_list: &mut [u32], cell_list: &mut [u32]) -> Answer
+    ensures { λ r. ⌜ Stored (now («node_list» .entry)) (now («cell_list» .entry)) (intoLists (now (member .entry)) (length (now («node_list» .entry))) (length (now («cell_list» .entry)))) r (now («node_list» .exit)) (now («cell_list» .exit)) ⌝ }
+{
+    if MEMBER_BYTES < member.len() {
+        return refused(1, 0, 0, 0);
+    }
+    let node_words = most_node_words(member.len());
+    if node_list.len() < node_words {
+        return refused(12, 0, 0, 0);
+    }
+    let cell_words = most_cell_words(member.len());
+    if cell_list.len() < cell_words {
+        return refused(13, 0, 0, 0);
+    }
+    read_ready(member, node_list, cell_list)
+}
+
+// Reads a member, with two lists that are long enough for its records. The answer stands in one variable: with two the compiler has both
+// on the stack of a small member.
 fn read_with_lists(
     member: &[u8],
     node_list: &mut [u32],
@@ -298,13 +340,17 @@ fn read_with_lists(
     nodes: &mut [u32],
     cells: &mut [u32],
 ) -> Answer
-    requires { ⌜ whole.ReadyLists (now member) (now «node_list») (now «cell_list») ⌝ }
+    requires { ⌜ LongEnough (now member) (length (now «node_list»)) (length (now «cell_list»)) ⌝ }
     ensures { λ r. ⌜ Delivered (checked (now (member .entry))) (now (nodes .entry)) (now (cells .entry)) r (now (nodes .exit)) (now (cells .exit)) ⌝ }
 {
-    match header(member) {
-        Head::Refused(r, p) => refused(r, p, 0, 0),
-        Head::Of(version, at) => read_body(member, version, at, node_list, cell_list, nodes, cells),
+    let mut a = read_into(member, node_list, cell_list);
+    let node_words = NODE_WORDS * a.nodes as usize;
+    let cell_words = CELL_WORDS * a.cells as usize;
+    let n = deliver(node_list, node_words, cell_list, cell_words, nodes, cells);
+    if n != 0 {
+        a = refused(n, 0, a.nodes, a.cells);
     }
+    a
 }
 
 // A small member has few nodes and cells, and small lists are sooner cleared.
@@ -337,9 +383,8 @@ fn with_large_lists(member: &[u8], nodes: &mut [u32], cells: &mut [u32]) -> Answ
     read_with_lists(member, &mut node_list, &mut cell_list, nodes, cells)
 }
 
-// A member of any length that is accepted.
+// A member of any length.
 fn with_full_lists(member: &[u8], nodes: &mut [u32], cells: &mut [u32]) -> Answer
-    requires { ⌜ length (now member) ≤ member-bytes ⌝ }
     ensures { λ r. ⌜ Delivered (checked (now (member .entry))) (now (nodes .entry)) (now (cells .entry)) r (now (nodes .exit)) (now (cells .exit)) ⌝ }
 {
     let mut node_list = [0u32; NODE_AREA];
@@ -347,33 +392,33 @@ fn with_full_lists(member: &[u8], nodes: &mut [u32], cells: &mut [u32]) -> Answe
     read_with_lists(member, &mut node_list, &mut cell_list, nodes, cells)
 }
 
-// How many bytes a member has at most that is read at a step.
-fn most_bytes(step: usize) -> usize
-    ensures { λ r. ⌜ r ≡ whole.most-bytes step ⌝ }
+// Whether the lists of a step have room for the records of so many bytes: small ones, medium ones, large ones, and those of every other step.
+pub fn has_room(step: usize, bytes: usize) -> bool
+    ensures { λ r. ⌜ r ≡ lists.has-room step bytes ⌝ }
 {
     match step {
-        0 => SMALL_LISTS,
-        1 => MEDIUM_LISTS,
-        2 => LARGE_LISTS,
-        _ => MEMBER_BYTES,
+        0 => bytes <= SMALL_LISTS,
+        1 => bytes <= MEDIUM_LISTS,
+        2 => bytes <= LARGE_LISTS,
+        _ => true,
     }
 }
 
 // Reads a member at the first step, from that one on, whose lists have room for its records. It calls itself: into such a function the
 // compiler puts none that has long lists. So a small member is read on a small stack.
 fn read_from_step(member: &[u8], step: usize, nodes: &mut [u32], cells: &mut [u32]) -> Answer
-    requires { ⌜ (length (now member) ≤ member-bytes) × (step ≤ 3) ⌝ }
     ensures { λ r. ⌜ Delivered (checked (now (member .entry))) (now (nodes .entry)) (now (cells .entry)) r (now (nodes .exit)) (now (cells .exit)) ⌝ }
 {
-    let most = most_bytes(step);
-    if most < member.len() {
-        return read_from_step(member, step + 1, nodes, cells);
-    }
-    match step {
-        0 => with_small_lists(member, nodes, cells),
-        1 => with_medium_lists(member, nodes, cells),
-        2 => with_large_lists(member, nodes, cells),
-        _ => with_full_lists(member, nodes, cells),
+    let room = has_room(step, member.len());
+    if room {
+        match step {
+            0 => with_small_lists(member, nodes, cells),
+            1 => with_medium_lists(member, nodes, cells),
+            2 => with_large_lists(member, nodes, cells),
+            _ => with_full_lists(member, nodes, cells),
+        }
+    } else {
+        read_from_step(member, step + 1, nodes, cells)
     }
 }
 

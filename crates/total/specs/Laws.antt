@@ -20,10 +20,10 @@ pub mod LeafIs
 pub mod Rows
 pub mod LeafRows
 -- the calls: the lists that a member is read into, the lent areas, the answers and their words
-pub mod Rooms
 pub mod Reading
 pub mod Areas
 pub mod Call
 pub mod AllCall
+pub mod Asked
 pub mod Doubles
 pub mod Calls

@@ -1,16 +1,16 @@
 // A call for all leaves of a dimension, over the lists of a member that was read.
 ghost use mathlib.Core.Path.{_≡_};
 ghost use lib.ListN.{length};
+ghost use Rattle.member.specs.IntoLists.{LongEnough};
 ghost use Rattle.total.specs.Answers as spec;
 ghost use Rattle.total.specs.Answers.{AllTotalled};
-ghost use Rattle.total.specs.Laws.Rooms.{Roomy};
 ghost use Rattle.total.specs.Laws.Reading.{Taken};
 ghost use Rattle.total.specs.Laws.AllCall as laws;
 use crate::DimensionTotals;
 use crate::call::copy;
 use crate::rows::fill;
 use member::Answer;
-use member::read_member;
+use member::read_into;
 use once::word;
 use sizes::CELL_WORDS;
 use sizes::DIMENSION_N;
@@ -18,7 +18,7 @@ use sizes::DIMENSION_WORDS;
 use sizes::LEAF_TOTAL_WORDS;
 use sizes::NODE_WORDS;
 
-fn refused_all(n: u32, p: usize, nodes: u32, cells: u32, leaves: u32) -> DimensionTotals
+pub fn refused_all(n: u32, p: usize, nodes: u32, cells: u32, leaves: u32) -> DimensionTotals
     ensures { λ r. ⌜ r ≡ spec.refusedAll n p nodes cells leaves ⌝ }
 {
     DimensionTotals {
@@ -99,7 +99,7 @@ fn accepted_all(
     x
 }
 
-// Reads a member into two lists that have room for its records.
+// Reads a member into two lists that are long enough for its records.
 pub fn all_with_lists(
     member: &[u8],
     dimension: u32,
@@ -109,10 +109,10 @@ pub fn all_with_lists(
     nodes: &mut [u32],
     cells: &mut [u32],
 ) -> DimensionTotals
-    requires { ⌜ Roomy (now member) (length (now «node_list»)) (length (now «cell_list»)) ⌝ }
+    requires { ⌜ LongEnough (now member) (length (now «node_list»)) (length (now «cell_list»)) ⌝ }
     ensures { λ r. ⌜ AllTotalled (now (member .entry)) (now (totals .entry)) (now (nodes .entry)) (now (cells .entry)) dimension r (now (totals .exit)) (now (nodes .exit)) (now (cells .exit)) ⌝ }
 {
-    let a = read_member(member, node_list, cell_list);
+    let a = read_into(member, node_list, cell_list);
     let fine = a.refusal == 0;
     if fine {
         accepted_all(

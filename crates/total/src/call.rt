@@ -2,8 +2,8 @@
 ghost use mathlib.Core.Path.{_≡_};
 ghost use lib.ListN.{length};
 ghost use lib.Dec.{leb};
+ghost use Rattle.member.specs.IntoLists.{LongEnough};
 ghost use Rattle.total.specs.Answers.{Totalled};
-ghost use Rattle.total.specs.Laws.Rooms.{Roomy};
 ghost use Rattle.total.specs.Laws.Reading.{Taken};
 ghost use Rattle.total.specs.Laws.Areas as areas;
 ghost use Rattle.total.specs.Laws.Call as spec;
@@ -12,7 +12,7 @@ use crate::leaf::leaf_answer;
 use crate::leaf::refused;
 use layout::Step;
 use member::Answer;
-use member::read_member;
+use member::read_into;
 use sizes::CELL_WORDS;
 use sizes::NODE_WORDS;
 use store::words::put;
@@ -78,7 +78,7 @@ fn accepted(
     x
 }
 
-// Reads a member into two lists that have room for its records.
+// Reads a member into two lists that are long enough for its records.
 pub fn with_lists(
     member: &[u8],
     dimension: u32,
@@ -88,10 +88,10 @@ pub fn with_lists(
     nodes: &mut [u32],
     cells: &mut [u32],
 ) -> LeafTotal
-    requires { ⌜ Roomy (now member) (length (now «node_list»)) (length (now «cell_list»)) ⌝ }
+    requires { ⌜ LongEnough (now member) (length (now «node_list»)) (length (now «cell_list»)) ⌝ }
     ensures { λ r. ⌜ Totalled (now (member .entry)) (now (nodes .entry)) (now (cells .entry)) dimension leaf r (now (nodes .exit)) (now (cells .exit)) ⌝ }
 {
-    let a = read_member(member, node_list, cell_list);
+    let a = read_into(member, node_list, cell_list);
     let fine = a.refusal == 0;
     if fine {
         accepted(

@@ -10,7 +10,7 @@ pub read-member-spec : {M : Type 1} → statement M
 read-member-spec =
     tie.close
     (tie.spec
-    (λ c κs. (omega arith, omega arith)) (λ c κs. search needs) (λ c. search needs) (λ c. search needs)
+    (λ _ _. tt) (λ c κs. search needs) (λ c. search needs) (λ c. search needs)
     (λ c.
     let z = c .before .before .before .before .before .before .before .before .before .before in
     let a = z .before .args in

@@ -41,6 +41,11 @@ place-short (left l v k r) = omega (arith, place-inside (left l v k r))
 never : {A : Type 0} {y : Got A} {t : A} {r : List ℕ} {p n q : ℕ} → y ≡ got t r p → y ≡ no n q → ⊥
 never e f = let z : _≡_ {A = ℕ} 0 1 = cc in omega arith
 
+-- a refusal has a number
+pub not-zero : (bs : List ℕ) → Bytes bs → {n p : ℕ} → checked bs ≡ no n p → n ≡ 0 → ⊥
+unfolding among
+not-zero bs b {n} {p} e = not-number 0 n refl (number-among (checked-exactly bs b n p .0 e))
+
 module _ (bs : List ℕ) (b : Bytes bs) (N C : List ℕ) where
   refused : (n p : ℕ) → checked bs ≡ no n p → Demand3 bs N C (refusal n p 0 0) N C
   unfolding refusal among
@@ -48,7 +53,7 @@ module _ (bs : List ℕ) (b : Bytes bs) (N C : List ℕ) where
       let f = checked-exactly bs b n p .0 e in
       let k = number-among f in
       let none : (m : MemberDerivation bs) → AsDemanded (m .tree) → ⊥ = λ m d. never (derivation-checked bs b m d) e in
-      let zero = not-number 0 n refl k in
+      let zero = not-zero bs b e in
       record {
         accepted-exactly = (λ z. absurd (zero z), λ a. absurd (none (a .derivation) (a .demanded)));
         yields = λ a. absurd (none (a .derivation) (a .demanded));

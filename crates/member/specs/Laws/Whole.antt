@@ -6,10 +6,10 @@ use Prim.Native.Nat.{ℕ, zero, suc, _+_, _-_, _*_, _^_, _≤_, _<_, min}
 use native.Mathlib.Nat.{zero-add, sub-zero, zero-sub, suc-sub-suc}
 use native.Mathlib.Omega.{arith}
 use lib.ListN.{length, take, drop, getD, replicate, length-append, length-drop, length-replicate, length-map}
-use lib.Seq.{sets, length-sets, sets-eq, take-at, drop-drop, getD-drop}
-use lib.Dec.{leb}
-use borrow.Author.Tests.{leb-true, leb-false, le-leb, lt-leb}
-use Rattle.sizes.specs.Sizes.{member-bytes, most-dimensions, most-nodes, most-cells, most-places, node-words, cell-words, dimension-words, node-area, cell-area, dimension-area, dimension-n}
+use lib.Seq.{sets, sets-eq, take-at, drop-drop, getD-drop}
+use lib.Dec.{eqb, leb}
+use borrow.Author.Tests.{leb-true, leb-false, le-leb, lt-leb, eq-eqb, ne-eqb}
+use Rattle.sizes.specs.Sizes.{member-bytes, most-dimensions, most-cells, most-places, node-words, cell-words, dimension-words, node-area, cell-area, dimension-area, dimension-n}
 use Rattle.layout.specs.declared.Step.{Step}
 use Rattle.layout.specs.declared.Step.the-variants.{Next, Refused}
 use Rattle.layout.specs.Layout.{Tree, spell, passes, Bytes, Valid, pick, size}
@@ -31,17 +31,18 @@ use Rattle.table.specs.Rules.{dimensionsRule, placesOf, countsRule, axesRule, c
 use Rattle.table.specs.Laws.Lengths.{size-all}
 use Rattle.table.specs.Laws.LeastBytes.{cells-bytes, least-cell}
 use Rattle.table.specs.Laws.Words.{width-rows}
-use Rattle.table.specs.Laws.Within.{needed, within, is-within}
+use Rattle.table.specs.Laws.Within.{needed, within, is-within, Scratch}
 use Rattle.table.specs.Laws.Dims.{Kept, kept, AllDims, width-dims, node-records, node-room, width-entries}
 use Rattle.cells.specs.declared.AxisCounts.the-variants as counts
 use Rattle.cells.specs.Laws.Axes.{Order, AllAxes}
 use Rattle.cells.specs.Laws.Cells.{AllCells, cell-records, cell-room}
 use Rattle.member.specs.declared.Answer.{Answer}
 use Rattle.member.specs.declared.Tail.{Tail}
-use Rattle.member.specs.Member.{Member, version as memberVersion, body-at, order, cells, nodes, cellsStart, nodeRecords, dimensionEntries, cellRecords, frontSection, dimensionsSection, axesSection}
+use Rattle.member.specs.Member.{Member, version as memberVersion, body-at, dimensions, dimensionsAt, order, cells, nodes, cellsStart, nodeRecords, dimensionEntries, cellRecords, frontSection, dimensionsSection, axesSection}
 use Rattle.member.specs.Refused.{bodyRule, memberRule}
 use Rattle.member.specs.Checked.{ended, checked}
 use Rattle.member.specs.Answer.{zeros, refusal, accepted, answerOf, nodesAfter, cellsAfter, Delivered}
+use Rattle.member.specs.IntoLists.{has-room, LongEnough, intoLists, Stored, all-stored, not-stored}
 use Rattle.member.specs.Laws.Demanded.{ended-got}
 use Rattle.member.specs.Laws.Header.{Bound}
 
@@ -111,45 +112,25 @@ sizes-drop ws (suc k) i =
 
 -- ---- the whole
 
--- the bytes of a member that is read with small lists, with medium ones and with large ones
-abbrev pub small-lists : ℕ
-small-lists = 2560
+-- the last step, and every other that has no room for a member
+pub room-last : (k n : ℕ) → 2 < k → has-room k n ≡ true
+unfolding has-room
+room-last zero n h = absurd (omega arith)
+room-last (suc zero) n h = absurd (omega arith)
+room-last (suc (suc zero)) n h = absurd (omega arith)
+room-last (suc (suc (suc k))) n h = refl
 
-abbrev pub medium-lists : ℕ
-medium-lists = 4608
+pub not-last : (k n : ℕ) → has-room k n ≡ false → k < 3
+unfolding has-room
+not-last zero n e = omega arith
+not-last (suc zero) n e = omega arith
+not-last (suc (suc zero)) n e = omega arith
+not-last (suc (suc (suc k))) n e = absurd (let z : _≡_ {A = ℕ} 0 1 = cc in omega arith)
 
-abbrev pub large-lists : ℕ
-large-lists = 16384
-
--- how many bytes a member has at most that is read at a step
-unfoldable pub most-bytes : ℕ → ℕ
-most-bytes zero = small-lists
-most-bytes (suc zero) = medium-lists
-most-bytes (suc (suc zero)) = large-lists
-most-bytes (suc (suc (suc n))) = member-bytes
-
-pub most-bytes-last : (n : ℕ) → 2 < n → most-bytes n ≡ member-bytes
-unfolding most-bytes
-most-bytes-last zero h = absurd (omega arith)
-most-bytes-last (suc zero) h = absurd (omega arith)
-most-bytes-last (suc (suc zero)) h = absurd (omega arith)
-most-bytes-last (suc (suc (suc n))) h = refl
-
--- a step that has no room for a member is not the last
-pub not-last : (n : ℕ) {m l : ℕ} → m ≡ most-bytes n → m < l → l ≤ member-bytes → n < 3
-unfolding most-bytes
-not-last zero e h k = omega arith
-not-last (suc zero) e h k = omega arith
-not-last (suc (suc zero)) e h k = omega arith
-not-last (suc (suc (suc n))) e h k = absurd (omega arith)
-
--- two lists of zeros, with room for the records of a member that is no longer than members are
+-- a member that is no longer than members are, and two lists that are long enough for its records
 pub record ReadyLists (s ns cs : List ℕ) : Type 0 where
   pub short : length s ≤ member-bytes
-  pub clear-nodes : ns ≡ replicate (length ns) 0
-  pub for-nodes : needed node-records (length s) ≤ length ns
-  pub clear-cells : cs ≡ replicate (length cs) 0
-  pub for-cells : needed cell-records (length s) ≤ length cs
+  pub long : LongEnough s (length ns) (length cs)
 
 -- the end after what comes after something
 ended-after : {A B : Type 0} (x : Got A) (f g : A → List ℕ → ℕ → Got B) → ((t : A) (s : List ℕ) (at : ℕ) → ended (f t s at) ≡ g t s at) → ended (bind x f) ≡ bind x g
@@ -166,21 +147,17 @@ ended-bind (got t s at) f = go (leb (length s) (lead 0x01 1 s))
     go true = refl
     go false = refl
 
--- words in front of zeros
+-- words in front of a list, and of zeros
 drop-zeros : (k n : ℕ) → drop k (replicate {A = ℕ} n 0) ≡ replicate (n - k) 0
 drop-zeros zero n = rw sub-zero
 drop-zeros (suc k) zero = rw zero-sub
 drop-zeros (suc k) (suc n) = rw suc-sub-suc (drop-zeros k n)
 
-in-front : (n : ℕ) (W : List ℕ) → length W ≤ n → sets (replicate n 0) 0 W ≡ W ++ replicate (n - length W) 0
-in-front n W h =
-    let fit : 0 + length W ≤ length (replicate {A = ℕ} n 0) = rw length-replicate (omega arith) in
-    rw (sets-eq W (replicate n 0) 0 fit, zero-add, drop-zeros (length W) n)
+over : (ws W : List ℕ) (k : ℕ) → length W ≡ k → k ≤ length ws → sets ws 0 W ≡ W ++ drop k ws
+over ws W k e h = let fit : 0 + length W ≤ length ws = omega (arith, e, h) in rw (sets-eq W ws 0 fit, zero-add, e)
 
-taken : (ws W : List ℕ) (k : ℕ) → ws ≡ replicate (length ws) 0 → length W ≡ k → k ≤ length ws → take k (sets ws 0 W) ≡ W
-taken ws W k clear e h =
-    let l : length W ≤ length ws = omega (arith, e, h) in
-    ap (λ (zs : List ℕ). take k (sets zs 0 W)) clear ∙ ap (take k) (in-front (length ws) W l) ∙ take-at W (replicate (length ws - length W) 0) k e
+in-front : (n : ℕ) (W : List ℕ) → length W ≤ n → sets (replicate n 0) 0 W ≡ W ++ replicate (n - length W) 0
+in-front n W h = over (replicate n 0) W (length W) refl (rw length-replicate (omega arith)) ∙ rw (drop-zeros (length W) n)
 
 -- what the code hands on
 abbrev pub answered : ℕ → ℕ → Tail → List ℕ → ℕ → ℕ → ℕ → Answer
@@ -194,11 +171,11 @@ same-answer e₁ e₂ e₃ e₄ e₅ e₆ e₇ e₈ = rw (e₁, e₂, e₃, e₄
 
 -- ---- what is delivered
 
--- what is delivered of an answer a that accepts, with its records in front of two lists of words
-pub record Filled (a : Answer) (node-list cell-list nodes cells : List ℕ) (r : Answer) (nodes′ cells′ : List ℕ) : Type 0 where
-  pub answer : r ≡ pick (leb (node-words * a .nodes) (length nodes)) (pick (leb (cell-words * a .cells) (length cells)) a (refusal 13 0 (a .nodes) (a .cells))) (refusal 12 0 (a .nodes) (a .cells))
-  pub node-area : nodes′ ≡ pick (leb (node-words * a .nodes) (length nodes)) (pick (leb (cell-words * a .cells) (length cells)) (take (node-words * a .nodes) node-list ++ drop (node-words * a .nodes) nodes) nodes) nodes
-  pub cell-area : cells′ ≡ pick (leb (node-words * a .nodes) (length nodes)) (pick (leb (cell-words * a .cells) (length cells)) (take (cell-words * a .cells) cell-list ++ drop (cell-words * a .cells) cells) cells) cells
+-- the first k words of a list and the first m of another over those of two areas, where these are large enough, and 0; or the refusal
+pub record Filled (k m : ℕ) (node-list cell-list nodes cells : List ℕ) (n : ℕ) (nodes′ cells′ : List ℕ) : Type 0 where
+  pub refusal : n ≡ pick (leb k (length nodes)) (pick (leb m (length cells)) 0 13) 12
+  pub node-area : nodes′ ≡ pick (leb k (length nodes)) (pick (leb m (length cells)) (take k node-list ++ drop k nodes) nodes) nodes
+  pub cell-area : cells′ ≡ pick (leb k (length nodes)) (pick (leb m (length cells)) (take m cell-list ++ drop m cells) cells) cells
 
 pub not-delivered : (s : List ℕ) {n p : ℕ} → checked s ≡ no n p → {N C : List ℕ} → Delivered (checked s) N C (refusal n p 0 0) N C
 unfolding answerOf nodesAfter cellsAfter
@@ -218,36 +195,79 @@ cells-start : (t : Tree Member) → let v = memberVersion t in cellsStart t ≡ 
 unfolding size spell
 cells-start t = simp length-append (omega arith)
 
--- a table that was read: its tree, the answer, and its records in front of two lists of words
-pub record Told (s : List ℕ) (a : Answer) (ms vs : List ℕ) : Type 0 where
-  pub tree : Tree Member
-  pub rest : List ℕ
-  pub place : ℕ
-  pub is : checked s ≡ got tree rest place
-  pub answer : a ≡ accepted tree
-  pub nodes-stored : take (node-words * nodes tree) ms ≡ nodeRecords tree
-  pub cells-stored : take (cell-words * length (cells tree)) vs ≡ cellRecords tree
-  pub few-nodes : nodes tree ≤ most-nodes
-  pub few-cells : length (cells tree) ≤ most-cells
-  pub node-room : node-words * nodes tree ≤ length ms
-  pub cell-room : cell-words * length (cells tree) ≤ length vs
+-- how many words the records have
+node-width : (t : Tree Member) → length (nodeRecords t) ≡ node-words * nodes t
+node-width t = width-dims (memberVersion t) 0 0 (dimensionsAt t) (dimensions t)
 
-pub delivered : {s : List ℕ} {a : Answer} {ms vs : List ℕ} → Told s a ms vs → {N C : List ℕ} {r : Answer} {N′ C′ : List ℕ} → Filled a ms vs N C r N′ C′ → Delivered (checked s) N C r N′ C′
-unfolding accepted answerOf nodesAfter cellsAfter
-delivered {s} {a} {ms} {vs} t {N} {C} {r} {N′} {C′} f =
-    let f′ : Filled (accepted (t .tree)) ms vs N C r N′ C′ = rw (t .answer) at f in
-    rw (t .is) (record {
-      answer = f′ .answer;
-      node-area = f′ .node-area ∙ rw (t .nodes-stored);
-      cell-area = f′ .cell-area ∙ rw (t .cells-stored);
-    })
+cell-width : (t : Tree Member) → length (cellRecords t) ≡ cell-words * length (cells t)
+cell-width t = width-rows cell-words (size (Cell (memberVersion t))) (cellWords (memberVersion t)) (λ _ _. refl) (cellsStart t) (cells t)
 
-pub told-room : {s : List ℕ} {a : Answer} {ms vs : List ℕ} → Told s a ms vs → (node-words * a .nodes ≤ length ms) × (cell-words * a .cells ≤ length vs) × (a .nodes ≤ most-nodes) × (a .cells ≤ most-cells)
-unfolding accepted
-told-room t =
-    let n = ap (λ (a : Answer). a .nodes) (t .answer) in
-    let c = ap (λ (a : Answer). a .cells) (t .answer) in
-    (omega (arith, n, t .node-room), omega (arith, c, t .cell-room), omega (arith, n, t .few-nodes), omega (arith, c, t .few-cells))
+-- the answer with a refusal n of the areas, or with 0
+abbrev withRefusal : ℕ → Answer → Answer
+withRefusal n a = pick (eqb n 0) a (refusal n 0 (a .nodes) (a .cells))
+
+by-areas : (is-wide is-long : Bool) (a : Answer) → withRefusal (pick is-wide (pick is-long 0 13) 12) a ≡ pick is-wide (pick is-long a (refusal 13 0 (a .nodes) (a .cells))) (refusal 12 0 (a .nodes) (a .cells))
+unfolding pick
+by-areas true true a = refl
+by-areas true false a = refl
+by-areas false is-long a = refl
+
+module _ {ms vs N C N′ C′ : List ℕ} {n : ℕ} where
+  of-tree : (t : Tree Member) (r : List ℕ) (p : ℕ) (others-n others-c : List ℕ) → ms ≡ nodeRecords t ++ others-n → vs ≡ cellRecords t ++ others-c
+      → Filled (node-words * nodes t) (cell-words * length (cells t)) ms vs N C n N′ C′ → Delivered (got t r p) N C (withRefusal n (accepted t)) N′ C′
+  unfolding accepted answerOf nodesAfter cellsAfter
+  of-tree t r p others-n others-c e f x =
+      let node-front : take (node-words * nodes t) ms ≡ nodeRecords t = ap (take (node-words * nodes t)) e ∙ take-at (nodeRecords t) others-n (node-words * nodes t) (node-width t) in
+      let cell-front : take (cell-words * length (cells t)) vs ≡ cellRecords t = ap (take (cell-words * length (cells t))) f ∙ take-at (cellRecords t) others-c (cell-words * length (cells t)) (cell-width t) in
+      record {
+        answer = ap (λ (k : ℕ). withRefusal k (accepted t)) (x .refusal) ∙ by-areas (leb (node-words * nodes t) (length N)) (leb (cell-words * length (cells t)) (length C)) (accepted t);
+        node-area = x .node-area ∙ rw node-front;
+        cell-area = x .cell-area ∙ rw cell-front;
+      }
+
+  of-refusal : (m p : ℕ) → Filled (node-words * 0) (cell-words * 0) ms vs N C n N′ C′ → Delivered (no m p) N C (withRefusal n (refusal m p 0 0)) N′ C′
+  unfolding answerOf nodesAfter cellsAfter pick
+  of-refusal m p x =
+      let wide = le-leb 0 (length N) (omega arith) in
+      let long = le-leb 0 (length C) (omega arith) in
+      record { answer = ap (λ (k : ℕ). withRefusal k (refusal m p 0 0)) (x .refusal) ∙ rw (wide, long); node-area = x .node-area ∙ rw (wide, long); cell-area = x .cell-area ∙ rw (wide, long) }
+
+  delivered : {ns cs : List ℕ} {y : Got (Tree Member)} {a : Answer} → Stored ns cs y a ms vs → Filled (node-words * a .nodes) (cell-words * a .cells) ms vs N C n N′ C′ → Delivered y N C (withRefusal n a) N′ C′
+  unfolding accepted refusal
+  delivered {ns} {cs} (all-stored {t = t} {r = r} {p = p} e f g) x = rw e (of-tree t r p (drop (node-words * nodes t) ns) (drop (cell-words * length (cells t)) cs) f g (rw e at x))
+  delivered (not-stored {n = m} {p = p} e f g) x = rw e (of-refusal m p (rw e at x))
+
+  -- what was read into lists, with the refusal of the areas or without
+  module _ {ns cs : List ℕ} {y : Got (Tree Member)} {a : Answer} (h : Stored ns cs y a ms vs) (x : Filled (node-words * a .nodes) (cell-words * a .cells) ms vs N C n N′ C′) where
+    pub all-delivered : n ≡ 0 → Delivered y N C a N′ C′
+    unfolding pick
+    all-delivered e = rw (eq-eqb n 0 e) at (delivered h x)
+
+    pub none-delivered : (n ≡ 0 → ⊥) → Delivered y N C (refusal n 0 (a .nodes) (a .cells)) N′ C′
+    unfolding pick
+    none-delivered e = rw (ne-eqb n 0 e) at (delivered h x)
+
+-- the lists have room for what is delivered
+pub stored-room : {ns cs : List ℕ} {y : Got (Tree Member)} {a : Answer} {ms vs : List ℕ} → Stored ns cs y a ms vs → (node-words * a .nodes ≤ length ms) × (cell-words * a .cells ≤ length vs)
+unfolding accepted refusal
+stored-room {ns} {cs} (all-stored {t = t} e f g) =
+    let k = length-append (nodeRecords t) (drop (node-words * nodes t) ns) in
+    let m = length-append (cellRecords t) (drop (cell-words * length (cells t)) cs) in
+    rw (e, f, g) (omega (arith, k, node-width t), omega (arith, m, cell-width t))
+stored-room (not-stored e f g) = rw e (omega arith, omega arith)
+
+pub none-stored : (y : Got (Tree Member)) {n p : ℕ} → y ≡ no n p → {ns cs ms vs : List ℕ} → Scratch ns ms → Scratch cs vs → Stored ns cs y (refusal n p 0 0) ms vs
+none-stored y e f g = rw e (not-stored refl f g)
+
+-- lists that are long enough are not refused
+pub as-checked : (s : List ℕ) {k m : ℕ} → LongEnough s k m → intoLists s k m ≡ checked s
+unfolding within checked pick
+as-checked s {k} {m} h = go (leb (length s) member-bytes)
+  where
+    go : (b : Bool) → pick b (pick (leb (needed node-records (length s)) k) (pick b (pick (leb (needed cell-records (length s)) m) (pick b (ended (check memberRule s 0)) (no 1 0)) (no 13 0)) (no 1 0)) (no 12 0)) (no 1 0)
+        ≡ pick b (ended (check memberRule s 0)) (no 1 0)
+    go true = rw (le-leb (needed node-records (length s)) k (h .0), le-leb (needed cell-records (length s)) m (h .1))
+    go false = refl
 
 module _ (version : ℕ) where
   -- ---- after the dimensions
@@ -396,15 +416,12 @@ module _ (version : ℕ) where
       pub no-dims : {n p : ℕ} → Dimensioned (off n p) → checked s ≡ no n p
       unfolding bind
       no-dims k =
-          let k′ = rw (is-within node-records s (length ns) (check (dimensionsRule version) (drop at s) at) (room .short) (room .for-nodes)) at k in
+          let k′ = rw (is-within node-records s (length ns) (check (dimensionsRule version) (drop at s) at) (room .short) (room .long .0)) at k in
           rw (in-sections s (room .short) hd, start .is, kept-off k′)
 
       module _ {next d used : ℕ} {ms es : List ℕ} (k : Dimensioned (on next (kept d used ms es))) where
         dims : Reached s (AllDims version at ns (replicate dimension-area 0)) (check (dimensionsRule version) (drop at s) at) next (kept d used ms es)
-        dims = kept-on (rw (is-within node-records s (length ns) (check (dimensionsRule version) (drop at s) at) (room .short) (room .for-nodes)) at k)
-
-        pub same-length : length ms ≡ length ns
-        same-length = ap length (dims .keeps .words) ∙ length-sets ns 0 (dimsWords version 0 0 (at + 4) (dimsOf version (dims .tree)))
+        dims = kept-on (rw (is-within node-records s (length ns) (check (dimensionsRule version) (drop at s) at) (room .short) (room .long .0)) at k)
 
         ts : List (Tree (Dimension version))
         ts = dimsOf version (dims .tree)
@@ -436,12 +453,12 @@ module _ (version : ℕ) where
                 let q-is : q ≡ p = cc in
                 rw (in-sections s (room .short) hd, start .is, dims .is, f, m-is, q-is)
 
-        pub with-tail : {t : Tail} {vs : List ℕ} → TailRead s next d es cs t vs → {l r c q : ℕ} → t .axes ≡ counts.Of l r c q → Told s (answered d used t es l r c) ms vs
+        pub with-tail : {t : Tail} {vs : List ℕ} → TailRead s next d es cs t vs → {l r c q : ℕ} → t .axes ≡ counts.Of l r c q → Stored ns cs (checked s) (answered d used t es l r c) ms vs
         unfolding bind ts zeros accepted
         with-tail h {l} {r} {c} {q} e₁ = go (tail-of h) refl e₁
           where
             go : {y : Got (Tree Axes × Tree (Cells version))} {t : Tail} {vs : List ℕ} → TailIs s next cs y t vs → afterDims ts (drop next s) next ≡ y → t .axes ≡ counts.Of l r c q
-                → Told s (answered d used t es l r c) ms vs
+                → Stored ns cs (checked s) (answered d used t es l r c) ms vs
             go (tail-on {a = a} {c = x} {r = rest} {p = p} {t = t} {vs = vs} l′ r′ c′ q′ o k) f g =
                 let l-is : l′ ≡ l = cc in
                 let r-is : r′ ≡ r = cc in
@@ -461,27 +478,16 @@ module _ (version : ℕ) where
                 ∙ ap (λ (n : ℕ). (dimsEntries version) 0 (n + 4) ts ++ zeros (dimension-area - length (dimsEntries version 0 (n + 4) ts))) at-is in
                 let order-is : t .order ≡ order tree ++ zeros (most-dimensions - length (order tree)) =
                 k .order ∙ in-front most-dimensions (map entryIndex (axisEntries a)) (omega (arith, length-map (axisEntries a) entryIndex, k .few-entries)) in
-                let node-fit : node-words * nodes tree ≤ length ns = node-room s (length ns) (room .for-nodes) (nodes tree) (omega arith) (omega arith) in
-                let cell-fit : cell-words * length (cells tree) ≤ length cs = cell-room s (length cs) (room .for-cells) (length (cells tree)) (k .few) (k .bytes) in
-                record {
-                  tree = tree;
-                  rest = rest;
-                  place = p;
-                  is = rw (in-sections s (room .short) hd, start .is, dims .is, f);
-                  answer =
-                      same-answer (word-same d (omega arith) ∙ d-is) (word-same used (omega arith) ∙ used-is) (word-same (t .cells) (omega (arith, k .count, k .few)) ∙ k .count) entries-is
-                      (sym l-is ∙ k .on-layers) (sym r-is ∙ k .on-rows) (sym c-is ∙ k .on-columns) order-is;
-                  nodes-stored =
-                      ap (take (node-words * nodes tree)) (dims .keeps .words)
-                      ∙ taken ns (dimsWords version 0 0 (at + 4) ts) (node-words * nodes tree) (room .clear-nodes) (width-dims version 0 0 (at + 4) ts) node-fit
-                      ∙ ap (λ (n : ℕ). (dimsWords version) 0 0 (n + 4) ts) at-is;
-                  cells-stored =
-                      ap (take (cell-words * length (cells tree))) (k .stored)
-                      ∙ taken cs (rowsWords (size (Cell version)) (cellWords version) (next + size Axes a + 4) (cellsOf version x)) (cell-words * length (cells tree)) (room .clear-cells) (width-rows cell-words (size (Cell version)) (cellWords version) (λ _ _. refl) (next + size Axes a + 4) (cellsOf version x)) cell-fit
-                      ∙ ap (λ (n : ℕ). rowsWords (size (Cell version)) (cellWords version) n (cellsOf version x)) cells-at;
-                  few-nodes = omega arith;
-                  few-cells = k .few;
-                  node-room = omega (arith, node-fit, ap length (dims .keeps .words), length-sets ns 0 (dimsWords version 0 0 (at + 4) ts));
-                  cell-room = omega (arith, cell-fit, ap length (k .stored), length-sets cs 0 (rowsWords (size (Cell version)) (cellWords version) (next + size Axes a + 4) (cellsOf version x)));
-                }
+                let node-fit : node-words * nodes tree ≤ length ns = node-room s (length ns) (room .long .0) (nodes tree) (omega arith) (omega arith) in
+                let cell-fit : cell-words * length (cells tree) ≤ length cs = cell-room s (length cs) (room .long .1) (length (cells tree)) (k .few) (k .bytes) in
+                let is : checked s ≡ got tree rest p = rw (in-sections s (room .short) hd, start .is, dims .is, f) in
+                rw is
+                (all-stored
+                (same-answer (word-same d (omega arith) ∙ d-is) (word-same used (omega arith) ∙ used-is) (word-same (t .cells) (omega (arith, k .count, k .few)) ∙ k .count) entries-is
+                (sym l-is ∙ k .on-layers) (sym r-is ∙ k .on-rows) (sym c-is ∙ k .on-columns) order-is)
+                (dims .keeps .words ∙ over ns (dimsWords version 0 0 (at + 4) ts) (node-words * nodes tree) (width-dims version 0 0 (at + 4) ts) node-fit
+                ∙ ap (λ (n : ℕ). dimsWords version 0 0 (n + 4) ts ++ drop (node-words * nodes tree) ns) at-is)
+                (k .stored
+                ∙ over cs (rowsWords (size (Cell version)) (cellWords version) (next + size Axes a + 4) (cellsOf version x)) (cell-words * length (cells tree)) (width-rows cell-words (size (Cell version)) (cellWords version) (λ _ _. refl) (next + size Axes a + 4) (cellsOf version x)) cell-fit
+                ∙ ap (λ (n : ℕ). rowsWords (size (Cell version)) (cellWords version) n (cellsOf version x) ++ drop (cell-words * length (cells tree)) cs) cells-at))
             go (tail-off x) f g = absurd (let z : _≡_ {A = ℕ} 0 1 = cc in omega arith)

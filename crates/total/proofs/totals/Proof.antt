@@ -8,15 +8,10 @@ pub totals-spec : {M : Type 1} → statement M
 totals-spec =
     tie.close
     (tie.spec
-    (λ c κs. search needs) (λ c κs. search needs) (λ c. search needs) (λ c. search needs) (λ c. search needs)
+    (λ _ _. tt) (λ c. search needs) (λ c. search needs) (λ _ _. tt) (λ c. search needs) (λ c. search needs) (λ c. search needs)
     (λ c.
-    let z = c .before .before .before .before .before .before .before .before .before .before .before .before .before .before in
-    let a = z .before .args in
-    let x = c .before .before .before .before .before .before .totals-short .ensures in
-    (x, all-by-derivation (bytes-of _ (z .shared-slice-known .given)) (a .nodes .now) (a .cells .now) (a .dimension) (a .totals .now) x))
+    let a = c .before .before .before .before .before .before .before .before .before .before .before .before .before .before .before .before .before .args in
+    let x = rw (c .before .x .given .1) at (c .before .before .before .before .before .before .before .before .before .from-step .ensures) in
+    (x, all-by-derivation (bytes-of _ (c .before .before .before .before .before .before .before .before .before .before .before .before .before .before .before .before .shared-slice-known .given)) (a .nodes .now) (a .cells .now) (a .dimension) (a .totals .now) x))
     (λ c. search needs) (λ c. search needs) (λ c. search needs)
-    (λ c.
-    let z = c .before .before .before .before .before .before .before .before .before .before .before .before .before .before in
-    let a = z .before .args in
-    let x = c .before .before .before .before .before .before .totals-long .ensures in
-    (x, all-by-derivation (bytes-of _ (z .shared-slice-known .given)) (a .nodes .now) (a .cells .now) (a .dimension) (a .totals .now) x)))
+    (λ c. absurd (rw (c .before .enum-told .given .1) at (c .before .before .before .before .before .before .before .before .before .from-step .ensures))))

@@ -12,7 +12,7 @@ use Rattle.total.specs.declared.LeafTotal.{LeafTotal}
 use Rattle.total.specs.Total.{cellsSay, memberCells, under, leafSums}
 use Rattle.total.specs.Answers.{refused, totalled, answered, there, leafAnswer}
 use Rattle.total.specs.Laws.Sums.{sums-within}
-use Rattle.total.specs.Laws.Rooms.{few-cells}
+use Rattle.total.specs.Laws.LeafIs.{few-cells}
 
 as-many : (v at : ℕ) (cs : List (Tree (Cell v))) → length (cellsSay v at cs) ≡ length cs
 unfolding cellsSay

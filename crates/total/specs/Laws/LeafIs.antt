@@ -26,6 +26,10 @@ left-true : (a b : Bool) → (a && b) ≡ true → a ≡ true
 left-true true b e = refl
 left-true false b e = e
 
+pub few-cells : {bs : List ℕ} (d : MemberDerivation bs) → length (cells (d .tree)) ≤ most-cells
+unfolding passes
+few-cells d = rw (d .valid .1 .2 .1 .2 .0) (leb-true (cellsSection (d .tree) .0) most-cells (d .valid .1 .2 .1 .1))
+
 module _ {bs : List ℕ} (d : MemberDerivation bs) (dem : AsDemanded (d .tree)) where
   -- the words of the dimensions in an answer
   entries : List ℕ
@@ -45,10 +49,6 @@ module _ {bs : List ℕ} (d : MemberDerivation bs) (dem : AsDemanded (d .tree)) 
   few : count ≤ most-dimensions
   unfolding count passes
   few = rw (d .valid .1 .2 .0 .0 .1 .2 .0) (leb-true (dimensionsSection (d .tree) .0) most-dimensions (d .valid .1 .2 .0 .0 .1 .1))
-
-  few-cells : length (cells (d .tree)) ≤ most-cells
-  unfolding passes
-  few-cells = rw (d .valid .1 .2 .1 .2 .0) (leb-true (cellsSection (d .tree) .0) most-cells (d .valid .1 .2 .1 .1))
 
   -- the places of the dimensions from i on
   places-from : 0 < places (d .tree) → (i : ℕ) → i ≤ count → placesOf entries count i ≡ product (drop i (ns (d .tree)))
@@ -76,7 +76,7 @@ module _ {bs : List ℕ} (d : MemberDerivation bs) (dem : AsDemanded (d .tree)) 
       ≡ leafSums (d .tree) i leaf
   sums-are i leaf rest h =
       let next : i + 1 ≡ suc i = omega arith in
-      rw (version-is d, min-eq-left few-cells, member-cells d rest)
+      rw (version-is d, min-eq-left (few-cells d), member-cells d rest)
       (leaf-sums (d .tree) dem i leaf (omega (arith, how-many)) (placesOf entries count i) (placesOf entries count (i + 1))
       (λ p. (places-from p i (omega arith), rw next (places-from p (suc i) (omega arith)))))
 

@@ -1,0 +1,14 @@
+use mathlib.Core.Path.{sym}
+use native.Mathlib.Omega.{arith}
+use Rattle.member.specs.IntoLists.{has-room}
+use Rattle.member.specs.Laws.Whole.{room-last}
+use Rattle.member.proofs.has_room.Statement.{statement}
+use Rattle.member.proofs.has_room.Tie as tie
+
+pub has-room-spec : {M : Type 1} → statement M
+unfolding has-room
+has-room-spec =
+    tie.close
+    (tie.spec
+    (λ c. rw (c .match .keys1)) (λ c. rw (c .match .keys2)) (λ c. rw (c .match .keys3))
+    (λ c. sym (room-last (c .before .args .step) (c .before .args .bytes) (omega (arith, c .match .rest .1, c .match .rest .0 .1, c .match .rest .0 .0 .1)))))

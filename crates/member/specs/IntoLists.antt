@@ -1,0 +1,48 @@
+-- What `read_into` answers, and what its two lists then hold; and lists in steps by the member's length.
+use mathlib.Core.Path.{_≡_}
+use mathlib.Core.Bool.{Bool, true}
+use mathlib.Core.List.{List, _++_}
+use Prim.Native.Nat.{ℕ, zero, suc, _*_, _≤_}
+use lib.ListN.{length, drop}
+use lib.Dec.{leb}
+use Rattle.sizes.specs.Sizes.{node-words, cell-words}
+use Rattle.layout.specs.Layout.{Tree}
+use Rattle.layout.specs.Read.{Got, got, no}
+use Rattle.table.specs.Laws.Within.{needed, within, Scratch}
+use Rattle.table.specs.Laws.Dims.{node-records}
+use Rattle.cells.specs.Laws.Cells.{cell-records}
+use Rattle.member.specs.declared.Answer.{Answer}
+use Rattle.member.specs.Member.{Member, cells, nodes, nodeRecords, cellRecords}
+use Rattle.member.specs.Checked.{checked}
+use Rattle.member.specs.Answer.{refusal, accepted}
+
+-- lists of those lengths have room for the records of all that the bytes can hold
+abbrev pub LongEnough : List ℕ → ℕ → ℕ → Type 0
+LongEnough bs node-length cell-length = (needed node-records (length bs) ≤ node-length) × (needed cell-records (length bs) ≤ cell-length)
+
+-- a list that has not is refused before anything is read: that of the nodes by 12, that of the cells by 13, both at 0
+abbrev pub intoLists : List ℕ → ℕ → ℕ → Got (Tree Member)
+intoLists bs node-length cell-length = within node-records bs node-length (within cell-records bs cell-length (checked bs))
+
+-- the answer, and both lists then: the records, and beyond them what was there; after a refusal as many words, which may be any
+pub data Stored (node-list cell-list : List ℕ) : Got (Tree Member) → Answer → List ℕ → List ℕ → Type 0 where
+  all-stored : {t : Tree Member} {r : List ℕ} {p : ℕ} {a : Answer} {ms vs : List ℕ} → a ≡ accepted t → ms ≡ nodeRecords t ++ drop (node-words * nodes t) node-list
+      → vs ≡ cellRecords t ++ drop (cell-words * length (cells t)) cell-list → Stored node-list cell-list (got t r p) a ms vs
+  not-stored : {n p : ℕ} {a : Answer} {ms vs : List ℕ} → a ≡ refusal n p 0 0 → Scratch node-list ms → Scratch cell-list vs → Stored node-list cell-list (no n p) a ms vs
+
+-- the bytes of a member that is read with small lists, with medium ones and with large ones
+abbrev pub small-lists : ℕ
+small-lists = 2560
+
+abbrev pub medium-lists : ℕ
+medium-lists = 4608
+
+abbrev pub large-lists : ℕ
+large-lists = 16384
+
+-- the lists of step 0, 1 and 2 are these; those of every other have room for each member
+unfoldable pub has-room : ℕ → ℕ → Bool
+has-room zero n = leb n small-lists
+has-room (suc zero) n = leb n medium-lists
+has-room (suc (suc zero)) n = leb n large-lists
+has-room (suc (suc (suc k))) n = true
