@@ -30,7 +30,7 @@ pub data Stored (node-list cell-list : List ℕ) : Got (Tree Member) → Answer 
       → vs ≡ cellRecords t ++ drop (cell-words * length (cells t)) cell-list → Stored node-list cell-list (got t r p) a ms vs
   not-stored : {n p : ℕ} {a : Answer} {ms vs : List ℕ} → a ≡ refusal n p 0 0 → Scratch node-list ms → Scratch cell-list vs → Stored node-list cell-list (no n p) a ms vs
 
--- the bytes of a member that is read with small lists, with medium ones and with large ones
+-- the bytes of a member that is read with the lists of each step
 abbrev pub small-lists : ℕ
 small-lists = 2560
 
@@ -38,11 +38,19 @@ abbrev pub medium-lists : ℕ
 medium-lists = 4608
 
 abbrev pub large-lists : ℕ
-large-lists = 16384
+large-lists = 8192
 
--- the lists of step 0, 1 and 2 are these; those of every other have room for each member
+abbrev pub larger-lists : ℕ
+larger-lists = 16384
+
+abbrev pub largest-lists : ℕ
+largest-lists = 32768
+
+-- the lists of step 0 to 4 are these; those of every other have room for each member
 unfoldable pub has-room : ℕ → ℕ → Bool
 has-room zero n = leb n small-lists
 has-room (suc zero) n = leb n medium-lists
 has-room (suc (suc zero)) n = leb n large-lists
-has-room (suc (suc (suc k))) n = true
+has-room (suc (suc (suc zero))) n = leb n larger-lists
+has-room (suc (suc (suc (suc zero)))) n = leb n largest-lists
+has-room (suc (suc (suc (suc (suc k))))) n = true

@@ -14,7 +14,7 @@ ghost use Rattle.cells.specs.Laws.Cells.{AllCells, cellsOut, cell-records};
 ghost use Rattle.member.specs.Answer as spec;
 ghost use Rattle.member.specs.Answer.{Delivered};
 ghost use Rattle.member.specs.IntoLists as lists;
-ghost use Rattle.member.specs.IntoLists.{small-lists, medium-lists, large-lists, intoLists, Stored, LongEnough};
+ghost use Rattle.member.specs.IntoLists.{small-lists, medium-lists, large-lists, larger-lists, largest-lists, intoLists, Stored, LongEnough};
 ghost use Rattle.member.specs.Demand3.{Demand3};
 ghost use Rattle.member.specs.Checked.{ended, checked};
 ghost use Rattle.member.specs.Laws.Header.{Bound, HeaderRead};
@@ -48,13 +48,17 @@ use table::Section;
 use table::Walk;
 use table::dimensions;
 
-// The bytes of a member that is read with small lists, with medium ones and with large ones: these have room for the records that so many
-// bytes hold at most.
+// The bytes of a member that is read with the lists of each step: these have room for the records that so many bytes hold at most. From
+// the second step on a list is about twice as long as the one before, so what is cleared goes with the member's length.
 pub const SMALL_LISTS: usize = 2560;
 
 pub const MEDIUM_LISTS: usize = 4608;
 
-pub const LARGE_LISTS: usize = 16384;
+pub const LARGE_LISTS: usize = 8192;
+
+pub const LARGER_LISTS: usize = 16384;
+
+pub const LARGEST_LISTS: usize = 32768;
 
 // The version of a member and where what follows it starts; or the refusal.
 enum Head {
@@ -383,6 +387,26 @@ fn with_large_lists(member: &[u8], nodes: &mut [u32], cells: &mut [u32]) -> Answ
     read_with_lists(member, &mut node_list, &mut cell_list, nodes, cells)
 }
 
+// A member that is read with larger lists.
+fn with_larger_lists(member: &[u8], nodes: &mut [u32], cells: &mut [u32]) -> Answer
+    requires { ⌜ length (now member) ≤ larger-lists ⌝ }
+    ensures { λ r. ⌜ Delivered (checked (now (member .entry))) (now (nodes .entry)) (now (cells .entry)) r (now (nodes .exit)) (now (cells .exit)) ⌝ }
+{
+    let mut node_list = [0u32; LARGER_LISTS / LEAST_CATEGORY * NODE_WORDS];
+    let mut cell_list = [0u32; LARGER_LISTS / LEAST_CELL * CELL_WORDS];
+    read_with_lists(member, &mut node_list, &mut cell_list, nodes, cells)
+}
+
+// A member that is read with largest lists.
+fn with_largest_lists(member: &[u8], nodes: &mut [u32], cells: &mut [u32]) -> Answer
+    requires { ⌜ length (now member) ≤ largest-lists ⌝ }
+    ensures { λ r. ⌜ Delivered (checked (now (member .entry))) (now (nodes .entry)) (now (cells .entry)) r (now (nodes .exit)) (now (cells .exit)) ⌝ }
+{
+    let mut node_list = [0u32; LARGEST_LISTS / LEAST_CATEGORY * NODE_WORDS];
+    let mut cell_list = [0u32; LARGEST_LISTS / LEAST_CELL * CELL_WORDS];
+    read_with_lists(member, &mut node_list, &mut cell_list, nodes, cells)
+}
+
 // A member of any length.
 fn with_full_lists(member: &[u8], nodes: &mut [u32], cells: &mut [u32]) -> Answer
     ensures { λ r. ⌜ Delivered (checked (now (member .entry))) (now (nodes .entry)) (now (cells .entry)) r (now (nodes .exit)) (now (cells .exit)) ⌝ }
@@ -392,7 +416,7 @@ fn with_full_lists(member: &[u8], nodes: &mut [u32], cells: &mut [u32]) -> Answe
     read_with_lists(member, &mut node_list, &mut cell_list, nodes, cells)
 }
 
-// Whether the lists of a step have room for the records of so many bytes: small ones, medium ones, large ones, and those of every other step.
+// Whether the lists of a step have room for the records of so many bytes: from small ones to the largest, and those of every other step.
 pub fn has_room(step: usize, bytes: usize) -> bool
     ensures { λ r. ⌜ r ≡ lists.has-room step bytes ⌝ }
 {
@@ -400,6 +424,8 @@ pub fn has_room(step: usize, bytes: usize) -> bool
         0 => bytes <= SMALL_LISTS,
         1 => bytes <= MEDIUM_LISTS,
         2 => bytes <= LARGE_LISTS,
+        3 => bytes <= LARGER_LISTS,
+        4 => bytes <= LARGEST_LISTS,
         _ => true,
     }
 }
@@ -415,6 +441,8 @@ fn read_from_step(member: &[u8], step: usize, nodes: &mut [u32], cells: &mut [u3
             0 => with_small_lists(member, nodes, cells),
             1 => with_medium_lists(member, nodes, cells),
             2 => with_large_lists(member, nodes, cells),
+            3 => with_larger_lists(member, nodes, cells),
+            4 => with_largest_lists(member, nodes, cells),
             _ => with_full_lists(member, nodes, cells),
         }
     } else {

@@ -1,7 +1,7 @@
 // Both calls, with lists by the length of the member: short ones are sooner cleared, and a small member takes a small stack.
 ghost use Prim.Native.Nat.{_≤_};
 ghost use lib.ListN.{length};
-ghost use Rattle.member.specs.IntoLists.{LongEnough, small-lists, medium-lists, large-lists};
+ghost use Rattle.member.specs.IntoLists.{LongEnough, small-lists, medium-lists, large-lists, larger-lists, largest-lists};
 ghost use Rattle.total.specs.Laws.Asked.{Answered};
 use crate::DimensionTotals;
 use crate::LeafTotal;
@@ -9,6 +9,8 @@ use crate::all::all_with_lists;
 use crate::call::with_lists;
 use cells::LEAST_CELL;
 use member::LARGE_LISTS;
+use member::LARGER_LISTS;
+use member::LARGEST_LISTS;
 use member::MEDIUM_LISTS;
 use member::SMALL_LISTS;
 use member::has_room;
@@ -144,6 +146,58 @@ fn with_large_lists(
     )
 }
 
+// A member that is read with larger lists.
+fn with_larger_lists(
+    member: &[u8],
+    dimension: u32,
+    asked: Asked,
+    totals: &mut [u32],
+    nodes: &mut [u32],
+    cells: &mut [u32],
+) -> Said
+    requires { ⌜ length (now member) ≤ larger-lists ⌝ }
+    ensures { λ r. ⌜ Answered (now (member .entry)) (now (totals .entry)) (now (nodes .entry)) (now (cells .entry)) dimension asked r (now (totals .exit)) (now (nodes .exit)) (now (cells .exit)) ⌝ }
+{
+    let mut node_list = [0u32; LARGER_LISTS / LEAST_CATEGORY * NODE_WORDS];
+    let mut cell_list = [0u32; LARGER_LISTS / LEAST_CELL * CELL_WORDS];
+    either_with_lists(
+        member,
+        dimension,
+        asked,
+        &mut node_list,
+        &mut cell_list,
+        totals,
+        nodes,
+        cells,
+    )
+}
+
+// A member that is read with largest lists.
+fn with_largest_lists(
+    member: &[u8],
+    dimension: u32,
+    asked: Asked,
+    totals: &mut [u32],
+    nodes: &mut [u32],
+    cells: &mut [u32],
+) -> Said
+    requires { ⌜ length (now member) ≤ largest-lists ⌝ }
+    ensures { λ r. ⌜ Answered (now (member .entry)) (now (totals .entry)) (now (nodes .entry)) (now (cells .entry)) dimension asked r (now (totals .exit)) (now (nodes .exit)) (now (cells .exit)) ⌝ }
+{
+    let mut node_list = [0u32; LARGEST_LISTS / LEAST_CATEGORY * NODE_WORDS];
+    let mut cell_list = [0u32; LARGEST_LISTS / LEAST_CELL * CELL_WORDS];
+    either_with_lists(
+        member,
+        dimension,
+        asked,
+        &mut node_list,
+        &mut cell_list,
+        totals,
+        nodes,
+        cells,
+    )
+}
+
 // A member of any length.
 fn with_full_lists(
     member: &[u8],
@@ -188,6 +242,8 @@ pub fn from_step(
             0 => with_small_lists(member, dimension, asked, totals, nodes, cells),
             1 => with_medium_lists(member, dimension, asked, totals, nodes, cells),
             2 => with_large_lists(member, dimension, asked, totals, nodes, cells),
+            3 => with_larger_lists(member, dimension, asked, totals, nodes, cells),
+            4 => with_largest_lists(member, dimension, asked, totals, nodes, cells),
             _ => with_full_lists(member, dimension, asked, totals, nodes, cells),
         }
     } else {

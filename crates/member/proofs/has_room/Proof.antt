@@ -10,5 +10,7 @@ unfolding has-room
 has-room-spec =
     tie.close
     (tie.spec
-    (λ c. rw (c .match .keys1)) (λ c. rw (c .match .keys2)) (λ c. rw (c .match .keys3))
-    (λ c. sym (room-last (c .before .args .step) (c .before .args .bytes) (omega (arith, c .match .rest .1, c .match .rest .0 .1, c .match .rest .0 .0 .1)))))
+    (λ c. rw (c .match .keys1)) (λ c. rw (c .match .keys2)) (λ c. rw (c .match .keys3)) (λ c. rw (c .match .keys4)) (λ c. rw (c .match .keys5))
+    (λ c.
+    let r = c .match .rest in
+    sym (room-last (c .before .args .step) (c .before .args .bytes) (omega (arith, r .1, r .0 .1, r .0 .0 .1, r .0 .0 .0 .1, r .0 .0 .0 .0 .1)))))

@@ -113,19 +113,23 @@ sizes-drop ws (suc k) i =
 -- ---- the whole
 
 -- the last step, and every other that has no room for a member
-pub room-last : (k n : ℕ) → 2 < k → has-room k n ≡ true
+pub room-last : (k n : ℕ) → 4 < k → has-room k n ≡ true
 unfolding has-room
 room-last zero n h = absurd (omega arith)
 room-last (suc zero) n h = absurd (omega arith)
 room-last (suc (suc zero)) n h = absurd (omega arith)
-room-last (suc (suc (suc k))) n h = refl
+room-last (suc (suc (suc zero))) n h = absurd (omega arith)
+room-last (suc (suc (suc (suc zero)))) n h = absurd (omega arith)
+room-last (suc (suc (suc (suc (suc k))))) n h = refl
 
-pub not-last : (k n : ℕ) → has-room k n ≡ false → k < 3
+pub not-last : (k n : ℕ) → has-room k n ≡ false → k < 5
 unfolding has-room
 not-last zero n e = omega arith
 not-last (suc zero) n e = omega arith
 not-last (suc (suc zero)) n e = omega arith
-not-last (suc (suc (suc k))) n e = absurd (let z : _≡_ {A = ℕ} 0 1 = cc in omega arith)
+not-last (suc (suc (suc zero))) n e = omega arith
+not-last (suc (suc (suc (suc zero)))) n e = omega arith
+not-last (suc (suc (suc (suc (suc k))))) n e = absurd (let z : _≡_ {A = ℕ} 0 1 = cc in omega arith)
 
 -- a member that is no longer than members are, and two lists that are long enough for its records
 pub record ReadyLists (s ns cs : List ℕ) : Type 0 where
