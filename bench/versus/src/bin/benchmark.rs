@@ -520,8 +520,24 @@ fn texts() {
         let (length, times) = (utf8.len(), from_utf8_times(page, &utf8));
         row(&format!("{name}, from UTF-8 | {length}"), length, times);
     }
-    let text = mixed(TEXT_BYTES, u64::MAX, b" ", &mut random);
-    row(&format!("ASCII to UTF-8; as Rust a copy | {TEXT_BYTES}"), TEXT_BYTES, copy_times(&text));
+    println!("\n### Text beside a copy\n");
+    println!("The Polish page; the output has room for every text.\n");
+    println!("| text | bytes | to UTF-8, µs | a copy, µs | to UTF-8 : a copy |");
+    println!("|---|---:|---:|---:|---:|");
+    for (name, times) in [
+        ("ASCII", u64::MAX),
+        ("one byte in 4,096 not ASCII", 4_096),
+        ("one byte in 1,024 not ASCII", 1_024),
+        ("one byte in 64 not ASCII", 64),
+    ] {
+        let times = copy_times(1250, &mixed(TEXT_BYTES, times, &last, &mut random));
+        println!(
+            "| {name} | {TEXT_BYTES} | {:.2} | {:.2} | {:.2} |",
+            times.rattle / 1e3,
+            times.rust / 1e3,
+            times.ratio()
+        );
+    }
 }
 
 /// Times with an output that always suffices.
@@ -550,14 +566,14 @@ fn from_utf8_times(page: u32, text: &[u8]) -> Times {
 }
 
 /// The library's time beside that of copying the bytes.
-fn copy_times(text: &[u8]) -> Times {
+fn copy_times(page: u32, text: &[u8]) -> Times {
     measure(
-        &mut (vec![0; text.len()], vec![0; TEXT_ANSWER]),
+        &mut (vec![0; 2 * text.len()], vec![0; TEXT_ANSWER]),
         |(out, answer)| {
-            black_box(lent::to_utf8(1252, black_box(text), out, answer));
+            black_box(lent::to_utf8(page, black_box(text), out, answer));
         },
         |(out, _)| {
-            out.copy_from_slice(black_box(text));
+            out[..text.len()].copy_from_slice(black_box(text));
             black_box(out);
         },
     )
