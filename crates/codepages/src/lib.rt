@@ -25,7 +25,6 @@ use crate::tables::BACK_1251;
 use crate::tables::BACK_1252;
 use crate::tables::ENTRIES;
 use crate::tables::PAGES;
-use crate::tables::Page;
 use crate::utf8::NO_CODE_POINT;
 use crate::utf8::THREE_BYTES;
 use crate::utf8::TWO_BYTES;
@@ -53,10 +52,11 @@ const OUTPUT_SHORT: u32 = 15;
 
 // ---- the two functions
 
-// A refusal, 0 for none, with its place; and how many bytes were written.
+// A refusal, 0 for none, with its place; and how many bytes were written. (Place and length are not neighbours: the compiler would read both
+// at once, and the processor would wait for the two stores before.)
 pub struct Answer {
-    pub refusal: u32,
     pub place: usize,
+    pub refusal: u32,
     pub length: usize,
 }
 
@@ -96,29 +96,26 @@ fn page_number(page: u32) -> usize
     k
 }
 
-// To UTF-8, by the entries of the page.
+// To UTF-8, by the entries of the page. Each page is taken from the table by a constant and lent where it was taken, so that it alone is
+// copied, and in whole vectors.
 fn to_page(k: usize, input: &[u8], out: &mut [u8]) -> Answer
     requires { ⌜ k < pages.page-count ⌝ }
     ensures { λ r. ⌜ r ≡ spec.answer (spec.outcome (spec.to k) (length (now (out .entry))) (now (input .entry))) ⌝ }
     ensures { λ _. ⌜ now (out .exit) ≡ spec.after (spec.outcome (spec.to k) (length (now (out .entry))) (now (input .entry))) (now (out .entry)) ⌝ }
 {
-    let page = page_of(k);
-    let t = page.entries;
-    in_page(&t, b"", k, false, input, out)
-}
-
-// A page's entries. Each is taken from the table by a constant, so that no other is copied.
-fn page_of(k: usize) -> Page
-    requires { ⌜ k < pages.page-count ⌝ }
-    ensures { λ r. ⌜ r .entries ≡ pages.page k ⌝ }
-{
     if k == 0 {
-        return PAGES[0];
+        let page = PAGES[0];
+        let t = page.entries;
+        return in_page(&t, b"", k, false, input, out);
     }
     if k == 1 {
-        return PAGES[1];
+        let page = PAGES[1];
+        let t = page.entries;
+        return in_page(&t, b"", k, false, input, out);
     }
-    PAGES[2]
+    let page = PAGES[2];
+    let t = page.entries;
+    in_page(&t, b"", k, false, input, out)
 }
 
 // From UTF-8, by the page's way back.
