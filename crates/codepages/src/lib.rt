@@ -13,12 +13,14 @@ ghost use Rattle.codepages.specs.Pages as pages;
 ghost use Rattle.codepages.specs.Utf8 as utf8_spec;
 ghost use Rattle.codepages.specs.Convert as spec;
 ghost use Rattle.codepages.specs.Laws.Places.{groups, rowsOf, look};
-ghost use Rattle.codepages.specs.Laws.Passes.{half, Run, Skips, Found, Grown, Counts, Ready, Wrote};
+ghost use Rattle.codepages.specs.Laws.Passes.{half, block, Run, Skips, Found, Grown, Counts, Ready, Wrote};
 ghost use Rattle.codepages.specs.Laws.Usual.{many, oddOf, Usual};
 ghost use Rattle.codepages.specs.Laws.Pairs.{firstOf};
 ghost use Rattle.codepages.specs.Laws.Back.{orNone};
 ghost use Rattle.codepages.specs.Laws.Answers.{Numbered};
 use crate::ascii::ASCII;
+use crate::ascii::BLOCK;
+use crate::ascii::leading;
 use crate::ascii::run_end;
 use crate::tables::BACK_1250;
 use crate::tables::BACK_1251;
@@ -152,7 +154,7 @@ fn in_page(t: &[u16], y: &[u8], k: usize, back: bool, input: &[u8], out: &mut [u
     }
     let run = copy_run(input, 0, m.run, out, 0);
     let each = dense(input.len(), m.length);
-    write(t, y, k, back, each, input, run, out);
+    write(t, y, k, back, each, input, run, out, m.length);
     Answer {
         refusal: 0,
         place: 0,
@@ -351,7 +353,8 @@ fn dense(n: usize, m: usize) -> bool {
     n / 16 < n - m
 }
 
-// Writes what the text from `start` on becomes, from that place of the output on: each byte by itself, or by runs.
+// Writes what the text from `start` on becomes, from that place of the output on, which ends at `end`: by blocks unless each byte is to be stored
+// by itself, and then the characters that are left.
 fn write(
     t: &[u16],
     y: &[u8],
@@ -361,42 +364,73 @@ fn write(
     input: &[u8],
     start: usize,
     out: &mut [u8],
+    end: usize,
 )
-    requires { ⌜ (k < pages.page-count) × (start ≤ length (now input)) × (back ≡ false → now t ≡ pages.page k) × (back ≡ true → now y ≡ rowsOf k) × Ready (spec.way back k) (now input) start (now out) start ⌝ }
+    requires { ⌜ (k < pages.page-count) × (start ≤ length (now input)) × (back ≡ false → now t ≡ pages.page k) × (back ≡ true → now y ≡ rowsOf k) × Ready (spec.way back k) (now input) start (now out) start × (end ≡ start + length (spec.output (spec.way back k) 0 (drop start (now input)))) ⌝ }
     ensures { λ _. ⌜ now (out .exit) ≡ sets (now (out .entry)) start (spec.output (spec.way back k) 0 (drop start (now (input .entry)))) ⌝ }
 {
     let mut i = start;
     let mut w = start;
+    while block_fits(each, input.len() - i, end - w) {
+        let s = store_block(t, y, k, back, input, i, out, w);
+        i += s.taken;
+        w += s.made;
+    }
     while i < input.len() {
-        let s = store(t, y, k, back, each, input, i, out, w);
+        let s = store_one(t, y, k, back, input, i, out, w);
         i += s.taken;
         w += s.made;
     }
 }
 
-// Stores what stands at a place: a run of bytes under 128 unless each byte is stored by itself, or one character.
-fn store(
+// Whether a block is to be stored where n bytes are left to read and m to write.
+fn block_fits(each: bool, n: usize, m: usize) -> bool
+    ensures { λ r. ⌜ (r ≡ true → (block ≤ n) × (block ≤ m)) ⌝ }
+{
+    if each {
+        return false;
+    }
+    if n < BLOCK {
+        return false;
+    }
+    BLOCK <= m
+}
+
+// Stores a block, of which the bytes before the first that isn't under 128 count; and the character there. What the others become overwrites
+// the rest of the block.
+fn store_block(
     t: &[u16],
     y: &[u8],
     k: usize,
     back: bool,
-    each: bool,
     input: &[u8],
     i: usize,
     out: &mut [u8],
     w: usize,
 ) -> Taken
-    requires { ⌜ (k < pages.page-count) × (i < length (now input)) × (back ≡ false → now t ≡ pages.page k) × (back ≡ true → now y ≡ rowsOf k) × Ready (spec.way back k) (now input) i (now out) w ⌝ }
+    requires { ⌜ (k < pages.page-count) × (i + block ≤ length (now input)) × (back ≡ false → now t ≡ pages.page k) × (back ≡ true → now y ≡ rowsOf k) × Ready (spec.way back k) (now input) i (now out) w × (block ≤ length (spec.output (spec.way back k) 0 (drop i (now input)))) × (length (now out) < half) ⌝ }
     ensures { λ r. ⌜ Wrote (spec.way back k) (now (input .entry)) i (now (out .entry)) w (r .taken) (r .made) (now (out .exit)) ⌝ }
 {
-    if each {
-        return store_one(t, y, k, back, input, i, out, w);
-    }
-    if input[i] < ASCII {
-        let n = copy_run(input, i, run_end(input, i + 1), out, w);
+    copy_block(input, i, out, w);
+    let n = leading(input, i);
+    if n == BLOCK {
         return Taken { taken: n, made: n };
     }
-    store_one(t, y, k, back, input, i, out, w)
+    let s = store_one(t, y, k, back, input, i + n, out, w + n);
+    Taken {
+        taken: n + s.taken,
+        made: n + s.made,
+    }
+}
+
+// Stores a block. (By a copy of its own, which neither slice can overlap: so it is read and stored in whole vectors.)
+fn copy_block(input: &[u8], i: usize, out: &mut [u8], w: usize)
+    requires { ⌜ (i + block ≤ length (now input)) × (w + block ≤ length (now out)) ⌝ }
+    ensures { λ _. ⌜ now (out .exit) ≡ sets (now (out .entry)) w (take block (drop i (now (input .entry)))) ⌝ }
+{
+    let mut held: [u8; BLOCK] = [0; BLOCK];
+    bytes::copy(&input[i..i + BLOCK], &mut held);
+    copy_run(&held, 0, BLOCK, out, w);
 }
 
 // Stores one character.

@@ -149,12 +149,6 @@ module _ (back : Bool) (k : ℕ) (u : List ℕ) (i r : ℕ) (a : getD u i 0 < as
   pub run-found : length u < half → Found (way back k) u i (r - i) (r - i)
   run-found h = found-some (omega arith) (rw run-length at (skips run-passes)) (omega arith)
 
-  pub run-fits : {o : List ℕ} {w : ℕ} → Ready (way back k) u i o w → w + (r - i) ≤ length o
-  run-fits t = rw run-length at (fits t run-passes)
-
-  pub run-wrote : {o : List ℕ} {w : ℕ} {o′ : List ℕ} → o′ ≡ sets o w (take (r - i) (drop i u)) → Wrote (way back k) u i o w (r - i) (r - i) o′
-  run-wrote {o} {w} {o′} e = rw run-length at (wrote {o = o} {w = w} {o′ = o′} run-passes (omega arith) e)
-
 -- the run that a text begins with: both passes go on from its end
 module _ (back : Bool) (k : ℕ) {u : List ℕ} {r : ℕ} (t : Run u 0 r) where
   first-passes : Passes (way back k) u 0 r (take r u)
@@ -188,6 +182,9 @@ module _ (back : Bool) (k : ℕ) {u : List ℕ} {r : ℕ} (t : Run u 0 r) where
         let y : length (output (way back k) 0 u) ≡ r + length (output (way back k) 0 (drop r u)) = rw zero-add at (first-skips .counts) in
         let l : length o′ ≡ length o = ap length first-copied ∙ length-sets o 0 (take r u) in
         rw first-end (record { ends = sym p ∙ e; roomy = omega arith })
+
+    pub first-rest : (m : ℕ) → m ≡ length (output (way back k) 0 u) → m ≡ n + length (output (way back k) 0 (drop n u))
+    first-rest m e = rw first-end (e ∙ (rw zero-add at (first-skips .counts)))
 
     pub first-then : {o″ : List ℕ} → o″ ≡ sets o′ n (output (way back k) 0 (drop n u)) → o″ ≡ output (way back k) 0 u ++ drop (length (output (way back k) 0 u)) o
     first-then q =
