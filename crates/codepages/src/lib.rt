@@ -4,7 +4,7 @@ mod tables; // the constant tables
 mod utf8; // the rows of UTF-8
 
 ghost use mathlib.Core.Path.{_≡_};
-ghost use Prim.Native.Nat.{_+_, _-_, _/_, _≤_, _<_};
+ghost use Prim.Native.Nat.{_+_, _-_, _*_, _/_, _≤_, _<_};
 ghost use mathlib.Core.Bool.{true, false};
 ghost use mathlib.Core.List.{_++_};
 ghost use lib.ListN.{getD, length, take, drop};
@@ -234,7 +234,7 @@ fn find(t: &[u16], y: &[u8], k: usize, back: bool, input: &[u8], i: usize) -> Ta
     find_to(t, k, input, i)
 }
 
-// A run of bytes under 128, or one character.
+// A run of bytes under 128, or characters of two bytes, or one character.
 fn find_back(y: &[u8], k: usize, input: &[u8], i: usize) -> Taken
     requires { ⌜ (k < pages.page-count) × (i < length (now input)) × (now y ≡ rowsOf k) ⌝ }
     ensures { λ r. ⌜ Found (spec.from k) (now (input .entry)) i (r .taken) (r .made) ⌝ }
@@ -242,6 +242,13 @@ fn find_back(y: &[u8], k: usize, input: &[u8], i: usize) -> Taken
     if input[i] < ASCII {
         let n = run_end(input, i + 1) - i;
         return Taken { taken: n, made: n };
+    }
+    let m = find_twos(y, k, input, i);
+    if 0 < m {
+        return Taken {
+            taken: 2 * m,
+            made: m,
+        };
     }
     let c = character(y, k, input, i);
     if NO_BYTE <= c {
@@ -251,6 +258,32 @@ fn find_back(y: &[u8], k: usize, input: &[u8], i: usize) -> Taken
         taken: lead_size(input[i]),
         made: 1,
     }
+}
+
+// How many characters of two bytes stand at a place, one after the other. (A loop of its own, since they come in runs.)
+fn find_twos(y: &[u8], k: usize, input: &[u8], i: usize) -> usize
+    requires { ⌜ (k < pages.page-count) × (i ≤ length (now input)) × (now y ≡ rowsOf k) ⌝ }
+    ensures { λ r. ⌜ Skips (spec.from k) (now (input .entry)) i (2 * r) r ⌝ }
+{
+    let mut m: usize = 0;
+    while two_at(y, k, input, i + 2 * m) {
+        m += 1;
+    }
+    m
+}
+
+// Whether a character of two bytes stands at a place, and in the page.
+fn two_at(y: &[u8], k: usize, input: &[u8], j: usize) -> bool
+    requires { ⌜ (k < pages.page-count) × (now y ≡ rowsOf k) ⌝ }
+    ensures { λ r. ⌜ (r ≡ true → Skips (spec.from k) (now (input .entry)) j 2 1) ⌝ }
+{
+    if input.len() <= j {
+        return false;
+    }
+    if input[j] / 32 == 6 {
+        return character(y, k, input, j) < NO_BYTE;
+    }
+    false
 }
 
 // Many usual bytes, or few, or one byte.
