@@ -44,8 +44,21 @@ fn low(input: &[u8], i: usize, n: usize) -> bool
     joined(input, i, n) < ASCII
 }
 
-// A place up to which all bytes from `start` on are under 128. (The first of another kind, or the end; but any such place serves, so the
-// contract says no more.)
+// A place up to which all bytes from `start` on are under 128: the end of the last of as many that are tested together.
+pub fn long_run_end(input: &[u8], start: usize) -> usize
+    ensures { λ r. ⌜ Run (now (input .entry)) start r ⌝ }
+{
+    if input.len() <= start {
+        return start;
+    }
+    let mut i = start;
+    while low(input, i, MANY) {
+        i += MANY;
+    }
+    i
+}
+
+// The same to the last byte. (The first of another kind, or the end; but any such place serves, so the contract says no more.)
 pub fn run_end(input: &[u8], start: usize) -> usize
     ensures { λ r. ⌜ Run (now (input .entry)) start r ⌝ }
 {
@@ -55,10 +68,7 @@ pub fn run_end(input: &[u8], start: usize) -> usize
     if ASCII <= input[start] {
         return start;
     }
-    let mut i = start;
-    while low(input, i, MANY) {
-        i += MANY;
-    }
+    let mut i = long_run_end(input, start);
     while low(input, i, FEW) {
         i += FEW;
     }

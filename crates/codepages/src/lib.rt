@@ -21,6 +21,7 @@ ghost use Rattle.codepages.specs.Laws.Answers.{Numbered};
 use crate::ascii::ASCII;
 use crate::ascii::BLOCK;
 use crate::ascii::leading;
+use crate::ascii::long_run_end;
 use crate::ascii::run_end;
 use crate::tables::BACK_1250;
 use crate::tables::BACK_1251;
@@ -294,6 +295,10 @@ fn find_to(t: &[u16], k: usize, input: &[u8], i: usize) -> Taken
     let rest = input.len() - i;
     let n = at_most(rest, MANY);
     let m = usual(k, input, i, n);
+    if m == n {
+        let r = long_run_end(input, i + n) - i;
+        return Taken { taken: r, made: r };
+    }
     if 0 < m {
         return Taken { taken: n, made: m };
     }
@@ -404,10 +409,12 @@ fn write(
 {
     let mut i = start;
     let mut w = start;
+    let mut long = false;
     while block_fits(each, input.len() - i, end - w) {
-        let s = store_block(t, y, k, back, input, i, out, w);
+        let s = store_part(t, y, k, back, long, input, i, out, w);
         i += s.taken;
         w += s.made;
+        long = s.taken == BLOCK;
     }
     while i < input.len() {
         let s = store_one(t, y, k, back, input, i, out, w);
@@ -427,6 +434,31 @@ fn block_fits(each: bool, n: usize, m: usize) -> bool
         return false;
     }
     BLOCK <= m
+}
+
+// Stores what stands at a place: a long run of bytes under 128, which is looked for after a whole block of them, or a block.
+fn store_part(
+    t: &[u16],
+    y: &[u8],
+    k: usize,
+    back: bool,
+    long: bool,
+    input: &[u8],
+    i: usize,
+    out: &mut [u8],
+    w: usize,
+) -> Taken
+    requires { ⌜ (k < pages.page-count) × (i + block ≤ length (now input)) × (back ≡ false → now t ≡ pages.page k) × (back ≡ true → now y ≡ rowsOf k) × Ready (spec.way back k) (now input) i (now out) w × (block ≤ length (spec.output (spec.way back k) 0 (drop i (now input)))) × (length (now out) < half) ⌝ }
+    ensures { λ r. ⌜ Wrote (spec.way back k) (now (input .entry)) i (now (out .entry)) w (r .taken) (r .made) (now (out .exit)) ⌝ }
+{
+    if long {
+        let e = long_run_end(input, i);
+        if i < e {
+            let n = copy_run(input, i, e, out, w);
+            return Taken { taken: n, made: n };
+        }
+    }
+    store_block(t, y, k, back, input, i, out, w)
 }
 
 // Stores a block, of which the bytes before the first that isn't under 128 count; and the character there. What the others become overwrites

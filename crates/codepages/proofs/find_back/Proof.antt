@@ -15,8 +15,7 @@ find-back-spec = tie.close (tie.spec
     (λ c.
     let i = c .before in
     let a = i .before .before .before .before .args in
-    let r = c .run-end .ensures in
-    run-found true (a .k) (a .input .now) (a .i) _ (i .if1 .taken) (r .onward) (r .inside (omega arith)) (r .all) (omega arith))
+    run-found true (a .k) (a .input .now) (a .i) _ (i .if1 .taken) (omega arith) (c .run-end .ensures) (omega arith))
     (λ c κs. let s = c .before .before .before .before in (s .pre .0, omega arith, s .pre .2))
     (λ c. omega (arith, c .before .find-twos .ensures .inside))
     (λ c. let m = c .before .find-twos .ensures in found-some (omega arith) m (omega (arith, m .inside)))

@@ -8,16 +8,16 @@ use Rattle.codepages.proofs.write.Statement.{statement}
 use Rattle.codepages.proofs.write.Tie as tie
 
 abbrev Inv-loop : tie.InvT-loop
-Inv-loop t y k back each input start out₀ end i₀ w₀ out i w = (Writing (way back k) input i₀ w₀ out₀ out i w) × (length out₀ < half) × (end ≡ w + length (output (way back k) 0 (drop i input)))
+Inv-loop t y k back each input start out₀ end i₀ w₀ long₀ out i w long = (Writing (way back k) input i₀ w₀ out₀ out i w) × (length out₀ < half) × (end ≡ w + length (output (way back k) 0 (drop i input)))
 
 abbrev μ-loop : tie.MeasureT-loop
-μ-loop t y k back each input start out₀ end i₀ w₀ out i w = length input - i
+μ-loop t y k back each input start out₀ end i₀ w₀ long₀ out i w long = length input - i
 
 abbrev Inv-loop2 : tie.InvT-loop2
-Inv-loop2 t y k back each input start out₀ end i₀ w₀ out i w = (Writing (way back k) input i₀ w₀ out₀ out i w) × (length out₀ < half)
+Inv-loop2 t y k back each input start out₀ end i₀ w₀ long out i w = (Writing (way back k) input i₀ w₀ out₀ out i w) × (length out₀ < half)
 
 abbrev μ-loop2 : tie.MeasureT-loop2
-μ-loop2 t y k back each input start out₀ end i₀ w₀ out i w = length input - i
+μ-loop2 t y k back each input start out₀ end i₀ w₀ long out i w = length input - i
 
 pub write-spec : {M : Type 1} → statement M
 write-spec = tie.close (tie.spec Inv-loop μ-loop Inv-loop2 μ-loop2
@@ -31,18 +31,18 @@ write-spec = tie.close (tie.spec Inv-loop μ-loop Inv-loop2 μ-loop2
     let s = l .before .before .before .before .before in
     let b = c .before .before .block-fits .ensures (c .before .if1 .taken) in
     (s .pre .0, omega (arith, b .0, v .0 .inside), s .pre .2, s .pre .3, v .0 .ready, omega (arith, b .1, v .2), omega (arith, v .0 .same, v .1)))
-    (λ c. omega (arith, c .before .before .before .store-block .ensures .skipped .inside))
+    (λ c. omega (arith, c .before .before .before .store-part .ensures .skipped .inside))
     (λ c.
     let e = c .before .before .before .before in
     let v = e .before .before .before .before .loop .inv in
-    omega (arith, e .store-block .ensures .skipped .counts, v .0 .ready .roomy, v .0 .same, v .1))
+    omega (arith, e .store-part .ensures .skipped .counts, v .0 .ready .roomy, v .0 .same, v .1))
     (λ c.
-    let e = c .before .before .before .before .store-block .ensures in
+    let e = c .before .before .before .before .before .store-part .ensures in
     omega (arith, e .skipped .inside, e .some))
     (λ c.
-    let e = c .before .before .before .before in
+    let e = c .before .before .before .before .before in
     let v = e .before .before .before .before .loop .inv in
-    (writing-step (v .0) (e .store-block .ensures), v .1, omega (arith, v .2, e .store-block .ensures .skipped .counts)))
+    (writing-step (v .0) (e .store-part .ensures), v .1, omega (arith, v .2, e .store-part .ensures .skipped .counts)))
     (λ c. let v = c .before .before .loop .inv in (writing (v .0 .inside) (v .0 .ready), omega (arith, v .0 .same, v .1)))
     (λ c κs.
     let l = c .before .before in

@@ -71,6 +71,13 @@ ascii-on u start i n h a b =
 pub ascii-start : (u : List ℕ) (i : ℕ) → Ascii u i (i - i)
 ascii-start u i = let z : i - i ≡ 0 = omega arith in rw z (ascii-none u i)
 
+pub run-none : (u : List ℕ) (i : ℕ) → Run u i i
+run-none u i = record { onward = omega arith; inside = λ h. h; all = ascii-start u i }
+
+pub run-more : {u : List ℕ} {start i n : ℕ} → Run u start i → (i + n ≤ length u) × Ascii u i n → Run u start (i + n)
+run-more {u} {start} {i} {n} t s =
+    record { onward = omega (arith, t .onward); inside = λ _. s .0; all = ascii-on u start i n (t .onward) (t .all) (s .1) }
+
 -- the `or` of two numbers is under 128 only if both are: a run goes on by one byte
 pub ascii-or : (u : List ℕ) (i n bits : ℕ) → (bits < ascii → Ascii u i n) → bitOr bits (getD u (i + n) 0) < ascii → Ascii u i (n + 1)
 ascii-or u i n bits a h =
