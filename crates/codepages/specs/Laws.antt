@@ -6,6 +6,7 @@ pub mod Steps
 pub mod SameText
 pub mod Passes
 pub mod Branches
+pub mod Blocks
 pub mod Usual
 pub mod Pairs
 pub mod Back

@@ -4,7 +4,7 @@ mod tables; // the constant tables
 mod utf8; // the rows of UTF-8
 
 ghost use mathlib.Core.Path.{_≡_};
-ghost use Prim.Native.Nat.{_+_, _-_, _/_, _≤_, _<_};
+ghost use Prim.Native.Nat.{_+_, _-_, _*_, _/_, _≤_, _<_};
 ghost use mathlib.Core.Bool.{true, false};
 ghost use mathlib.Core.List.{_++_};
 ghost use lib.ListN.{getD, length, take, drop};
@@ -13,19 +13,21 @@ ghost use Rattle.codepages.specs.Pages as pages;
 ghost use Rattle.codepages.specs.Utf8 as utf8_spec;
 ghost use Rattle.codepages.specs.Convert as spec;
 ghost use Rattle.codepages.specs.Laws.Places.{groups, rowsOf, look};
-ghost use Rattle.codepages.specs.Laws.Passes.{half, Run, Skips, Found, Grown, Counts, Ready, Wrote};
+ghost use Rattle.codepages.specs.Laws.Passes.{half, block, Run, Skips, Found, Grown, Counts, Ready, Wrote};
 ghost use Rattle.codepages.specs.Laws.Usual.{many, oddOf, Usual};
 ghost use Rattle.codepages.specs.Laws.Pairs.{firstOf};
 ghost use Rattle.codepages.specs.Laws.Back.{orNone};
 ghost use Rattle.codepages.specs.Laws.Answers.{Numbered};
 use crate::ascii::ASCII;
+use crate::ascii::BLOCK;
+use crate::ascii::leading;
+use crate::ascii::long_run_end;
 use crate::ascii::run_end;
 use crate::tables::BACK_1250;
 use crate::tables::BACK_1251;
 use crate::tables::BACK_1252;
 use crate::tables::ENTRIES;
 use crate::tables::PAGES;
-use crate::tables::Page;
 use crate::utf8::NO_CODE_POINT;
 use crate::utf8::THREE_BYTES;
 use crate::utf8::TWO_BYTES;
@@ -53,10 +55,11 @@ const OUTPUT_SHORT: u32 = 15;
 
 // ---- the two functions
 
-// A refusal, 0 for none, with its place; and how many bytes were written.
+// A refusal, 0 for none, with its place; and how many bytes were written. (Place and length are not neighbours: the compiler would read both
+// at once, and the processor would wait for the two stores before.)
 pub struct Answer {
-    pub refusal: u32,
     pub place: usize,
+    pub refusal: u32,
     pub length: usize,
 }
 
@@ -96,29 +99,26 @@ fn page_number(page: u32) -> usize
     k
 }
 
-// To UTF-8, by the entries of the page.
+// To UTF-8, by the entries of the page. Each page is taken from the table by a constant and lent where it was taken, so that it alone is
+// copied, and in whole vectors.
 fn to_page(k: usize, input: &[u8], out: &mut [u8]) -> Answer
     requires { ⌜ k < pages.page-count ⌝ }
     ensures { λ r. ⌜ r ≡ spec.answer (spec.outcome (spec.to k) (length (now (out .entry))) (now (input .entry))) ⌝ }
     ensures { λ _. ⌜ now (out .exit) ≡ spec.after (spec.outcome (spec.to k) (length (now (out .entry))) (now (input .entry))) (now (out .entry)) ⌝ }
 {
-    let page = page_of(k);
-    let t = page.entries;
-    in_page(&t, b"", k, false, input, out)
-}
-
-// A page's entries. Each is taken from the table by a constant, so that no other is copied.
-fn page_of(k: usize) -> Page
-    requires { ⌜ k < pages.page-count ⌝ }
-    ensures { λ r. ⌜ r .entries ≡ pages.page k ⌝ }
-{
     if k == 0 {
-        return PAGES[0];
+        let page = PAGES[0];
+        let t = page.entries;
+        return in_page(&t, b"", k, false, input, out);
     }
     if k == 1 {
-        return PAGES[1];
+        let page = PAGES[1];
+        let t = page.entries;
+        return in_page(&t, b"", k, false, input, out);
     }
-    PAGES[2]
+    let page = PAGES[2];
+    let t = page.entries;
+    in_page(&t, b"", k, false, input, out)
 }
 
 // From UTF-8, by the page's way back.
@@ -155,7 +155,7 @@ fn in_page(t: &[u16], y: &[u8], k: usize, back: bool, input: &[u8], out: &mut [u
     }
     let run = copy_run(input, 0, m.run, out, 0);
     let each = dense(input.len(), m.length);
-    write(t, y, k, back, each, input, run, out);
+    write(t, y, k, back, each, input, run, out, m.length);
     Answer {
         refusal: 0,
         place: 0,
@@ -235,7 +235,7 @@ fn find(t: &[u16], y: &[u8], k: usize, back: bool, input: &[u8], i: usize) -> Ta
     find_to(t, k, input, i)
 }
 
-// A run of bytes under 128, or one character.
+// A run of bytes under 128, or characters of two bytes, or one character.
 fn find_back(y: &[u8], k: usize, input: &[u8], i: usize) -> Taken
     requires { ⌜ (k < pages.page-count) × (i < length (now input)) × (now y ≡ rowsOf k) ⌝ }
     ensures { λ r. ⌜ Found (spec.from k) (now (input .entry)) i (r .taken) (r .made) ⌝ }
@@ -243,6 +243,13 @@ fn find_back(y: &[u8], k: usize, input: &[u8], i: usize) -> Taken
     if input[i] < ASCII {
         let n = run_end(input, i + 1) - i;
         return Taken { taken: n, made: n };
+    }
+    let m = find_twos(y, k, input, i);
+    if 0 < m {
+        return Taken {
+            taken: 2 * m,
+            made: m,
+        };
     }
     let c = character(y, k, input, i);
     if NO_BYTE <= c {
@@ -254,6 +261,32 @@ fn find_back(y: &[u8], k: usize, input: &[u8], i: usize) -> Taken
     }
 }
 
+// How many characters of two bytes stand at a place, one after the other. (A loop of its own, since they come in runs.)
+fn find_twos(y: &[u8], k: usize, input: &[u8], i: usize) -> usize
+    requires { ⌜ (k < pages.page-count) × (i ≤ length (now input)) × (now y ≡ rowsOf k) ⌝ }
+    ensures { λ r. ⌜ Skips (spec.from k) (now (input .entry)) i (2 * r) r ⌝ }
+{
+    let mut m: usize = 0;
+    while two_at(y, k, input, i + 2 * m) {
+        m += 1;
+    }
+    m
+}
+
+// Whether a character of two bytes stands at a place, and in the page.
+fn two_at(y: &[u8], k: usize, input: &[u8], j: usize) -> bool
+    requires { ⌜ (k < pages.page-count) × (now y ≡ rowsOf k) ⌝ }
+    ensures { λ r. ⌜ (r ≡ true → Skips (spec.from k) (now (input .entry)) j 2 1) ⌝ }
+{
+    if input.len() <= j {
+        return false;
+    }
+    if input[j] / 32 == 6 {
+        return character(y, k, input, j) < NO_BYTE;
+    }
+    false
+}
+
 // Many usual bytes, or few, or one byte.
 fn find_to(t: &[u16], k: usize, input: &[u8], i: usize) -> Taken
     requires { ⌜ (k < pages.page-count) × (i < length (now input)) × (now t ≡ pages.page k) ⌝ }
@@ -262,6 +295,10 @@ fn find_to(t: &[u16], k: usize, input: &[u8], i: usize) -> Taken
     let rest = input.len() - i;
     let n = at_most(rest, MANY);
     let m = usual(k, input, i, n);
+    if m == n {
+        let r = long_run_end(input, i + n) - i;
+        return Taken { taken: r, made: r };
+    }
     if 0 < m {
         return Taken { taken: n, made: m };
     }
@@ -354,7 +391,8 @@ fn dense(n: usize, m: usize) -> bool {
     n / 16 < n - m
 }
 
-// Writes what the text from `start` on becomes, from that place of the output on: each byte by itself, or by runs.
+// Writes what the text from `start` on becomes, from that place of the output on, which ends at `end`: by blocks unless each byte is to be stored
+// by itself, and then the characters that are left.
 fn write(
     t: &[u16],
     y: &[u8],
@@ -364,42 +402,100 @@ fn write(
     input: &[u8],
     start: usize,
     out: &mut [u8],
+    end: usize,
 )
-    requires { ⌜ (k < pages.page-count) × (start ≤ length (now input)) × (back ≡ false → now t ≡ pages.page k) × (back ≡ true → now y ≡ rowsOf k) × Ready (spec.way back k) (now input) start (now out) start ⌝ }
+    requires { ⌜ (k < pages.page-count) × (start ≤ length (now input)) × (back ≡ false → now t ≡ pages.page k) × (back ≡ true → now y ≡ rowsOf k) × Ready (spec.way back k) (now input) start (now out) start × (end ≡ start + length (spec.output (spec.way back k) 0 (drop start (now input)))) ⌝ }
     ensures { λ _. ⌜ now (out .exit) ≡ sets (now (out .entry)) start (spec.output (spec.way back k) 0 (drop start (now (input .entry)))) ⌝ }
 {
     let mut i = start;
     let mut w = start;
+    let mut long = false;
+    while block_fits(each, input.len() - i, end - w) {
+        let s = store_part(t, y, k, back, long, input, i, out, w);
+        i += s.taken;
+        w += s.made;
+        long = s.taken == BLOCK;
+    }
     while i < input.len() {
-        let s = store(t, y, k, back, each, input, i, out, w);
+        let s = store_one(t, y, k, back, input, i, out, w);
         i += s.taken;
         w += s.made;
     }
 }
 
-// Stores what stands at a place: a run of bytes under 128 unless each byte is stored by itself, or one character.
-fn store(
+// Whether a block is to be stored where n bytes are left to read and m to write.
+fn block_fits(each: bool, n: usize, m: usize) -> bool
+    ensures { λ r. ⌜ (r ≡ true → (block ≤ n) × (block ≤ m)) ⌝ }
+{
+    if each {
+        return false;
+    }
+    if n < BLOCK {
+        return false;
+    }
+    BLOCK <= m
+}
+
+// Stores what stands at a place: a long run of bytes under 128, which is looked for after a whole block of them, or a block.
+fn store_part(
     t: &[u16],
     y: &[u8],
     k: usize,
     back: bool,
-    each: bool,
+    long: bool,
     input: &[u8],
     i: usize,
     out: &mut [u8],
     w: usize,
 ) -> Taken
-    requires { ⌜ (k < pages.page-count) × (i < length (now input)) × (back ≡ false → now t ≡ pages.page k) × (back ≡ true → now y ≡ rowsOf k) × Ready (spec.way back k) (now input) i (now out) w ⌝ }
+    requires { ⌜ (k < pages.page-count) × (i + block ≤ length (now input)) × (back ≡ false → now t ≡ pages.page k) × (back ≡ true → now y ≡ rowsOf k) × Ready (spec.way back k) (now input) i (now out) w × (block ≤ length (spec.output (spec.way back k) 0 (drop i (now input)))) × (length (now out) < half) ⌝ }
     ensures { λ r. ⌜ Wrote (spec.way back k) (now (input .entry)) i (now (out .entry)) w (r .taken) (r .made) (now (out .exit)) ⌝ }
 {
-    if each {
-        return store_one(t, y, k, back, input, i, out, w);
+    if long {
+        let e = long_run_end(input, i);
+        if i < e {
+            let n = copy_run(input, i, e, out, w);
+            return Taken { taken: n, made: n };
+        }
     }
-    if input[i] < ASCII {
-        let n = copy_run(input, i, run_end(input, i + 1), out, w);
+    store_block(t, y, k, back, input, i, out, w)
+}
+
+// Stores a block, of which the bytes before the first that isn't under 128 count; and the character there. What the others become overwrites
+// the rest of the block.
+fn store_block(
+    t: &[u16],
+    y: &[u8],
+    k: usize,
+    back: bool,
+    input: &[u8],
+    i: usize,
+    out: &mut [u8],
+    w: usize,
+) -> Taken
+    requires { ⌜ (k < pages.page-count) × (i + block ≤ length (now input)) × (back ≡ false → now t ≡ pages.page k) × (back ≡ true → now y ≡ rowsOf k) × Ready (spec.way back k) (now input) i (now out) w × (block ≤ length (spec.output (spec.way back k) 0 (drop i (now input)))) × (length (now out) < half) ⌝ }
+    ensures { λ r. ⌜ Wrote (spec.way back k) (now (input .entry)) i (now (out .entry)) w (r .taken) (r .made) (now (out .exit)) ⌝ }
+{
+    copy_block(input, i, out, w);
+    let n = leading(input, i);
+    if n == BLOCK {
         return Taken { taken: n, made: n };
     }
-    store_one(t, y, k, back, input, i, out, w)
+    let s = store_one(t, y, k, back, input, i + n, out, w + n);
+    Taken {
+        taken: n + s.taken,
+        made: n + s.made,
+    }
+}
+
+// Stores a block. (By a copy of its own, which neither slice can overlap: so it is read and stored in whole vectors.)
+fn copy_block(input: &[u8], i: usize, out: &mut [u8], w: usize)
+    requires { ⌜ (i + block ≤ length (now input)) × (w + block ≤ length (now out)) ⌝ }
+    ensures { λ _. ⌜ now (out .exit) ≡ sets (now (out .entry)) w (take block (drop i (now (input .entry)))) ⌝ }
+{
+    let mut held: [u8; BLOCK] = [0; BLOCK];
+    bytes::copy(&input[i..i + BLOCK], &mut held);
+    copy_run(&held, 0, BLOCK, out, w);
 }
 
 // Stores one character.

@@ -1,7 +1,7 @@
 use borrow.Author.Needs.{needs}
 use native.Mathlib.Omega.{arith}
 use Rattle.codepages.specs.Laws.Answers.{has-none, is-short, is-written, may-write, answers-refused, answers-written}
-use Rattle.codepages.specs.Laws.Branches.{first-fits, first-ready, first-then}
+use Rattle.codepages.specs.Laws.Branches.{first-fits, first-ready, first-rest, first-then}
 use Rattle.codepages.proofs.in_page.Statement.{statement}
 use Rattle.codepages.proofs.in_page.Tie as tie
 
@@ -27,8 +27,14 @@ in-page-spec = tie.close (tie.spec
     let m = e .before .before .before .before in
     let s = m .before .before .before .before .before in
     let x = m .measure .ensures in
-    let g = may-write _ _ _ _ _ (x .0) (e .before .before .if1 .left) (e .if2 .left) in
-    (s .pre .0, omega (arith, x .1 .inside (omega arith), r .copy-run .ensures .1), s .pre .1, s .pre .2, first-ready _ _ (x .1) _ _ _ (g .1) (r .copy-run .ensures) (g .0)))
+    let g = may-write _ _ _ _ _ (x .0) (e .before .before .if1 .left) (e .if2 .left) in (
+      s .pre .0,
+      omega (arith, x .1 .inside (omega arith), r .copy-run .ensures .1),
+      s .pre .1,
+      s .pre .2,
+      first-ready _ _ (x .1) _ _ _ (g .1) (r .copy-run .ensures) (g .0),
+      first-rest _ _ (x .1) _ _ _ (g .1) (r .copy-run .ensures) _ (x .0 .1 .exact (e .if2 .left)),
+    ))
     (λ c. search needs)
     (λ c.
     let w = c .before .before in

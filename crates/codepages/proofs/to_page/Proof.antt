@@ -1,21 +1,31 @@
 use borrow.Author.Needs.{needs}
 use native.Mathlib.Omega.{arith}
-use mathlib.Core.Path.{_≡_, refl, sym, ap, _∙_}
+use mathlib.Core.Path.{_≡_, refl}
 use Prim.Native.Nat.{ℕ}
-use lib.ListN.{length}
+use Rattle.codepages.specs.Table.{entries}
+use Rattle.codepages.specs.Pages.{page}
 use Rattle.codepages.specs.Convert.{way}
-use Rattle.codepages.specs.Laws.Pages.{length-page}
 use Rattle.codepages.proofs.to_page.Statement.{statement}
 use Rattle.codepages.proofs.to_page.Tie as tie
 
 pub to-page-spec : {M : Type 1} → statement M
-unfolding way
+unfolding way page entries
 to-page-spec = tie.close (tie.spec
-    (λ c κs. search needs)
-    (λ c. let p = c .before .before in let s = p .before .before .before in sym (ap length (p .page-of .ensures) ∙ length-page (s .args .k) (s .pre)))
-    (λ c. refl)
+    (λ c. search needs) (λ c. refl) (λ c. refl)
     (λ c κs.
-    let p = c .before .before .before .before in
-    let s = p .before .before .before in
-    (s .pre, (λ _. p .page-of .ensures), (λ z. let n : _≡_ {A = ℕ} 0 1 = cc in absurd (omega arith))))
-    (λ c. search needs) (λ c. c .before .before .in-page .ensures))
+    let s = c .before .before .before .before .before .before .before .before in
+    let e : s .args .k ≡ 0 = omega arith in
+    (s .pre, (λ _. rw e), (λ z. let n : _≡_ {A = ℕ} 0 1 = cc in absurd (omega arith))))
+    (λ c. search needs) (λ c. c .before .before .in-page .ensures)
+    (λ c. search needs) (λ c. refl) (λ c. refl)
+    (λ c κs.
+    let s = c .before .before .before .before .before .before .before .before .before in
+    let e : s .args .k ≡ 1 = omega arith in
+    (s .pre, (λ _. rw e), (λ z. let n : _≡_ {A = ℕ} 0 1 = cc in absurd (omega arith))))
+    (λ c. search needs) (λ c. c .before .before .in-page2 .ensures)
+    (λ c. search needs) (λ c. refl) (λ c. refl)
+    (λ c κs.
+    let s = c .before .before .before .before .before .before .before .before .before in
+    let e : s .args .k ≡ 2 = omega (arith, s .pre) in
+    (s .pre, (λ _. rw e), (λ z. let n : _≡_ {A = ℕ} 0 1 = cc in absurd (omega arith))))
+    (λ c. search needs) (λ c. c .before .before .in-page3 .ensures))

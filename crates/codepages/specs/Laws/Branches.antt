@@ -135,36 +135,47 @@ pub way-to : (back : Bool) (k : ℕ) → back ≡ false → way back k ≡ to k
 unfolding way
 way-to back k e = rw e
 
--- a run of bytes under 128, from i to r
-module _ (back : Bool) (k : ℕ) (u : List ℕ) (i r : ℕ) (a : getD u i 0 < ascii) (l : i + 1 ≤ r) (m : r ≤ length u) (run : Ascii u (i + 1) (r - (i + 1))) where
-  whole-run : Ascii u i (r - i)
-  whole-run = let z : r - i ≡ 1 + (r - (i + 1)) = omega arith in rw z (ascii-more u i 1 (r - (i + 1)) (ascii-one u i a) run)
-
+-- bytes under 128 from i up to r
+module _ (back : Bool) (k : ℕ) {u : List ℕ} {i r : ℕ} (t : Run u i r) (h : i ≤ length u) where
   run-passes : Passes (way back k) u i (r - i) (take (r - i) (drop i u))
-  run-passes = passes-ascii back k u i (r - i) (omega arith) whole-run
+  run-passes = passes-ascii back k u i (r - i) (omega (arith, t .onward, t .inside h)) (t .all)
 
   run-length : length (take (r - i) (drop i u)) ≡ r - i
-  run-length = length-take-le (r - i) (drop i u) (omega (arith, length-drop i u))
+  run-length = length-take-le (r - i) (drop i u) (omega (arith, length-drop i u, t .inside h))
 
-  pub run-found : length u < half → Found (way back k) u i (r - i) (r - i)
-  run-found h = found-some (omega arith) (rw run-length at (skips run-passes)) (omega arith)
+  pub run-skips : Skips (way back k) u i (r - i) (r - i)
+  run-skips = rw run-length at (skips run-passes)
 
   pub run-fits : {o : List ℕ} {w : ℕ} → Ready (way back k) u i o w → w + (r - i) ≤ length o
-  run-fits t = rw run-length at (fits t run-passes)
+  run-fits q = rw run-length at (fits q run-passes)
 
-  pub run-wrote : {o : List ℕ} {w : ℕ} {o′ : List ℕ} → o′ ≡ sets o w (take (r - i) (drop i u)) → Wrote (way back k) u i o w (r - i) (r - i) o′
-  run-wrote {o} {w} {o′} e = rw run-length at (wrote {o = o} {w = w} {o′ = o′} run-passes (omega arith) e)
+  pub run-wrote : {o o′ : List ℕ} {w : ℕ} → i < r → o′ ≡ sets o w (take (r - i) (drop i u)) → Wrote (way back k) u i o w (r - i) (r - i) o′
+  run-wrote l e = rw run-length at (wrote run-passes (omega arith) e)
+
+-- a byte under 128, and those after it
+pub run-found : (back : Bool) (k : ℕ) (u : List ℕ) (i r : ℕ) → getD u i 0 < ascii → i < length u → Run u (i + 1) r → length u < half → Found (way back k) u i (r - i) (r - i)
+run-found back k u i r a l t h =
+    let z : r - i ≡ 1 + (r - (i + 1)) = omega (arith, t .onward) in
+    let whole : Run u i r = record {
+      onward = omega (arith, t .onward);
+      inside = λ _. t .inside (omega arith);
+      all = rw z (ascii-more u i 1 (r - (i + 1)) (ascii-one u i a) (t .all));
+    } in
+    found-some (omega (arith, t .onward)) (run-skips back k whole (omega arith)) (omega (arith, t .inside (omega arith)))
 
 -- the run that a text begins with: both passes go on from its end
 module _ (back : Bool) (k : ℕ) {u : List ℕ} {r : ℕ} (t : Run u 0 r) where
+  whole : r - 0 ≡ r
+  whole = omega arith
+
   first-passes : Passes (way back k) u 0 r (take r u)
-  first-passes = let z : r - 0 ≡ r = omega arith in passes-ascii back k u 0 r (omega (arith, t .inside (omega arith))) (rw z at (t .all))
+  first-passes = rw whole at (run-passes back k t (omega arith))
 
   first-length : length (take r u) ≡ r
-  first-length = length-take-le r u (t .inside (omega arith))
+  first-length = rw whole at (run-length back k t (omega arith))
 
   first-skips : Skips (way back k) u 0 r r
-  first-skips = rw first-length at (skips first-passes)
+  first-skips = rw whole at (run-skips back k t (omega arith))
 
   pub first-tally : (room : ℕ) → Tally (way back k) u room r r
   first-tally room =
@@ -188,6 +199,9 @@ module _ (back : Bool) (k : ℕ) {u : List ℕ} {r : ℕ} (t : Run u 0 r) where
         let y : length (output (way back k) 0 u) ≡ r + length (output (way back k) 0 (drop r u)) = rw zero-add at (first-skips .counts) in
         let l : length o′ ≡ length o = ap length first-copied ∙ length-sets o 0 (take r u) in
         rw first-end (record { ends = sym p ∙ e; roomy = omega arith })
+
+    pub first-rest : (m : ℕ) → m ≡ length (output (way back k) 0 u) → m ≡ n + length (output (way back k) 0 (drop n u))
+    first-rest m e = rw first-end (e ∙ (rw zero-add at (first-skips .counts)))
 
     pub first-then : {o″ : List ℕ} → o″ ≡ sets o′ n (output (way back k) 0 (drop n u)) → o″ ≡ output (way back k) 0 u ++ drop (length (output (way back k) 0 u)) o
     first-then q =

@@ -15,17 +15,8 @@ use Rattle.codepages.specs.Utf8.{two-bytes, three-bytes, four-bytes, enc
 use Rattle.codepages.specs.Convert.{to, output}
 use Rattle.codepages.specs.Laws.Pages.{side, rule, point-low}
 use Rattle.codepages.specs.Laws.Utf8.{encode-one, encode-two, encode-length}
-use Rattle.codepages.specs.Laws.Passes.{Passes, skips, Ready, Wrote, wrote}
+use Rattle.codepages.specs.Laws.Passes.{Passes, skips, overwritten, Ready, Wrote, wrote}
 use Rattle.codepages.specs.Laws.Branches.{point-none, point-entry, put-two, to-ready}
-
-set-set : (l : List ℕ) (i x y : ℕ) → set (set l i x) i y ≡ set l i y
-set-set [] i x y = refl
-set-set (a ∷ l) zero x y = refl
-set-set (a ∷ l) (suc i) x y = ap (λ (v : List ℕ). a ∷ v) (set-set l i x y)
-
-overwritten : (l : List ℕ) (i x : ℕ) (v : List ℕ) → 0 < length v → sets (set l i x) i v ≡ sets l i v
-overwritten l i x [] h = absurd (omega arith)
-overwritten l i x (y ∷ v) h = rw (set-set l i x y)
 
 -- the first of the two bytes for a byte b and the entry e
 unfoldable pub firstOf : ℕ → ℕ → ℕ
@@ -87,7 +78,7 @@ module _ (k : ℕ) (u : List ℕ) (i : ℕ) (o : List ℕ) (w b e : ℕ) (hk : k
           let z : 1 + b / 128 ≡ 1 = omega arith in
           let v = output (to k) 0 (drop (i + 1) u) in
           let g = 128 + e % 64 in
-          let f : sets (set (set o w b) (w + 1) g) (w + 1) v ≡ sets (set o w b) (w + 1) v = overwritten (set o w b) (w + 1) g v (follows hk h p t) in
+          let f : sets (set (set o w b) (w + 1) g) (w + 1) v ≡ sets (set o w b) (w + 1) v = overwritten (g ∷ []) v (set o w b) (w + 1) (follows hk h p t) in
           rw (z, ← first-low b e l) (record {
             some = omega arith;
             skipped = skips p;

@@ -20,6 +20,10 @@ use Rattle.codepages.specs.Laws.Steps.{up-to-step, output-step, up-to-in
 abbrev pub half : ℕ
 half = 9223372036854775808
 
+-- bytes that are stored together
+abbrev pub block : ℕ
+block = 64
+
 -- ---- characters at a place
 
 -- the n bytes at place i are whole characters, for which o is written
@@ -67,6 +71,13 @@ ascii-on u start i n h a b =
 pub ascii-start : (u : List ℕ) (i : ℕ) → Ascii u i (i - i)
 ascii-start u i = let z : i - i ≡ 0 = omega arith in rw z (ascii-none u i)
 
+pub run-none : (u : List ℕ) (i : ℕ) → Run u i i
+run-none u i = record { onward = omega arith; inside = λ h. h; all = ascii-start u i }
+
+pub run-more : {u : List ℕ} {start i n : ℕ} → Run u start i → (i + n ≤ length u) × Ascii u i n → Run u start (i + n)
+run-more {u} {start} {i} {n} t s =
+    record { onward = omega (arith, t .onward); inside = λ _. s .0; all = ascii-on u start i n (t .onward) (t .all) (s .1) }
+
 -- the `or` of two numbers is under 128 only if both are: a run goes on by one byte
 pub ascii-or : (u : List ℕ) (i n bits : ℕ) → (bits < ascii → Ascii u i n) → bitOr bits (getD u (i + n) 0) < ascii → Ascii u i (n + 1)
 ascii-or u i n bits a h =
@@ -109,6 +120,11 @@ pub record Skips (f : List ℕ → Step) (u : List ℕ) (i n m : ℕ) : Type 0 w
 
 pub skips : {f : List ℕ → Step} {u : List ℕ} {i n : ℕ} {o : List ℕ} → Passes f u i n o → Skips f u i n (length o)
 skips {f} {u} {i} {n} {o} p = record { inside = p .inside; goes = p .goes; counts = ap length (p .writes) ∙ length-append o (output f 0 (drop (i + n) u)) }
+
+pub skips-more : {f : List ℕ → Step} {u : List ℕ} {i n m s r : ℕ} → Skips f u i n m → Skips f u (i + n) s r → Skips f u i (n + s) (m + r)
+skips-more {f} {u} {i} {n} {m} {s} {r} a b =
+    let z : i + n + s ≡ i + (n + s) = omega arith in
+    record { inside = omega (arith, b .inside); goes = a .goes ∙ (rw z at (b .goes)); counts = omega (arith, a .counts, rw z at (b .counts)) }
 
 -- what is found at place i: a character that is refused, or bytes that are passed
 pub record Found (f : List ℕ → Step) (u : List ℕ) (i taken made : ℕ) : Type 0 where
@@ -169,6 +185,27 @@ pub sets-append : (vs ws l : List ℕ) (i : ℕ) → sets l i (vs ++ ws) ≡ set
 sets-append [] ws l i = let e : i + 0 ≡ i = omega arith in rw e
 sets-append (v ∷ vs) ws l i = let e : i + suc (length vs) ≡ suc i + length vs = omega arith in rw e (sets-append vs ws (set l i v) (suc i))
 
+set-set : (l : List ℕ) (i x y : ℕ) → set (set l i x) i y ≡ set l i y
+set-set [] i x y = refl
+set-set (a ∷ l) zero x y = refl
+set-set (a ∷ l) (suc i) x y = ap (λ (v : List ℕ). a ∷ v) (set-set l i x y)
+
+set-apart : (l : List ℕ) (i j x y : ℕ) → i < j → set (set l j x) i y ≡ set (set l i y) j x
+set-apart [] i j x y h = refl
+set-apart (a ∷ l) i zero x y h = absurd (omega arith)
+set-apart (a ∷ l) zero (suc j) x y h = refl
+set-apart (a ∷ l) (suc i) (suc j) x y h = ap (λ (v : List ℕ). a ∷ v) (set-apart l i j x y (omega arith))
+
+set-before : (g l : List ℕ) (i j y : ℕ) → i < j → set (sets l j g) i y ≡ sets (set l i y) j g
+set-before [] l i j y h = refl
+set-before (x ∷ g) l i j y h = set-before g (set l j x) i (suc j) y (omega arith) ∙ rw (set-apart l i j x y h)
+
+-- what is written over what is no longer leaves nothing of it
+pub overwritten : (g v l : List ℕ) (i : ℕ) → length g ≤ length v → sets (sets l i g) i v ≡ sets l i v
+overwritten [] v l i h = refl
+overwritten (x ∷ g) [] l i h = absurd (omega arith)
+overwritten (x ∷ g) (y ∷ v) l i h = rw (set-before g (set l i x) i (suc i) y (omega arith), set-set l i x y) (overwritten g v (set l i y) (suc i) (omega arith))
+
 -- what is known before the characters at place i are written at place w: none is refused, and there is room
 pub record Ready (f : List ℕ → Step) (u : List ℕ) (i : ℕ) (o : List ℕ) (w : ℕ) : Type 0 where
   pub ends : valid-up-to f 0 i (drop i u) ≡ length u
@@ -196,18 +233,18 @@ wrote {f} {u} {i} {o} {w} {n} {x} p h e = record {
   fills = rw (e, p .writes) (sym (sets-append x (output f 0 (drop (i + n) u)) o w));
 }
 
--- the bytes from place s on are written from that place of the output on; now place i is reached, and w in the output
-pub record Writing (f : List ℕ → Step) (u : List ℕ) (s : ℕ) (o₀ o : List ℕ) (i w : ℕ) : Type 0 where
+-- the bytes from place s on are written from place v of the output on; now place i is reached, and w in the output
+pub record Writing (f : List ℕ → Step) (u : List ℕ) (s v : ℕ) (o₀ o : List ℕ) (i w : ℕ) : Type 0 where
   pub inside : i ≤ length u
   pub ready : Ready f u i o w
   pub same : length o ≡ length o₀
-  pub fills : sets o w (output f 0 (drop i u)) ≡ sets o₀ s (output f 0 (drop s u))
+  pub fills : sets o w (output f 0 (drop i u)) ≡ sets o₀ v (output f 0 (drop s u))
 
-pub writing : {f : List ℕ → Step} {u : List ℕ} {s : ℕ} {o : List ℕ} → s ≤ length u → Ready f u s o s → Writing f u s o o s s
+pub writing : {f : List ℕ → Step} {u : List ℕ} {s v : ℕ} {o : List ℕ} → s ≤ length u → Ready f u s o v → Writing f u s v o o s v
 writing h t = record { inside = h; ready = t; same = refl; fills = refl }
 
-module _ {f : List ℕ → Step} {u : List ℕ} {s : ℕ} {o₀ o : List ℕ} {i w : ℕ} (t : Writing f u s o₀ o i w) where
-  pub writing-step : {n m : ℕ} {o′ : List ℕ} → Wrote f u i o w n m o′ → Writing f u s o₀ o′ (i + n) (w + m)
+module _ {f : List ℕ → Step} {u : List ℕ} {s v : ℕ} {o₀ o : List ℕ} {i w : ℕ} (t : Writing f u s v o₀ o i w) where
+  pub writing-step : {n m : ℕ} {o′ : List ℕ} → Wrote f u i o w n m o′ → Writing f u s v o₀ o′ (i + n) (w + m)
   writing-step p = record {
     inside = p .skipped .inside;
     ready = record { ends = sym (p .skipped .goes) ∙ t .ready .ends; roomy = omega (arith, t .ready .roomy, p .skipped .counts, p .same) };
@@ -215,7 +252,7 @@ module _ {f : List ℕ → Step} {u : List ℕ} {s : ℕ} {o₀ o : List ℕ} {i
     fills = p .fills ∙ t .fills;
   }
 
-  pub writing-end : length u ≤ i → o ≡ sets o₀ s (output f 0 (drop s u))
+  pub writing-end : length u ≤ i → o ≡ sets o₀ v (output f 0 (drop s u))
   writing-end h =
       let d = drop-of-length-le u {i = i} h in
       let z : output f 0 (drop i u) ≡ [] = rw d (output-end f) in

@@ -16,7 +16,7 @@ use Rattle.codepages.specs.Utf8.{two-bytes, three-bytes, encode}
 use Rattle.codepages.specs.Convert.{Step, to}
 use Rattle.codepages.specs.Laws.Pages.{side, both, both-left, both-right, is-true, every, at-each, length-page, point-low, point-high}
 use Rattle.codepages.specs.Laws.Utf8.{encode-one, encode-two}
-use Rattle.codepages.specs.Laws.Passes.{Skips, skips}
+use Rattle.codepages.specs.Laws.Passes.{Skips, skips, skips-more}
 use Rattle.codepages.specs.Laws.Branches.{to-at}
 
 -- bytes that are counted together at most
@@ -96,11 +96,6 @@ module _ (k b : ℕ) (hk : k < page-count) (hb : b < no-byte) (u : Usual (oddOf 
 
 pub skips-none : (f : List ℕ → Step) (u : List ℕ) (i : ℕ) → i ≤ length u → Skips f u i 0 0
 skips-none f u i h = let z : i + 0 ≡ i = omega arith in record { inside = omega arith; goes = rw z; counts = rw z (omega arith) }
-
-skips-more : {f : List ℕ → Step} {u : List ℕ} {i n m s r : ℕ} → Skips f u i n m → Skips f u (i + n) s r → Skips f u i (n + s) (m + r)
-skips-more {f} {u} {i} {n} {m} {s} {r} a b =
-    let z : i + n + s ≡ i + (n + s) = omega arith in
-    record { inside = omega (arith, b .inside); goes = a .goes ∙ (rw z at (b .goes)); counts = omega (arith, a .counts, rw z at (b .counts)) }
 
 -- the byte after n usual ones, of which `high` are not under 128, is usual too
 pub usual-more : (k : ℕ) (u : List ℕ) (i n high b : ℕ) → k < page-count → i + n < length u → b ≡ getD u (i + n) 0 → b < no-byte → Usual (oddOf k) b → Skips (to k) u i n (n + high)
