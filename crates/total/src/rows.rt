@@ -1,8 +1,9 @@
 // The sums of all leaves of a dimension in rows of words, one row for each leaf.
 ghost use mathlib.Core.Path.{_≡_};
-ghost use mathlib.Core.List.{_++_};
+ghost use mathlib.Core.List.{[], _∷_, _++_};
 ghost use Prim.Native.Nat.{_+_, _*_, _^_, _<_, _≤_};
 ghost use lib.ListN.{length, drop};
+ghost use lib.Seq.{sets};
 ghost use Rattle.sizes.specs.Sizes.{leaf-total-words};
 ghost use Rattle.total.specs.Words as spec;
 ghost use Rattle.total.specs.Laws.Words as words_spec;
@@ -16,13 +17,11 @@ use crate::sums::add;
 use crate::under::coordinate;
 use crate::under::kind_at;
 use crate::under::no_sums;
-use crate::words::sum_words;
-use layout::Step;
+use crate::words::bits;
 use member::Answer;
 use once::word;
 use sizes::CELL_WORDS;
 use sizes::LEAF_TOTAL_WORDS;
-use store::words::put;
 
 // The sums in row j.
 fn row(area: &[u32], j: usize) -> Sums
@@ -42,27 +41,58 @@ fn row(area: &[u32], j: usize) -> Sums
     }
 }
 
+// The words of a row from a position on. They are stored one by one: words that are put together in an array first, and copied by several
+// at a time, wait for their own stores.
+fn put_row(
+    area: &mut [u32],
+    at: usize,
+    w0: u32,
+    w1: u32,
+    w2: u32,
+    w3: u32,
+    w4: u32,
+    w5: u32,
+    w6: u32,
+    w7: u32,
+    w8: u32,
+    w9: u32,
+    w10: u32,
+)
+    requires { ⌜ at + leaf-total-words ≤ length (now area) ⌝ }
+    ensures { λ _. ⌜ now (area .exit) ≡ sets (now (area .entry)) at (w0 ∷ w1 ∷ w2 ∷ w3 ∷ w4 ∷ w5 ∷ w6 ∷ w7 ∷ w8 ∷ w9 ∷ w10 ∷ []) ⌝ }
+{
+    area[at] = w0;
+    area[at + 1] = w1;
+    area[at + 2] = w2;
+    area[at + 3] = w3;
+    area[at + 4] = w4;
+    area[at + 5] = w5;
+    area[at + 6] = w6;
+    area[at + 7] = w7;
+    area[at + 8] = w8;
+    area[at + 9] = w9;
+    area[at + 10] = w10;
+}
+
 // Sums into row j.
 fn set_row(area: &mut [u32], j: usize, s: Sums)
     requires { ⌜ (j < 2 ^ 32) × (leaf-total-words * (j + 1) ≤ length (now area)) ⌝ }
     ensures { λ _. ⌜ now (area .exit) ≡ laws.stored (now (area .entry)) j (laws.sumRow s) ⌝ }
 {
-    put(
+    put_row(
         area,
-        Step::Next(LEAF_TOTAL_WORDS * j),
-        &[
-            s.bad as u32,
-            s.place,
-            (s.total % 4294967296) as u32,
-            (s.total / 4294967296) as u32,
-            s.numbers,
-            s.texts,
-            s.missing,
-            s.smallest,
-            s.largest,
-            0,
-            0,
-        ],
+        LEAF_TOTAL_WORDS * j,
+        s.bad as u32,
+        s.place,
+        (s.total % 4294967296) as u32,
+        (s.total / 4294967296) as u32,
+        s.numbers,
+        s.texts,
+        s.missing,
+        s.smallest,
+        s.largest,
+        0,
+        0,
     );
 }
 
@@ -71,12 +101,23 @@ fn answer_row(area: &mut [u32], j: usize, x: LeafTotal)
     requires { ⌜ Numbers x × (j < 2 ^ 32) × (leaf-total-words * (j + 1) ≤ length (now area)) ⌝ }
     ensures { λ _. ⌜ now (area .exit) ≡ laws.stored (now (area .entry)) j (spec.leafWords x) ⌝ }
 {
-    let st = put(
+    let smallest = bits(x.smallest);
+    let largest = bits(x.largest);
+    put_row(
         area,
-        Step::Next(LEAF_TOTAL_WORDS * j),
-        &[x.refusal, (x.place % 4294967296) as u32],
+        LEAF_TOTAL_WORDS * j,
+        x.refusal,
+        (x.place % 4294967296) as u32,
+        (x.total % 4294967296) as u32,
+        (x.total / 4294967296) as u32,
+        x.numbers,
+        x.texts,
+        x.missing,
+        (smallest % 4294967296) as u32,
+        (smallest / 4294967296) as u32,
+        (largest % 4294967296) as u32,
+        (largest / 4294967296) as u32,
     );
-    sum_words(area, st, x);
 }
 
 // Rows of no cell.

@@ -10,7 +10,7 @@ use crate::LeafTotal;
 use layout::Step;
 use store::words::put;
 
-fn bits(x: f64) -> u64
+pub fn bits(x: f64) -> u64
     requires { ⌜ T (not (isNan x)) ⌝ }
     ensures { λ r. ⌜ r ≡ toBits binary64 x ⌝ }
 {

@@ -1,10 +1,8 @@
 -- The step rises to 5 at most: there every member has room.
 use mathlib.Core.Path.{sym, _∙_}
-use mathlib.Core.List.{List}
 use Prim.Native.Nat.{ℕ, _-_, _<_}
 use native.Mathlib.Omega.{arith}
 use borrow.Author.Needs.{needs}
-use borrow.Fn.Kinds.{PK, In}
 use borrow.Fn.PlainCycle.{Measures, is, falls, and}
 use lib.ListN.{length}
 use borrow.Author.Tests.{leb-true}

@@ -4,31 +4,29 @@ use mathlib.Core.Bool.{Bool, true, false}
 use mathlib.Core.List.{List, [], _∷_, _++_, append-assoc}
 use Prim.Native.Nat.{ℕ, zero, suc, _+_, _*_, _≤_, _<_}
 use native.Mathlib.Nat.{mul-zero, mul-suc, add-zero}
-use native.Mathlib.Numerals.{add-one}
 use native.Mathlib.Omega.{arith}
-use lib.ListN.{length, take, drop, getD, set, length-append, length-set, List·getD-append}
+use lib.ListN.{length, take, drop, getD, set, length-append, List·getD-append}
 use lib.Seq.{sets, sets-eq, take-at, drop-at, drop-drop, getD-append-add}
 use lib.Dec.{eqb}
 use borrow.Author.Tests.{eqb-true, eqb-false, eq-eqb, ne-eqb}
-use Rattle.layout.specs.declared.Step.{Step}
-use Rattle.layout.specs.declared.Step.the-variants.{Next}
 use Rattle.layout.specs.Layout.{pick}
-use Rattle.store.specs.Put.{State, putWords}
-use Rattle.store.specs.Puts.{PutsWords}
-use Rattle.store.specs.Laws.Puts.{words-next}
 use Rattle.total.specs.Words.{rows}
 
--- ---- words that are put where there is room
-
-land : (ws b : List ℕ) (at : ℕ) → at + length ws ≤ length b → putWords ws (b, Next at) ≡ (sets b at ws, Next (at + length ws))
-unfolding putWords
-land [] b at h = ap (λ (n : ℕ). (b, Next n)) (sym (add-zero at))
-land (w ∷ ws) b at h =
-    words-next (w ∷ ws) b 0 at (omega arith) (omega arith) ∙ land ws (set b at w) (at + 1) (rw length-set (omega arith))
-    ∙ let e : at + 1 + length ws ≡ at + suc (length ws) = omega arith in rw (e, add-one at)
-
-pub landed : (ws b : List ℕ) (at : ℕ) → at + length ws ≤ length b → {b′ : List ℕ} {r : Step} → PutsWords ws b (Next at) b′ r → b′ ≡ sets b at ws
-landed ws b at h x = ap (λ (y : State). y .0) (x .is ∙ land ws b at h)
+-- the words of a row, one after the other
+pub eleven-sets : (ws : List ℕ) (i w0 w1 w2 w3 w4 w5 w6 w7 w8 w9 w10 : ℕ)
+    → set (set (set (set (set (set (set (set (set (set (set ws i w0) (i + 1) w1) (i + 2) w2) (i + 3) w3) (i + 4) w4) (i + 5) w5) (i + 6) w6) (i + 7) w7) (i + 8) w8) (i + 9) w9) (i + 10) w10 ≡ sets ws i (w0 ∷ w1 ∷ w2 ∷ w3 ∷ w4 ∷ w5 ∷ w6 ∷ w7 ∷ w8 ∷ w9 ∷ w10 ∷ [])
+eleven-sets ws i w0 w1 w2 w3 w4 w5 w6 w7 w8 w9 w10 =
+    let e1 : i + 1 ≡ suc i = omega arith in
+    let e2 : i + 2 ≡ suc (suc i) = omega arith in
+    let e3 : i + 3 ≡ suc (suc (suc i)) = omega arith in
+    let e4 : i + 4 ≡ suc (suc (suc (suc i))) = omega arith in
+    let e5 : i + 5 ≡ suc (suc (suc (suc (suc i)))) = omega arith in
+    let e6 : i + 6 ≡ suc (suc (suc (suc (suc (suc i))))) = omega arith in
+    let e7 : i + 7 ≡ suc (suc (suc (suc (suc (suc (suc i)))))) = omega arith in
+    let e8 : i + 8 ≡ suc (suc (suc (suc (suc (suc (suc (suc i))))))) = omega arith in
+    let e9 : i + 9 ≡ suc (suc (suc (suc (suc (suc (suc (suc (suc i)))))))) = omega arith in
+    let e10 : i + 10 ≡ suc (suc (suc (suc (suc (suc (suc (suc (suc (suc i))))))))) = omega arith in
+    rw (e1, e2, e3, e4, e5, e6, e7, e8, e9, e10)
 
 -- ---- rows
 
