@@ -12,6 +12,7 @@ pub mod RulesExamples
 pub mod Words
 pub mod Within
 pub mod Heads
+pub mod OwnPart
 pub mod Nodes
 pub mod Leaves
 pub mod Dims

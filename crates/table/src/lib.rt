@@ -8,7 +8,9 @@ ghost use Rattle.sizes.specs.Sizes.{member-bytes, most-nodes, node-words};
 ghost use Rattle.layout.specs.Layout.{little, one-of};
 ghost use Rattle.layout.specs.Conventions as notation;
 ghost use Rattle.layout.specs.Read.{read};
+ghost use Rattle.layout.specs.declared.Step.the-variants.{Next};
 ghost use Rattle.layout.specs.Reads.{Reads, verdict};
+ghost use Rattle.value.specs.Value.{Value};
 ghost use Rattle.layout.specs.Check.{check};
 ghost use Rattle.layout.specs.Keeps.{Keeps, Each};
 ghost use Rattle.layout.specs.Words.{word32};
@@ -16,6 +18,7 @@ ghost use Rattle.table.specs.Table as grammar;
 ghost use Rattle.table.specs.Records.{Head, nodeRecord};
 ghost use Rattle.table.specs.Rules.{categoryRule, categoriesRule};
 ghost use Rattle.table.specs.Laws.Heads.{HeadRead, nodeOf};
+ghost use Rattle.table.specs.Laws.OwnPart.{own-part};
 ghost use Rattle.table.specs.Laws.Nodes as spec;
 use layout::LITTLE;
 use layout::Step;
@@ -23,6 +26,7 @@ use layout::number::any;
 use layout::number::between;
 use layout::number::field;
 use layout::number::fixed;
+use layout::number::left;
 use layout::number::peek;
 use layout::slice::whole;
 use sizes::MOST_NODES;
@@ -36,6 +40,9 @@ pub use dimension::dimensions;
 
 // The number -1, as four bytes spell it.
 const MINUS_ONE: u64 = 4294967295;
+
+// The bytes of a category after its name, and without what is below it.
+const OWN_PART: usize = 15;
 
 // The bytes that a category takes at least.
 pub const LEAST_CATEGORY: usize = 16;
@@ -168,12 +175,11 @@ fn node(kind: u32, at: usize, name: Step, word: u64, children: u64, end: Step) -
     }
 }
 
-// A category without what is below it.
-fn head(s: &[u8], at: usize, version: u64) -> NodeStart
-    requires { ⌜ length (now s) ≤ member-bytes ⌝ }
+// What follows the name of a category, field by field: its name ends at `name`.
+fn after_name(s: &[u8], at: usize, name: Step, version: u64) -> NodeStart
+    requires { ⌜ (length (now s) ≤ member-bytes) × Reads (Value version) (now s) (Next at) name ⌝ }
     ensures { λ r. ⌜ HeadRead version (now (s .entry)) at (read (Head version) (drop at (now (s .entry))) at) r ⌝ }
 {
-    let name = value(s, Step::Next(at), version);
     let kind = peek(s, name, LITTLE, 3);
     let st = kind_field(s, name);
     let is_leaf = kind == 0;
@@ -189,6 +195,46 @@ fn head(s: &[u8], at: usize, version: u64) -> NodeStart
         let end = any(s, b, 4);
         node(1, at, name, n, n, end)
     }
+}
+
+// Where a name ends; the end of the bytes after a refusal.
+fn end_in(s: &[u8], name: Step) -> usize
+    ensures { λ r. ⌜ (own-part ≤ length (now (s .entry)) - r → name ≡ Next r) ⌝ }
+{
+    match name {
+        Step::Next(e) => e,
+        Step::Refused(_, _) => s.len(),
+    }
+}
+
+// A category without what is below it. Where all the bytes after its name are there, as many for a leaf as for a group, they are looked at
+// after one test, in a part of that size; where one of them is not as it must be, field by field.
+fn head(s: &[u8], at: usize, version: u64) -> NodeStart
+    requires { ⌜ length (now s) ≤ member-bytes ⌝ }
+    ensures { λ r. ⌜ HeadRead version (now (s .entry)) at (read (Head version) (drop at (now (s .entry))) at) r ⌝ }
+{
+    let name = value(s, Step::Next(at), version);
+    let e = end_in(s, name);
+    if OWN_PART <= left(s, e) {
+        let next = e + OWN_PART;
+        let own = &s[e..next];
+        let kind = peek(own, Step::Next(0), LITTLE, 3);
+        let first = peek(own, Step::Next(3), LITTLE, 4);
+        let second = peek(own, Step::Next(7), LITTLE, 4);
+        let third = peek(own, Step::Next(11), LITTLE, 4);
+        if kind == 0 {
+            if first == 2 {
+                if third == 0 {
+                    return node(0, at, name, second, 0, Step::Next(next));
+                }
+            }
+        } else if known_kind(kind) == 0 {
+            if second == MINUS_ONE {
+                return node(1, at, name, third, third, Step::Next(next));
+            }
+        }
+    }
+    after_name(s, at, name, version)
 }
 
 // ---- categories
