@@ -6,18 +6,19 @@ use Prim.Native.Nat.{ℕ, zero, suc, _+_, _-_, _*_, _/_, _%_, _≤_, _<_, min}
 use native.Mathlib.Nat.{min-eq-left, min-eq-right, mul-zero, mul-one, mul-assoc, mul-le-mul-left, mul-le-mul-right, sub-zero, div-div-eq-div-mul, div-eq-of-lt}
 use native.Mathlib.Numerals.{sub-one}
 use native.Mathlib.Omega.{arith}
-use borrow.Author.Tests.{eq-eqb, ne-eqb, lt-ltb, le-ltb, leb-true, leb-false}
-use lib.Dec.{leb}
-use lib.ListN.{length}
+use borrow.Author.Tests.{eq-eqb, ne-eqb, eqb-true, eqb-false, lt-ltb, le-ltb, leb-true, leb-false}
+use lib.Dec.{leb, eqb}
+use lib.ListN.{length, getD, set}
+use lib.Seq.{getD-set-same, getD-set-other}
 use Rattle.sizes.specs.Sizes.{most-places}
 use Rattle.layout.specs.Layout.{among, pick}
 use Rattle.once.specs.Once.{word, fresh}
 use Rattle.index.specs.Index.{product}
 use Rattle.position.specs.Axes.{positionOn, coordinateOn, coordinateAt, part, axesOf}
 use Rattle.position.specs.Answers.{onceEach}
-use Rattle.position.specs.Laws.Turned.{Fits, from-first, from-later}
-use Rattle.position.specs.Laws.Table.{down}
-use Rattle.position.specs.Laws.Accepted.{part-join, Accepted, Axis, axis-later, axis-small, first-small}
+use Rattle.position.specs.Laws.Turned.{Fits, placed, Placed}
+use Rattle.position.specs.Laws.Table.{down, index-below}
+use Rattle.position.specs.Laws.Accepted.{part-join, Accepted, axes-once, Axis, axis-later, axis-small, first-small}
 use Rattle.position.proofs.Fronts.{part-back, down-more}
 
 -- ---- a coordinate, r, on a list of dimensions of which v is the first one's n
@@ -71,17 +72,6 @@ pub no-factor : (l p : ℕ) {r : ℕ} {ns : List ℕ} → ns ≡ [] → p ≤ l 
 unfolding product
 no-factor l p e h i = sym (min-eq-left h) ∙ (rw (e, mul-one p) at i)
 
--- ---- whether e is in a list
-
-module _ (e : ℕ) {ds rest : List ℕ} {x : ℕ} (front : ds ≡ x ∷ rest) {b : Bool} (is : among e ds ≡ b) {u : ℕ} (entry : u ≡ x) where
-  pub is-there : u ≡ e → true ≡ b
-  unfolding among
-  is-there s = rw (front, eq-eqb e x (sym s ∙ entry)) at is
-
-  pub not-there : (u ≡ e → ⊥) → among e rest ≡ b
-  unfolding among
-  not-there s = rw (front, ne-eqb e x (λ t. s (entry ∙ sym t))) at is
-
 -- ---- whether the numbers of a list stand once each
 
 module _ (d : ℕ) {ds rest : List ℕ} {x : ℕ} (front : ds ≡ x ∷ rest) {b : Bool} (is : onceEach d ds ≡ b) {u : ℕ} (entry : u ≡ x) where
@@ -126,7 +116,7 @@ axis-rest w from count i x h l =
     let r : from + (i - from) ≡ i = omega arith in
     rw r at (axis-later (part w from (i - from)) _ (rw (part-join w from (i - from) (from + count - i)) at (rw q at x)))
 
--- ---- one dimension more, of an axis and of an index; nothing is above the limit
+-- ---- one dimension more of an axis; nothing is above the limit
 
 module _ {ns : List ℕ} {k : ℕ} (w : ℕ → ℕ) (from count i : ℕ) (x : Axis ns k (part w from count)) (more : from < i) (end : i ≤ from + count) where
   pub one-outward : {p u v y : ℕ} → p ≡ positionOn (word ns) (coordinateOn (word ns) (down (length ns)) k) (part w i (from + count - i))
@@ -138,46 +128,34 @@ module _ {ns : List ℕ} {k : ℕ} (w : ℕ → ℕ) (from count i : ℕ) (x : A
       let e = one-more n X (part-back w i (from + count) (omega arith) end) m (rw a at b) (rw a at s) in
       (e, rw e (axis-small (axis-rest w from count (i - 1) x (omega arith) (omega arith))))
 
-module _ {ns : List ℕ} {a b c : ℕ} {order : List ℕ} (x : Accepted ns a b c order) (ks : List ℕ) (f : Fits (word ns) (axesOf order a b c) ks) where
-  pub one-dimension : (i : ℕ) → i < length ns → {k v y : ℕ} → k ≡ positionOn (word ns) (coordinateAt (word ns) (axesOf order a b c) ks) (down i)
-      → y ≡ coordinateAt (word ns) (axesOf order a b c) ks i → v ≡ word ns i
-      → (v * k + y ≡ positionOn (word ns) (coordinateAt (word ns) (axesOf order a b c) ks) (down (i + 1))) × (v * k + y ≤ most-places)
-  one-dimension i h m t s =
-      let e = one-more (word ns) (coordinateAt (word ns) (axesOf order a b c) ks) (down-more i) m t s in
-      (e, rw e (first-small x ks f (i + 1) (omega arith)))
+-- ---- coordinates put down, each at the place of its dimension
 
--- ---- three axes
+-- one more, of the dimensions ds that are left
+module _ (n : ℕ → ℕ) (k : ℕ) (xs : List ℕ) (x : ℕ) (rest : List ℕ) (new : among x rest ≡ false) (room : x < length xs) where
+  by-place : (e : ℕ) (b : Bool) → eqb e x ≡ b → placed n rest (k / n x) (set xs x (k % n x)) e ≡ placed n (x ∷ rest) k xs e
+  unfolding placed coordinateOn among pick
+  by-place e true q = rw (eqb-true e x q, new, eq-eqb x x refl, getD-set-same xs x (k % n x) 0 room)
+  by-place e false q = rw (q, getD-set-other xs x e (k % n x) 0 (eqb-false e x q))
 
-no-axis : (n : ℕ → ℕ) (ks : List ℕ) (e : ℕ) → 0 ≡ coordinateAt n [] ks e
-unfolding coordinateAt
-no-axis n ks e = refl
+  pub one-down : {ds : List ℕ} → ds ≡ x ∷ rest → {u v q r : ℕ} → u ≡ x → v ≡ n u → q ≡ k % v → r ≡ k / v → (e : ℕ) → placed n rest r (set xs u q) e ≡ placed n ds k xs e
+  one-down front entry size q r e = rw (r, q, size, entry, front) (by-place e (eqb e x) refl)
 
-module _ (n : ℕ → ℕ) (order : List ℕ) (a b c l r k e : ℕ) {t : Bool} (on : t ≡ among e (part (word order) 0 a)) where
-  pub from-layers : {q : ℕ} → t ≡ true → q ≡ coordinateOn n (part (word order) 0 a) l e → q ≡ coordinateAt n (axesOf order a b c) (l ∷ r ∷ k ∷ []) e
-  unfolding axesOf
-  from-layers h q = q ∙ sym (from-first n (part (word order) 0 a) _ l _ e (sym on ∙ h))
+-- those of three axes, the last first
+module _ {ns : List ℕ} {a b c : ℕ} {order : List ℕ} (x : Accepted ns a b c order) {l r k : ℕ} where
+  module _ {ws xs ys zs : List ℕ} (p : Placed (word ns) (part (word order) (a + b) c) k ws xs) (q : Placed (word ns) (part (word order) a b) r xs ys)
+      (s : Placed (word ns) (part (word order) 0 a) l ys zs) where
+    all-down : (e : ℕ) → getD ws e 0 ≡ 0 → getD zs e 0 ≡ coordinateAt (word ns) (axesOf order a b c) (l ∷ r ∷ k ∷ []) e
+    unfolding placed axesOf coordinateAt
+    all-down e none = rw (s .says e, q .says e, p .says e, none)
 
-  module _ (off : t ≡ false) {u : Bool} (on₂ : u ≡ among e (part (word order) a b)) where
-    pub from-rows : {q : ℕ} → u ≡ true → q ≡ coordinateOn n (part (word order) a b) r e → q ≡ coordinateAt n (axesOf order a b c) (l ∷ r ∷ k ∷ []) e
-    unfolding axesOf
-    from-rows h q =
-        q
-        ∙ sym (from-first n (part (word order) a b) _ r _ e (sym on₂ ∙ h))
-        ∙ sym (from-later n (part (word order) 0 a) _ l _ e (sym on ∙ off))
+    -- an index: one dimension more
+    pub one-dimension : Fits (word ns) (axesOf order a b c) (l ∷ r ∷ k ∷ []) → (i : ℕ) → i < length ns → getD ws i 0 ≡ 0
+        → {m v : ℕ} → m ≡ positionOn (word ns) (coordinateAt (word ns) (axesOf order a b c) (l ∷ r ∷ k ∷ [])) (down i) → v ≡ word ns i
+        → (v * m + getD zs i 0 ≡ positionOn (word ns) (coordinateAt (word ns) (axesOf order a b c) (l ∷ r ∷ k ∷ [])) (down (i + 1))) × (v * m + getD zs i 0 ≤ most-places)
+    one-dimension f i h none m t =
+        let e = one-more (word ns) (coordinateAt (word ns) (axesOf order a b c) (l ∷ r ∷ k ∷ [])) (down-more i) m (all-down i none) t in
+        (e, rw e (first-small x (l ∷ r ∷ k ∷ []) f (i + 1) (omega arith)))
 
-    module _ (off₂ : u ≡ false) {v : Bool} (on₃ : v ≡ among e (part (word order) (a + b) c)) where
-      pub from-columns : {q : ℕ} → v ≡ true → q ≡ coordinateOn n (part (word order) (a + b) c) k e → q ≡ coordinateAt n (axesOf order a b c) (l ∷ r ∷ k ∷ []) e
-      unfolding axesOf
-      from-columns h q =
-          q
-          ∙ sym (from-first n (part (word order) (a + b) c) _ k _ e (sym on₃ ∙ h))
-          ∙ sym (from-later n (part (word order) a b) _ r _ e (sym on₂ ∙ off₂))
-          ∙ sym (from-later n (part (word order) 0 a) _ l _ e (sym on ∙ off))
-
-      pub from-none : v ≡ false → 0 ≡ coordinateAt n (axesOf order a b c) (l ∷ r ∷ k ∷ []) e
-      unfolding axesOf
-      from-none h =
-          no-axis n [] e
-          ∙ sym (from-later n (part (word order) (a + b) c) [] k [] e (sym on₃ ∙ h))
-          ∙ sym (from-later n (part (word order) a b) _ r _ e (sym on₂ ∙ off₂))
-          ∙ sym (from-later n (part (word order) 0 a) _ l _ e (sym on ∙ off))
+-- there is a cell where positions fit
+pub some-cell : {ns : List ℕ} {a b c : ℕ} {order : List ℕ} → Accepted ns a b c order → (ks : List ℕ) → Fits (word ns) (axesOf order a b c) ks → 0 < product ns
+some-cell {ns} x ks f = let h = index-below ns (axes-once x) ks f in omega arith

@@ -5,13 +5,12 @@ ghost use mathlib.Core.List.{[], _∷_};
 ghost use Prim.Native.Nat.{_+_, _*_, _/_, _%_, _≤_, min};
 ghost use lib.ListN.{length};
 ghost use Rattle.sizes.specs.Sizes.{most-dimensions, most-places};
-ghost use Rattle.layout.specs.Layout.{among};
 ghost use Rattle.once.specs.Once.{word};
 ghost use Rattle.index.specs.Index.{product};
-ghost use Rattle.position.specs.Axes.{coordinateOn, coordinateAt, part, axesOf, indexAt};
+ghost use Rattle.position.specs.Axes.{coordinateOn, part, axesOf, indexAt};
 ghost use Rattle.position.specs.Answers as answers;
 ghost use Rattle.position.specs.Laws.Table.{down};
-ghost use Rattle.position.specs.Laws.Turned.{Fits};
+ghost use Rattle.position.specs.Laws.Turned.{Fits, Placed};
 ghost use Rattle.position.specs.Laws.Accepted.{Accepted, Axis};
 use once::word;
 use sizes::MOST_DIMENSIONS;
@@ -109,23 +108,6 @@ fn span(ns: &[u32], order: &[u32], from: usize, count: usize) -> u64
 }
 
 // ---- refusals 7 and 9
-
-// Whether the dimension e is on the axis that is `count` entries of the order.
-fn on_axis(order: &[u32], from: usize, count: usize, e: usize) -> bool
-    requires { ⌜ from + count ≤ most-dimensions ⌝ }
-    ensures { λ r. ⌜ r ≡ among e (part (word (now (order .entry))) from count) ⌝ }
-{
-    let mut i = from;
-    let mut left = count;
-    while 0 < left {
-        if word(order, i) as usize == e {
-            return true;
-        }
-        i += 1;
-        left -= 1;
-    }
-    false
-}
 
 // Whether the first d entries of the order are numbers below d, once each: the last first, with marks for those that follow.
 fn permutes(order: &[u32], d: usize) -> bool
@@ -242,58 +224,32 @@ fn no_index(n: u32) -> CellIndex
     }
 }
 
-// The coordinate on dimension e of the position k on the axis that is `count` entries of the order.
-fn coordinate_on(ns: &[u32], order: &[u32], from: usize, count: usize, k: u32, e: usize) -> u64
-    requires { ⌜ from + count ≤ most-dimensions ⌝ }
-    ensures { λ r. ⌜ r ≡ coordinateOn (word (now (ns .entry))) (part (word (now (order .entry))) from count) k e ⌝ }
+// Puts down the coordinates of the position k on the axis that is `count` entries of the order, each at the place of its dimension.
+fn put_down(
+    ns: &[u32],
+    order: &[u32],
+    from: usize,
+    count: usize,
+    k: u32,
+    xs: &mut [u64; MOST_DIMENSIONS],
+)
+    requires { ⌜ (from + count ≤ most-dimensions) × (length (now ns) ≤ length (now xs)) × (length (now xs) ≡ most-dimensions) × Axis (now ns) 0 (part (word (now order)) from count) ⌝ }
+    ensures { λ _. ⌜ Placed (word (now (ns .entry))) (part (word (now (order .entry))) from count) k (now (xs .entry)) (now (xs .exit)) ⌝ }
 {
     let mut i = from;
     let mut left = count;
     let mut rest = k as u64;
     while 0 < left {
-        let x = word(order, i) as usize;
-        let n = word(ns, x);
-        if x == e {
-            return remainder(rest, n);
-        }
+        let e = word(order, i) as usize;
+        let n = word(ns, e);
+        xs[e] = remainder(rest, n);
         rest = quotient(rest, n as u64);
         i += 1;
         left -= 1;
     }
-    0
 }
 
-// The coordinate on dimension e of the cell at these positions.
-fn coordinate_at(
-    ns: &[u32],
-    a: usize,
-    b: usize,
-    c: usize,
-    order: &[u32],
-    layer: u32,
-    row: u32,
-    column: u32,
-    e: usize,
-) -> u64
-    requires { ⌜ a + b + c ≤ most-dimensions ⌝ }
-    ensures { λ r. ⌜ r ≡ coordinateAt (word (now (ns .entry))) (axesOf (now (order .entry)) a b c) (layer ∷ row ∷ column ∷ []) e ⌝ }
-{
-    let first = on_axis(order, 0, a, e);
-    if first {
-        return coordinate_on(ns, order, 0, a, layer, e);
-    }
-    let second = on_axis(order, a, b, e);
-    if second {
-        return coordinate_on(ns, order, a, b, row, e);
-    }
-    let third = on_axis(order, a + b, c, e);
-    if third {
-        return coordinate_on(ns, order, a + b, c, column, e);
-    }
-    0
-}
-
-// The index of the cell at these positions.
+// The index of the cell at these positions, by the coordinates on all axes.
 fn index_at(
     ns: &[u32],
     a: usize,
@@ -307,12 +263,15 @@ fn index_at(
     requires { ⌜ Accepted (now ns) a b c (now order) × Fits (word (now ns)) (axesOf (now order) a b c) (layer ∷ row ∷ column ∷ []) ⌝ }
     ensures { λ r. ⌜ r ≡ indexAt (now (ns .entry)) (axesOf (now (order .entry)) a b c) (layer ∷ row ∷ column ∷ []) ⌝ }
 {
+    let mut xs = [0u64; MOST_DIMENSIONS];
+    put_down(ns, order, a + b, c, column, &mut xs);
+    put_down(ns, order, a, b, row, &mut xs);
+    put_down(ns, order, 0, a, layer, &mut xs);
     let d = ns.len();
     let mut k: u64 = 0;
     let mut i = 0;
     while i < d {
-        let x = coordinate_at(ns, a, b, c, order, layer, row, column, i);
-        k = word(ns, i) as u64 * k + x;
+        k = word(ns, i) as u64 * k + xs[i];
         i += 1;
     }
     k as u32

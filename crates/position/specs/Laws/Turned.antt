@@ -3,7 +3,7 @@ use mathlib.Core.Path.{_≡_, refl, _∙_}
 use mathlib.Core.Bool.{true, false}
 use mathlib.Core.List.{List, [], _∷_, _++_}
 use Prim.Native.Nat.{ℕ, _<_}
-use lib.ListN.{length}
+use lib.ListN.{length, getD}
 use Rattle.layout.specs.Layout.{among, pick}
 use Rattle.once.specs.Once.{Distinct, OnceEach}
 use Rattle.once.specs.Laws.{each-there}
@@ -25,6 +25,16 @@ joined (a ∷ axs) = a ++ joined axs
 pub record Axes (d : ℕ) (axs : List (List ℕ)) : Type 0 where
   pub once : OnceEach d (joined axs)
   pub whole : length (joined axs) ≡ d
+
+-- ---- coordinates put down, each at the place of its dimension
+
+-- what is at place e of xs, once those of the position k on an axis are
+unfoldable pub placed : (ℕ → ℕ) → List ℕ → ℕ → List ℕ → ℕ → ℕ
+placed n axis k xs e = pick (among e axis) (coordinateOn n axis k e) (getD xs e 0)
+
+pub record Placed (n : ℕ → ℕ) (axis : List ℕ) (k : ℕ) (xs ys : List ℕ) : Type 0 where
+  pub long : length ys ≡ length xs
+  pub says : (e : ℕ) → getD ys e 0 ≡ placed n axis k xs e
 
 -- ---- one axis after the other
 
