@@ -6,7 +6,6 @@ mod utf8; // the rows of UTF-8
 ghost use mathlib.Core.Path.{_≡_};
 ghost use Prim.Native.Nat.{_+_, _-_, _*_, _/_, _≤_, _<_};
 ghost use mathlib.Core.Bool.{true, false};
-ghost use mathlib.Core.List.{_++_};
 ghost use lib.ListN.{getD, length, take, drop};
 ghost use lib.Seq.{sets};
 ghost use Rattle.codepages.specs.Pages as pages;

@@ -1,7 +1,6 @@
 // A call for a leaf: the member is read into lists, so that the lent areas stay as they are if something is refused.
 ghost use mathlib.Core.Path.{_≡_};
 ghost use lib.ListN.{length};
-ghost use lib.Dec.{leb};
 ghost use Rattle.member.specs.IntoLists.{LongEnough};
 ghost use Rattle.total.specs.Answers.{Totalled};
 ghost use Rattle.total.specs.Laws.Reading.{Taken};

@@ -18,7 +18,7 @@ use Rattle.codepages.specs.Convert.{invalid, converts, to, from, way, va
 use Rattle.codepages.specs.Laws.Pages.{side, point-high, point-byte, byte-low, byte-below, byte-none}
 use Rattle.codepages.specs.Laws.Utf8.{encode-one, encode-two, encode-three, encode-four, encode-length, row-one-is, row-two-is, row-three-is, decoded-by, Decoded, from-one, from-two, from-three, from-four, encode-decode}
 use Rattle.codepages.specs.Laws.Steps.{to-converts, to-invalid, from-converts, from-invalid}
-use Rattle.codepages.specs.Laws.Passes.{half, Ascii, Run, Tally, tally, tally-step, Grown, sets-append, ascii-one, ascii-more, passes-ascii, Passes, passes-one, Skips, skips, Found, found-some, Ready, not-refused, fits, Wrote, wrote}
+use Rattle.codepages.specs.Laws.Passes.{half, Run, Tally, tally, tally-step, Grown, sets-append, ascii-one, ascii-more, passes-ascii, Passes, passes-one, Skips, skips, Found, found-some, Ready, not-refused, fits, Wrote, wrote}
 
 pub past : (u : List ℕ) (i : ℕ) → length u ≤ i → 0 ≡ getD u i 0
 past u i h = sym (List·getD-eq-default u 0 {n = i} h)

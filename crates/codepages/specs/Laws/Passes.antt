@@ -4,17 +4,16 @@ use mathlib.Core.Bool.{Bool, true, false}
 use mathlib.Core.List.{List, [], _∷_, _++_}
 use mathlib.Core.Logic.{_⊎_, ⊎-elim}
 use Prim.Native.Nat.{ℕ, zero, suc, _+_, _-_, _≤_, _<_}
-use native.Mathlib.Numerals.{add-one}
 use native.Mathlib.Omega.{arith}
 use lib.ListN.{length, getD, take, drop, set, length-append, length-drop, drop-of-length-le}
-use lib.Seq.{getD-drop, drop-drop, drop-cons, length-take-le, sets, length-sets}
+use lib.Seq.{drop-drop, drop-cons, sets, length-sets}
 use lib.Bits.{bitOr, or-add-and, and-le-l, and-le-r}
-use Rattle.codepages.specs.Pages.{ascii, no-code-point, no-byte, code-point, byte}
-use Rattle.codepages.specs.Utf8.{encode, decode}
+use Rattle.codepages.specs.Pages.{ascii, byte}
+use Rattle.codepages.specs.Utf8.{decode}
 use Rattle.codepages.specs.Convert.{Step, invalid, converts, to, from, way, valid-up-to, output}
 use Rattle.codepages.specs.Laws.Pages.{side, point-low, byte-low}
 use Rattle.codepages.specs.Laws.Utf8.{encode-one, row-one-is}
-use Rattle.codepages.specs.Laws.Steps.{up-to-step, output-step, up-to-invalid, output-invalid, up-to-end, output-end, up-to-most, to-converts, from-converts}
+use Rattle.codepages.specs.Laws.Steps.{up-to-step, output-step, up-to-invalid, output-invalid, up-to-end, output-end, to-converts, from-converts}
 
 -- a slice is shorter than that
 abbrev pub half : ℕ

@@ -1,4 +1,3 @@
-use native.Mathlib.Omega.{arith}
 use borrow.Author.Needs.{needs}
 use Rattle.member.proofs.Areas.{both, short-cells, short-nodes}
 use Rattle.member.proofs.deliver.Statement.{statement}
