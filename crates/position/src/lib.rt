@@ -224,8 +224,8 @@ fn no_index(n: u32) -> CellIndex
     }
 }
 
-// Puts down the coordinates of the position k on the axis that is `count` entries of the order, each at the place of its dimension.
-fn put_down(
+// Stores the coordinates of the position k on the axis that is `count` entries of the order, each at the place of its dimension.
+fn store_coordinates(
     ns: &[u32],
     order: &[u32],
     from: usize,
@@ -264,9 +264,9 @@ fn index_at(
     ensures { λ r. ⌜ r ≡ indexAt (now (ns .entry)) (axesOf (now (order .entry)) a b c) (layer ∷ row ∷ column ∷ []) ⌝ }
 {
     let mut xs = [0u64; MOST_DIMENSIONS];
-    put_down(ns, order, a + b, c, column, &mut xs);
-    put_down(ns, order, a, b, row, &mut xs);
-    put_down(ns, order, 0, a, layer, &mut xs);
+    store_coordinates(ns, order, a + b, c, column, &mut xs);
+    store_coordinates(ns, order, a, b, row, &mut xs);
+    store_coordinates(ns, order, 0, a, layer, &mut xs);
     let d = ns.len();
     let mut k: u64 = 0;
     let mut i = 0;

@@ -29,12 +29,12 @@ index-at-spec =
     (λ c κs.
     let s = c .before .before .before .before .before .pre in
     let x = s .0 in
-    let n = c .before .put-down .ensures .long in
+    let n = c .before .store-coordinates .ensures .long in
     (omega (arith, x .few, x .sum), omega (arith, x .few, n), n, rows x 0 (some-cell x _ (s .1))))
     (λ c κs.
     let s = c .before .before .before .before .before .before .before .pre in
     let x = s .0 in
-    let n = c .before .put-down2 .ensures .long ∙ c .before .before .before .put-down .ensures .long in
+    let n = c .before .store-coordinates2 .ensures .long ∙ c .before .before .before .store-coordinates .ensures .long in
     (omega (arith, x .few, x .sum), omega (arith, x .few, n), n, layers x 0 (some-cell x _ (s .1))))
     (λ c. (omega arith, refl)) (λ _ _. tt) (λ c. omega arith)
     (λ c.
@@ -44,7 +44,7 @@ index-at-spec =
     let o = q .before .before in
     let s = o .before .before .before .before in
     let x = s .pre .0 in
-    let e = one-dimension x (o .put-down .ensures) (q .put-down2 .ensures) (p .put-down3 .ensures) (s .pre .1) (l .i) (omega arith) (getD-replicate most-dimensions (l .i) 0 0 (omega (arith, x .few))) (l .inv .1) (c .word .ensures) in
+    let e = one-dimension x (o .store-coordinates .ensures) (q .store-coordinates2 .ensures) (p .store-coordinates3 .ensures) (s .pre .1) (l .i) (omega arith) (getD-replicate most-dimensions (l .i) 0 0 (omega (arith, x .few))) (l .inv .1) (c .word .ensures) in
     omega (arith, e .1))
     (λ c. let x = c .before .before .before .before .before .before .before .before .before .before .before .pre .0 in omega (arith, x .few))
     (λ c. let x = c .before .before .before .before .before .before .before .before .before .before .before .pre .0 in omega (arith, x .few))
@@ -55,7 +55,7 @@ index-at-spec =
     let o = q .before .before in
     let s = o .before .before .before .before in
     let x = s .pre .0 in
-    let e = one-dimension x (o .put-down .ensures) (q .put-down2 .ensures) (p .put-down3 .ensures) (s .pre .1) (l .i) (omega arith) (getD-replicate most-dimensions (l .i) 0 0 (omega (arith, x .few))) (l .inv .1) (c .word .ensures) in
+    let e = one-dimension x (o .store-coordinates .ensures) (q .store-coordinates2 .ensures) (p .store-coordinates3 .ensures) (s .pre .1) (l .i) (omega arith) (getD-replicate most-dimensions (l .i) 0 0 (omega (arith, x .few))) (l .inv .1) (c .word .ensures) in
     omega (arith, e .1))
     (λ c. omega arith) (λ c. omega arith)
     (λ c.
@@ -65,7 +65,7 @@ index-at-spec =
     let o = q .before .before in
     let s = o .before .before .before .before in
     let x = s .pre .0 in
-    let e = one-dimension x (o .put-down .ensures) (q .put-down2 .ensures) (p .put-down3 .ensures) (s .pre .1) (l .i) (omega arith) (getD-replicate most-dimensions (l .i) 0 0 (omega (arith, x .few))) (l .inv .1) (c .word .ensures) in
+    let e = one-dimension x (o .store-coordinates .ensures) (q .store-coordinates2 .ensures) (p .store-coordinates3 .ensures) (s .pre .1) (l .i) (omega arith) (getD-replicate most-dimensions (l .i) 0 0 (omega (arith, x .few))) (l .inv .1) (c .word .ensures) in
     (omega arith, e .0))
     (λ c.
     let l = c .before .loop in

@@ -13,8 +13,8 @@ use Rattle.position.specs.Laws.Accepted.{Axis, axis-later}
 use Rattle.position.specs.Laws.Among.{first-among}
 use Rattle.position.proofs.Fronts.{part-front}
 use Rattle.position.proofs.Steps.{one-down}
-use Rattle.position.proofs.put_down.Statement.{statement}
-use Rattle.position.proofs.put_down.Tie as tie
+use Rattle.position.proofs.store_coordinates.Statement.{statement}
+use Rattle.position.proofs.store_coordinates.Tie as tie
 
 -- the first entry is a dimension of the table
 inside : {ns ds rest : List ℕ} {x u : ℕ} → Axis ns 0 ds → ds ≡ x ∷ rest → u ≡ x → u < length ns
@@ -25,9 +25,9 @@ none-left : (n : ℕ → ℕ) (k : ℕ) (xs : List ℕ) (e : ℕ) → placed n [
 unfolding placed among pick
 none-left n k xs e = refl
 
-pub put-down-spec : {M : Type 1} → statement M
+pub store-coordinates-spec : {M : Type 1} → statement M
 unfolding part
-put-down-spec =
+store-coordinates-spec =
     tie.close
     (tie.spec
     (λ ns order from count k xs₁ i₀ left₀ rest₀ xs i left rest.
