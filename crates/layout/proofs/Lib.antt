@@ -1,5 +1,4 @@
 mod Digits
-mod Fields
 mod NullBytes
 mod Runs
 mod Rooms

@@ -7,6 +7,8 @@ pub mod Chain
 pub mod Numbers
 pub mod Counted
 pub mod Runs
+pub mod Fields
+pub mod Fixed
 pub mod Rows
 pub mod Least
 pub mod Keeping

@@ -1,5 +1,6 @@
 // Dimensions and their categories: a walk that stores each node's record in a list of words.
 ghost use mathlib.Core.Path.{_≡_};
+ghost use mathlib.Core.Bool.{true};
 ghost use mathlib.Core.List.{[], _∷_};
 ghost use Prim.Native.Nat.{_≤_, _<_, _-_, _*_};
 ghost use lib.ListN.{length, set, drop};
@@ -18,7 +19,7 @@ ghost use Rattle.table.specs.Table as grammar;
 ghost use Rattle.table.specs.Records.{Head, nodeRecord};
 ghost use Rattle.table.specs.Rules.{categoryRule, categoriesRule};
 ghost use Rattle.table.specs.Laws.Heads.{HeadRead, nodeOf};
-ghost use Rattle.table.specs.Laws.OwnPart.{own-part};
+ghost use Rattle.table.specs.Laws.OwnPart.{own-part, OwnIs};
 ghost use Rattle.table.specs.Laws.Nodes as spec;
 use layout::LITTLE;
 use layout::Step;
@@ -64,6 +65,15 @@ pub enum Section {
 enum NodeStart {
     Node(u32, u32, u32, u64, usize),
     Refused(u32, usize),
+}
+
+// What the bytes after a category's name say, where they are `good`: 0 for a leaf or 1 for a group, its last word, and how many categories
+// are below it.
+struct Own {
+    pub good: bool,
+    pub kind: u32,
+    pub word: u64,
+    pub children: u64,
 }
 
 // ---- words
@@ -197,6 +207,43 @@ fn after_name(s: &[u8], at: usize, name: Step, version: u64) -> NodeStart
     }
 }
 
+// What the bytes after a category's name say, in a part of their size, where they are as they must be.
+fn own_part(bytes: &[u8]) -> Own
+    ensures { λ r. ⌜ (r .good ≡ true → OwnIs (now (bytes .entry)) (r .kind) (r .word) (r .children)) ⌝ }
+{
+    let kind = peek(bytes, Step::Next(0), LITTLE, 3);
+    let first = peek(bytes, Step::Next(3), LITTLE, 4);
+    let second = peek(bytes, Step::Next(7), LITTLE, 4);
+    let third = peek(bytes, Step::Next(11), LITTLE, 4);
+    if kind == 0 {
+        if first == 2 {
+            if third == 0 {
+                return Own {
+                    good: true,
+                    kind: 0,
+                    word: second,
+                    children: 0,
+                };
+            }
+        }
+    } else if known_kind(kind) == 0 {
+        if second == MINUS_ONE {
+            return Own {
+                good: true,
+                kind: 1,
+                word: third,
+                children: third,
+            };
+        }
+    }
+    Own {
+        good: false,
+        kind: 0,
+        word: 0,
+        children: 0,
+    }
+}
+
 // Where a name ends; the end of the bytes after a refusal.
 fn end_in(s: &[u8], name: Step) -> usize
     ensures { λ r. ⌜ (own-part ≤ length (now (s .entry)) - r → name ≡ Next r) ⌝ }
@@ -217,21 +264,9 @@ fn head(s: &[u8], at: usize, version: u64) -> NodeStart
     let e = end_in(s, name);
     if OWN_PART <= left(s, e) {
         let next = e + OWN_PART;
-        let own = &s[e..next];
-        let kind = peek(own, Step::Next(0), LITTLE, 3);
-        let first = peek(own, Step::Next(3), LITTLE, 4);
-        let second = peek(own, Step::Next(7), LITTLE, 4);
-        let third = peek(own, Step::Next(11), LITTLE, 4);
-        if kind == 0 {
-            if first == 2 {
-                if third == 0 {
-                    return node(0, at, name, second, 0, Step::Next(next));
-                }
-            }
-        } else if known_kind(kind) == 0 {
-            if second == MINUS_ONE {
-                return node(1, at, name, third, third, Step::Next(next));
-            }
+        let own = own_part(&s[e..next]);
+        if own.good {
+            return node(own.kind, at, name, own.word, own.children, Step::Next(next));
         }
     }
     after_name(s, at, name, version)

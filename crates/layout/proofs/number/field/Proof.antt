@@ -3,7 +3,7 @@ use borrow.Author.Tests.{leb-true}
 use native.Mathlib.Omega.{arith}
 use Rattle.layout.specs.Layout.{pick}
 use Rattle.layout.specs.Reads as spec
-use Rattle.layout.proofs.Fields.{field-at}
+use Rattle.layout.specs.Steps.Fields.{field-at}
 use Rattle.layout.proofs.number.field.Statement.{statement}
 use Rattle.layout.proofs.number.field.Tie as tie
 

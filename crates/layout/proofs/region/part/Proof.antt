@@ -3,7 +3,7 @@ use borrow.Author.Tests.{leb-true}
 use native.Mathlib.Omega.{arith}
 use Rattle.layout.specs.Layout.{pick}
 use Rattle.layout.specs.Reads as spec
-use Rattle.layout.proofs.Fields.{part-at}
+use Rattle.layout.specs.Steps.Fields.{part-at}
 use Rattle.layout.proofs.region.part.Statement.{statement}
 use Rattle.layout.proofs.region.part.Tie as tie
 
