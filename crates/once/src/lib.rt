@@ -35,7 +35,7 @@ pub struct Leaves {
     pub verdict: Verdict,
 }
 
-// Whether leaf indexes are 0, 1, 2 and so on, and how many they are where they are.
+// Whether leaf indexes are 0, 1, 2 and so on, and how many there are if so.
 struct Numbered {
     pub holds: bool,
     pub count: usize,
