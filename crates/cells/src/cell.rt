@@ -2,12 +2,11 @@
 // again: the first refusal in file order is given all the same.
 ghost use mathlib.Core.Path.{_≡_};
 ghost use lib.ListN.{length, drop};
-ghost use Prim.Native.Nat.{_<_, _≤_, _*_};
+ghost use Prim.Native.Nat.{_<_, _≤_, _-_};
 ghost use Rattle.sizes.specs.Sizes.{member-bytes, most-cells};
 ghost use Rattle.layout.specs.Check.{check};
 ghost use Rattle.layout.specs.Keeps.{Keeps};
 ghost use Rattle.table.specs.Rules.{cellsRule};
-ghost use Rattle.table.specs.Laws.LeastBytes.{least-cell};
 ghost use Rattle.table.specs.Laws.Within.{Room, Scratch, needed, within};
 ghost use Rattle.cells.specs.Laws.Reading.{Placed, Tested};
 ghost use Rattle.cells.specs.Laws.Cells as spec;
@@ -16,11 +15,12 @@ use crate::LEAST_CELL;
 use layout::LITTLE;
 use layout::Step;
 use layout::number::any;
+use layout::number::at_most;
 use layout::number::count;
+use layout::number::left;
 use layout::number::peek;
 use once::first_repeat;
 use once::word;
-use sizes::CELL_AREA;
 use sizes::CELL_WORDS;
 use sizes::MEMBER_BYTES;
 use sizes::MOST_CELLS;
@@ -54,9 +54,10 @@ fn record(s: &[u8], at: usize, j: usize, x: u64, cells: &mut [u32], version: u64
     }
 }
 
-// Cell j, with no look at the indexes before it.
+// Cell j, with no look at the indexes before it. Its record is stored once the index is read, before the byte or more of its Value, so the
+// room counts from the byte before the cell on.
 fn cell(s: &[u8], at: usize, places: u32, j: usize, cells: &mut [u32], version: u64) -> CellRead
-    requires { ⌜ (j < most-cells) × (length (now s) ≤ member-bytes) × (least-cell * j < at) × Room spec.cell-records (length (now cells)) (now s) ⌝ }
+    requires { ⌜ (j < most-cells) × (length (now s) ≤ member-bytes) × (0 < at) × Room spec.cell-records (length (now cells)) j (at - 1) (now s) ⌝ }
     ensures { λ r. ⌜ spec.CellDone version (now (s .entry)) at places j (now (cells .entry)) r (now (cells .exit)) ⌝ }
 {
     let x = peek(s, Step::Next(at), LITTLE, INDEX_BYTES);
@@ -89,7 +90,7 @@ fn once_each(cells: &[u32], m: usize, end: Step) -> Step
 
 // n cells, in a table of so many places. Where reading stops, a repeat among the indexes read until then comes first.
 fn all(s: &[u8], at: usize, places: u32, n: usize, words: &mut [u32], version: u64) -> Step
-    requires { ⌜ (n ≤ most-cells) × (length (now s) ≤ member-bytes) × (0 < at) × Room spec.cell-records (length (now words)) (now s) ⌝ }
+    requires { ⌜ (n ≤ most-cells) × (length (now s) ≤ member-bytes) × (0 < at) × Room spec.cell-records (length (now words)) 0 (at - 1) (now s) ⌝ }
     ensures { λ r. ⌜ spec.AllRead version (now (s .entry)) at places n (now (words .entry)) r (now (words .exit)) ⌝ }
 {
     let mut at = at;
@@ -113,7 +114,7 @@ fn all(s: &[u8], at: usize, places: u32, n: usize, words: &mut [u32], version: u
 
 // The section, in a member that is no longer than members are, with room for its records.
 fn section(s: &[u8], at: usize, places: u32, words: &mut [u32], version: u64) -> Walk
-    requires { ⌜ (length (now s) ≤ member-bytes) × Room spec.cell-records (length (now words)) (now s) ⌝ }
+    requires { ⌜ (length (now s) ≤ member-bytes) × Room spec.cell-records (length (now words)) 0 at (now s) ⌝ }
     ensures { λ r. ⌜ Keeps (now (s .entry)) (spec.AllCells version at (now (words .entry))) (check (cellsRule version places) (drop at (now (s .entry))) at) (spec.cellsOut r (now (words .exit))) ⌝ }
 {
     let n = peek(s, Step::Next(at), LITTLE, 4);
@@ -127,28 +128,23 @@ fn section(s: &[u8], at: usize, places: u32, words: &mut [u32], version: u64) ->
 }
 
 // How many words the cell records of n bytes have at most.
-fn most_words(n: usize) -> usize
+pub fn most_cell_words(n: usize) -> usize
     ensures { λ r. ⌜ r ≡ needed spec.cell-records n ⌝ }
 {
-    let k = n / LEAST_CELL;
-    if k <= MOST_CELLS {
-        CELL_WORDS * k
-    } else {
-        CELL_AREA
-    }
+    CELL_WORDS * at_most(n / LEAST_CELL, MOST_CELLS)
 }
 
 // The number of cells at a position, and the cells of a table of so many places: where they end, and how many they are. Refused besides:
-// more bytes than a member has, 1 at 0; a list that is too short for the cell records of so many bytes, 13 at 0. The words are
+// more bytes than a member has, 1 at 0; a list that is too short for the cell records of the bytes from there on, 13 at 0. The words are
 // scratch: after a refusal they may hold anything.
 pub fn cells(s: &[u8], at: usize, places: u32, words: &mut [u32], version: u64) -> Walk
-    ensures cells { λ r. ⌜ Keeps (now (s .entry)) (spec.AllCells version at (now (words .entry))) (within spec.cell-records (now (s .entry)) (length (now (words .entry))) (check (cellsRule version places) (drop at (now (s .entry))) at)) (spec.cellsOut r (now (words .exit))) ⌝ }
+    ensures cells { λ r. ⌜ Keeps (now (s .entry)) (spec.AllCells version at (now (words .entry))) (within spec.cell-records (now (s .entry)) at (length (now (words .entry))) (check (cellsRule version places) (drop at (now (s .entry))) at)) (spec.cellsOut r (now (words .exit))) ⌝ }
     ensures scratch { λ _. ⌜ Scratch (now (words .entry)) (now (words .exit)) ⌝ }
 {
     if MEMBER_BYTES < s.len() {
         return Walk::Refused(1, 0);
     }
-    let most = most_words(s.len());
+    let most = most_cell_words(left(s, at));
     if words.len() < most {
         return Walk::Refused(13, 0);
     }

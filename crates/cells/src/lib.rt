@@ -7,6 +7,7 @@ mod cell; // cells
 
 pub use axis::axes;
 pub use cell::cells;
+pub use cell::most_cell_words;
 
 // The bytes that a cell takes at least.
 pub const LEAST_CELL: usize = 9;

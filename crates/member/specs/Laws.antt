@@ -10,6 +10,7 @@ pub mod RecordsSpelt
 pub mod NodesBelow
 pub mod NoCells
 -- the readers
+pub mod IntoLists
 pub mod Header
 pub mod Whole
 pub mod Holds

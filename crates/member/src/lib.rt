@@ -1,9 +1,9 @@
 // The whole member.
 ghost use mathlib.Core.Path.{_≡_};
 ghost use mathlib.Core.List.{_++_};
-ghost use Prim.Native.Nat.{_≤_};
+ghost use Prim.Native.Nat.{_≤_, _-_};
 ghost use lib.ListN.{length, take, drop};
-ghost use Rattle.sizes.specs.Sizes.{member-bytes};
+ghost use Rattle.sizes.specs.Sizes.{member-bytes, node-area, cell-area};
 ghost use Rattle.layout.specs.Part.{partOf};
 ghost use Rattle.layout.specs.Keeps.{Keeps};
 ghost use Rattle.layout.specs.Check.{check};
@@ -13,20 +13,21 @@ ghost use Rattle.table.specs.Laws.Dims.{node-records};
 ghost use Rattle.cells.specs.Laws.Cells.{AllCells, cellsOut, cell-records};
 ghost use Rattle.member.specs.Answer as spec;
 ghost use Rattle.member.specs.Answer.{Delivered};
-ghost use Rattle.member.specs.IntoLists as lists;
-ghost use Rattle.member.specs.IntoLists.{small-lists, medium-lists, large-lists, larger-lists, largest-lists, intoLists, Stored, LongEnough};
+ghost use Rattle.member.specs.Laws.IntoLists as lists;
+ghost use Rattle.member.specs.Laws.IntoLists.{smallest-lists, small-lists, medium-lists, large-lists, larger-lists, largest-lists, intoLists, Stored, LongEnough};
 ghost use Rattle.member.specs.Demand3.{Demand3};
 ghost use Rattle.member.specs.Checked.{ended, checked};
-ghost use Rattle.member.specs.Laws.Header.{Bound, HeaderRead};
+ghost use Rattle.member.specs.Laws.Header.{HeaderRead};
 ghost use Rattle.member.specs.Laws.Whole as whole;
 use cells::AxisCounts;
 use cells::LEAST_CELL;
 use cells::axes;
 use cells::cells as cells_section;
+use cells::most_cell_words;
 use index::product_of;
 use layout::LITTLE;
 use layout::Step;
-use layout::number::at_most;
+use layout::number::left;
 use layout::number::peek;
 use layout::run::skip;
 use layout::slice::part as part_of;
@@ -37,9 +38,7 @@ use sizes::CELL_AREA;
 use sizes::CELL_WORDS;
 use sizes::DIMENSION_AREA;
 use sizes::MEMBER_BYTES;
-use sizes::MOST_CELLS;
 use sizes::MOST_DIMENSIONS;
-use sizes::MOST_NODES;
 use sizes::MOST_PLACES;
 use sizes::NODE_AREA;
 use sizes::NODE_WORDS;
@@ -47,9 +46,12 @@ use table::LEAST_CATEGORY;
 use table::Section;
 use table::Walk;
 use table::dimensions;
+use table::most_node_words;
 
-// The bytes of a member that is read with the lists of each step: these have room for the records that so many bytes hold at most. From
-// the second step on a list is about twice as long as the one before, so what is cleared goes with the member's length.
+// The bytes, from the dimensions on, that are read with the lists of each step: these have room for the records that so many bytes hold at
+// most. From the second step on a list is about twice as long as the one before, so what is cleared goes with those bytes.
+pub const SMALLEST_LISTS: usize = 1024;
+
 pub const SMALL_LISTS: usize = 2560;
 
 pub const MEDIUM_LISTS: usize = 4608;
@@ -60,7 +62,7 @@ pub const LARGER_LISTS: usize = 16384;
 
 pub const LARGEST_LISTS: usize = 32768;
 
-// The version of a member and where what follows it starts; or the refusal.
+// The version of a member, and the place after what was read; or the refusal.
 enum Head {
     Of(u64, usize),
     Refused(u32, usize),
@@ -103,6 +105,22 @@ fn header(s: &[u8]) -> Head
     }
 }
 
+// The Header and the sections before the dimensions, of a member that is no longer than members are.
+fn opening(s: &[u8]) -> Head
+    ensures { λ r. ⌜ whole.OpeningRead (now (s .entry)) r ⌝ }
+{
+    if MEMBER_BYTES < s.len() {
+        return Head::Refused(1, 0);
+    }
+    match header(s) {
+        Head::Refused(r, p) => Head::Refused(r, p),
+        Head::Of(version, start) => match front(s, Step::Next(start), version) {
+            Step::Refused(r, p) => Head::Refused(r, p),
+            Step::Next(end) => Head::Of(version, end),
+        },
+    }
+}
+
 // The end of a member: an optional 01, and nothing after it.
 fn ending(s: &[u8], at: usize) -> Step
     ensures { λ r. ⌜ r ≡ whole.endAt (now (s .entry)) at ⌝ }
@@ -122,7 +140,7 @@ fn ending(s: &[u8], at: usize) -> Step
 
 // The cells of a table of so many places, and the end.
 fn cells_and_end(s: &[u8], at: usize, places: u32, words: &mut [u32], version: u64) -> Walk
-    requires { ⌜ (length (now s) ≤ member-bytes) × (needed cell-records (length (now s)) ≤ length (now words)) ⌝ }
+    requires { ⌜ (length (now s) ≤ member-bytes) × (needed cell-records (length (now s) - at) ≤ length (now words)) ⌝ }
     ensures { λ r. ⌜ Keeps (now (s .entry)) (AllCells version at (now (words .entry))) (ended (check (cellsRule version places) (drop at (now (s .entry))) at)) (cellsOut r (now (words .exit))) ⌝ }
 {
     match cells_section(s, at, places, words, version) {
@@ -143,7 +161,7 @@ fn after_dims(
     words: &mut [u32],
     version: u64,
 ) -> Tail
-    requires { ⌜ (length (now s) ≤ member-bytes) × (needed cell-records (length (now s)) ≤ length (now words)) ⌝ }
+    requires { ⌜ (length (now s) ≤ member-bytes) × (needed cell-records (length (now s) - at) ≤ length (now words)) ⌝ }
     ensures { λ r. ⌜ whole.TailRead version (now (s .entry)) at d (now (dims .entry)) (now (words .entry)) r (now (words .exit)) ⌝ }
 {
     let places = product_of(dims, d);
@@ -250,69 +268,52 @@ fn deliver(
     }
 }
 
-// Reads a member of that version, from the place after it on, into two lists that are long enough for its records.
+// Reads a member of that version, from its dimensions on, into two lists that are long enough for its records.
 fn read_body(
     member: &[u8],
     version: u64,
-    start: usize,
+    at: usize,
     node_list: &mut [u32],
     cell_list: &mut [u32],
 ) -> Answer
-    requires { ⌜ whole.ReadyLists (now member) (now «node_list») (now «cell_list») × Bound (now member) version start ⌝ }
+    requires { ⌜ LongEnough (now member) at (length (now «node_list»)) (length (now «cell_list»)) × whole.Opened (now member) version at ⌝ }
     ensures { λ r. ⌜ Stored (now («node_list» .entry)) (now («cell_list» .entry)) (checked (now (member .entry))) r (now («node_list» .exit)) (now («cell_list» .exit)) ⌝ }
 {
     let mut dims = [0u32; DIMENSION_AREA];
-    match front(member, Step::Next(start), version) {
-        Step::Refused(r, p) => refused(r, p, 0, 0),
-        Step::Next(at) => match dimensions(member, at, node_list, &mut dims, version) {
-            Section::Refused(r, p) => refused(r, p, 0, 0),
-            Section::Of(next, d, used) => {
-                let tail = after_dims(member, next, d, &dims, cell_list, version);
-                let order = tail.order;
-                let axes = tail.axes;
-                match axes {
-                    AxisCounts::Refused(r, p) => refused(r, p, 0, 0),
-                    AxisCounts::Of(layers, rows, columns, _) => Answer {
-                        refusal: 0,
-                        place: 0,
-                        dims: (d % 4294967296) as u32,
-                        nodes: (used % 4294967296) as u32,
-                        cells: (tail.cells % 4294967296) as u32,
-                        dimensions: dims,
-                        layers,
-                        rows,
-                        columns,
-                        order,
-                    },
-                }
+    match dimensions(member, at, node_list, &mut dims, version) {
+        Section::Refused(r, p) => refused(r, p, 0, 0),
+        Section::Of(next, d, used) => {
+            let tail = after_dims(member, next, d, &dims, cell_list, version);
+            let order = tail.order;
+            let axes = tail.axes;
+            match axes {
+                AxisCounts::Refused(r, p) => refused(r, p, 0, 0),
+                AxisCounts::Of(layers, rows, columns, _) => Answer {
+                    refusal: 0,
+                    place: 0,
+                    dims: (d % 4294967296) as u32,
+                    nodes: (used % 4294967296) as u32,
+                    cells: (tail.cells % 4294967296) as u32,
+                    dimensions: dims,
+                    layers,
+                    rows,
+                    columns,
+                    order,
+                },
             }
-        },
+        }
     }
 }
 
 // Reads a member into two lists that are long enough for its records.
 fn read_ready(member: &[u8], node_list: &mut [u32], cell_list: &mut [u32]) -> Answer
-    requires { ⌜ whole.ReadyLists (now member) (now «node_list») (now «cell_list») ⌝ }
+    requires { ⌜ LongEnough (now member) 0 (length (now «node_list»)) (length (now «cell_list»)) ⌝ }
     ensures { λ r. ⌜ Stored (now («node_list» .entry)) (now («cell_list» .entry)) (checked (now (member .entry))) r (now («node_list» .exit)) (now («cell_list» .exit)) ⌝ }
 {
-    match header(member) {
+    match opening(member) {
         Head::Refused(r, p) => refused(r, p, 0, 0),
         Head::Of(version, at) => read_body(member, version, at, node_list, cell_list),
     }
-}
-
-// How many words the node records of n bytes have at most.
-fn most_node_words(n: usize) -> usize
-    ensures { λ r. ⌜ r ≡ needed node-records n ⌝ }
-{
-    NODE_WORDS * at_most(n / LEAST_CATEGORY, MOST_NODES)
-}
-
-// How many words the cell records of n bytes have at most.
-fn most_cell_words(n: usize) -> usize
-    ensures { λ r. ⌜ r ≡ needed cell-records n ⌝ }
-{
-    CELL_WORDS * at_most(n / LEAST_CELL, MOST_CELLS)
 }
 
 // Reads a member into two lists: on acceptance they hold the records, and beyond them what was there; after a refusal they may hold
@@ -335,19 +336,21 @@ pub fn read_into(member: &[u8], node_list: &mut [u32], cell_list: &mut [u32]) ->
     read_ready(member, node_list, cell_list)
 }
 
-// Reads a member, with two lists that are long enough for its records. The answer stands in one variable: with two the compiler has both
-// on the stack of a small member.
+// Reads a member from its dimensions on, with two lists that are long enough for its records. The answer stands in one variable: with two
+// the compiler has both on the stack of a small member.
 fn read_with_lists(
     member: &[u8],
+    version: u64,
+    at: usize,
     node_list: &mut [u32],
     cell_list: &mut [u32],
     nodes: &mut [u32],
     cells: &mut [u32],
 ) -> Answer
-    requires { ⌜ LongEnough (now member) (length (now «node_list»)) (length (now «cell_list»)) ⌝ }
+    requires { ⌜ LongEnough (now member) at (length (now «node_list»)) (length (now «cell_list»)) × whole.Opened (now member) version at ⌝ }
     ensures { λ r. ⌜ Delivered (checked (now (member .entry))) (now (nodes .entry)) (now (cells .entry)) r (now (nodes .exit)) (now (cells .exit)) ⌝ }
 {
-    let mut a = read_into(member, node_list, cell_list);
+    let mut a = read_body(member, version, at, node_list, cell_list);
     let node_words = NODE_WORDS * a.nodes as usize;
     let cell_words = CELL_WORDS * a.cells as usize;
     let n = deliver(node_list, node_words, cell_list, cell_words, nodes, cells);
@@ -357,96 +360,215 @@ fn read_with_lists(
     a
 }
 
-// A small member has few nodes and cells, and small lists are sooner cleared.
-fn with_small_lists(member: &[u8], nodes: &mut [u32], cells: &mut [u32]) -> Answer
-    requires { ⌜ length (now member) ≤ small-lists ⌝ }
+// Where few bytes are left there are few nodes and cells, and short lists are sooner cleared.
+fn with_smallest_lists(
+    member: &[u8],
+    version: u64,
+    at: usize,
+    nodes: &mut [u32],
+    cells: &mut [u32],
+) -> Answer
+    requires { ⌜ LongEnough (now member) at (needed node-records smallest-lists) (needed cell-records smallest-lists) × whole.Opened (now member) version at ⌝ }
+    ensures { λ r. ⌜ Delivered (checked (now (member .entry))) (now (nodes .entry)) (now (cells .entry)) r (now (nodes .exit)) (now (cells .exit)) ⌝ }
+{
+    let mut node_list = [0u32; SMALLEST_LISTS / LEAST_CATEGORY * NODE_WORDS];
+    let mut cell_list = [0u32; SMALLEST_LISTS / LEAST_CELL * CELL_WORDS];
+    read_with_lists(
+        member,
+        version,
+        at,
+        &mut node_list,
+        &mut cell_list,
+        nodes,
+        cells,
+    )
+}
+
+// With small lists.
+fn with_small_lists(
+    member: &[u8],
+    version: u64,
+    at: usize,
+    nodes: &mut [u32],
+    cells: &mut [u32],
+) -> Answer
+    requires { ⌜ LongEnough (now member) at (needed node-records small-lists) (needed cell-records small-lists) × whole.Opened (now member) version at ⌝ }
     ensures { λ r. ⌜ Delivered (checked (now (member .entry))) (now (nodes .entry)) (now (cells .entry)) r (now (nodes .exit)) (now (cells .exit)) ⌝ }
 {
     let mut node_list = [0u32; SMALL_LISTS / LEAST_CATEGORY * NODE_WORDS];
     let mut cell_list = [0u32; SMALL_LISTS / LEAST_CELL * CELL_WORDS];
-    read_with_lists(member, &mut node_list, &mut cell_list, nodes, cells)
+    read_with_lists(
+        member,
+        version,
+        at,
+        &mut node_list,
+        &mut cell_list,
+        nodes,
+        cells,
+    )
 }
 
-// A member that is read with medium lists.
-fn with_medium_lists(member: &[u8], nodes: &mut [u32], cells: &mut [u32]) -> Answer
-    requires { ⌜ length (now member) ≤ medium-lists ⌝ }
+// With medium lists.
+fn with_medium_lists(
+    member: &[u8],
+    version: u64,
+    at: usize,
+    nodes: &mut [u32],
+    cells: &mut [u32],
+) -> Answer
+    requires { ⌜ LongEnough (now member) at (needed node-records medium-lists) (needed cell-records medium-lists) × whole.Opened (now member) version at ⌝ }
     ensures { λ r. ⌜ Delivered (checked (now (member .entry))) (now (nodes .entry)) (now (cells .entry)) r (now (nodes .exit)) (now (cells .exit)) ⌝ }
 {
     let mut node_list = [0u32; MEDIUM_LISTS / LEAST_CATEGORY * NODE_WORDS];
     let mut cell_list = [0u32; MEDIUM_LISTS / LEAST_CELL * CELL_WORDS];
-    read_with_lists(member, &mut node_list, &mut cell_list, nodes, cells)
+    read_with_lists(
+        member,
+        version,
+        at,
+        &mut node_list,
+        &mut cell_list,
+        nodes,
+        cells,
+    )
 }
 
-// A member that is read with large lists.
-fn with_large_lists(member: &[u8], nodes: &mut [u32], cells: &mut [u32]) -> Answer
-    requires { ⌜ length (now member) ≤ large-lists ⌝ }
+// With large lists.
+fn with_large_lists(
+    member: &[u8],
+    version: u64,
+    at: usize,
+    nodes: &mut [u32],
+    cells: &mut [u32],
+) -> Answer
+    requires { ⌜ LongEnough (now member) at (needed node-records large-lists) (needed cell-records large-lists) × whole.Opened (now member) version at ⌝ }
     ensures { λ r. ⌜ Delivered (checked (now (member .entry))) (now (nodes .entry)) (now (cells .entry)) r (now (nodes .exit)) (now (cells .exit)) ⌝ }
 {
     let mut node_list = [0u32; LARGE_LISTS / LEAST_CATEGORY * NODE_WORDS];
     let mut cell_list = [0u32; LARGE_LISTS / LEAST_CELL * CELL_WORDS];
-    read_with_lists(member, &mut node_list, &mut cell_list, nodes, cells)
+    read_with_lists(
+        member,
+        version,
+        at,
+        &mut node_list,
+        &mut cell_list,
+        nodes,
+        cells,
+    )
 }
 
-// A member that is read with larger lists.
-fn with_larger_lists(member: &[u8], nodes: &mut [u32], cells: &mut [u32]) -> Answer
-    requires { ⌜ length (now member) ≤ larger-lists ⌝ }
+// With larger lists.
+fn with_larger_lists(
+    member: &[u8],
+    version: u64,
+    at: usize,
+    nodes: &mut [u32],
+    cells: &mut [u32],
+) -> Answer
+    requires { ⌜ LongEnough (now member) at (needed node-records larger-lists) (needed cell-records larger-lists) × whole.Opened (now member) version at ⌝ }
     ensures { λ r. ⌜ Delivered (checked (now (member .entry))) (now (nodes .entry)) (now (cells .entry)) r (now (nodes .exit)) (now (cells .exit)) ⌝ }
 {
     let mut node_list = [0u32; LARGER_LISTS / LEAST_CATEGORY * NODE_WORDS];
     let mut cell_list = [0u32; LARGER_LISTS / LEAST_CELL * CELL_WORDS];
-    read_with_lists(member, &mut node_list, &mut cell_list, nodes, cells)
+    read_with_lists(
+        member,
+        version,
+        at,
+        &mut node_list,
+        &mut cell_list,
+        nodes,
+        cells,
+    )
 }
 
-// A member that is read with largest lists.
-fn with_largest_lists(member: &[u8], nodes: &mut [u32], cells: &mut [u32]) -> Answer
-    requires { ⌜ length (now member) ≤ largest-lists ⌝ }
+// With the largest lists of a step.
+fn with_largest_lists(
+    member: &[u8],
+    version: u64,
+    at: usize,
+    nodes: &mut [u32],
+    cells: &mut [u32],
+) -> Answer
+    requires { ⌜ LongEnough (now member) at (needed node-records largest-lists) (needed cell-records largest-lists) × whole.Opened (now member) version at ⌝ }
     ensures { λ r. ⌜ Delivered (checked (now (member .entry))) (now (nodes .entry)) (now (cells .entry)) r (now (nodes .exit)) (now (cells .exit)) ⌝ }
 {
     let mut node_list = [0u32; LARGEST_LISTS / LEAST_CATEGORY * NODE_WORDS];
     let mut cell_list = [0u32; LARGEST_LISTS / LEAST_CELL * CELL_WORDS];
-    read_with_lists(member, &mut node_list, &mut cell_list, nodes, cells)
+    read_with_lists(
+        member,
+        version,
+        at,
+        &mut node_list,
+        &mut cell_list,
+        nodes,
+        cells,
+    )
 }
 
-// A member of any length.
-fn with_full_lists(member: &[u8], nodes: &mut [u32], cells: &mut [u32]) -> Answer
+// With lists for a member of any length.
+fn with_full_lists(
+    member: &[u8],
+    version: u64,
+    at: usize,
+    nodes: &mut [u32],
+    cells: &mut [u32],
+) -> Answer
+    requires { ⌜ LongEnough (now member) at node-area cell-area × whole.Opened (now member) version at ⌝ }
     ensures { λ r. ⌜ Delivered (checked (now (member .entry))) (now (nodes .entry)) (now (cells .entry)) r (now (nodes .exit)) (now (cells .exit)) ⌝ }
 {
     let mut node_list = [0u32; NODE_AREA];
     let mut cell_list = [0u32; CELL_AREA];
-    read_with_lists(member, &mut node_list, &mut cell_list, nodes, cells)
+    read_with_lists(
+        member,
+        version,
+        at,
+        &mut node_list,
+        &mut cell_list,
+        nodes,
+        cells,
+    )
 }
 
-// Whether the lists of a step have room for the records of so many bytes: from small ones to the largest, and those of every other step.
+// Whether the lists of a step have room for the records of so many bytes: from the smallest to the largest, and those of every other step.
 pub fn has_room(step: usize, bytes: usize) -> bool
     ensures { λ r. ⌜ r ≡ lists.has-room step bytes ⌝ }
 {
     match step {
-        0 => bytes <= SMALL_LISTS,
-        1 => bytes <= MEDIUM_LISTS,
-        2 => bytes <= LARGE_LISTS,
-        3 => bytes <= LARGER_LISTS,
-        4 => bytes <= LARGEST_LISTS,
+        0 => bytes <= SMALLEST_LISTS,
+        1 => bytes <= SMALL_LISTS,
+        2 => bytes <= MEDIUM_LISTS,
+        3 => bytes <= LARGE_LISTS,
+        4 => bytes <= LARGER_LISTS,
+        5 => bytes <= LARGEST_LISTS,
         _ => true,
     }
 }
 
-// Reads a member at the first step, from that one on, whose lists have room for its records. It calls itself: into such a function the
-// compiler puts none that has long lists. So a small member is read on a small stack.
-fn read_from_step(member: &[u8], step: usize, nodes: &mut [u32], cells: &mut [u32]) -> Answer
+// Reads a member from its dimensions on at the first step, from that one on, whose lists have room for its records. It calls itself: into
+// such a function the compiler puts none that has long lists. So a small member is read on a small stack.
+fn read_from_step(
+    member: &[u8],
+    step: usize,
+    version: u64,
+    at: usize,
+    nodes: &mut [u32],
+    cells: &mut [u32],
+) -> Answer
+    requires { ⌜ whole.Opened (now member) version at ⌝ }
     ensures { λ r. ⌜ Delivered (checked (now (member .entry))) (now (nodes .entry)) (now (cells .entry)) r (now (nodes .exit)) (now (cells .exit)) ⌝ }
 {
-    let room = has_room(step, member.len());
+    let room = has_room(step, left(member, at));
     if room {
         match step {
-            0 => with_small_lists(member, nodes, cells),
-            1 => with_medium_lists(member, nodes, cells),
-            2 => with_large_lists(member, nodes, cells),
-            3 => with_larger_lists(member, nodes, cells),
-            4 => with_largest_lists(member, nodes, cells),
-            _ => with_full_lists(member, nodes, cells),
+            0 => with_smallest_lists(member, version, at, nodes, cells),
+            1 => with_small_lists(member, version, at, nodes, cells),
+            2 => with_medium_lists(member, version, at, nodes, cells),
+            3 => with_large_lists(member, version, at, nodes, cells),
+            4 => with_larger_lists(member, version, at, nodes, cells),
+            5 => with_largest_lists(member, version, at, nodes, cells),
+            _ => with_full_lists(member, version, at, nodes, cells),
         }
     } else {
-        read_from_step(member, step + 1, nodes, cells)
+        read_from_step(member, step + 1, version, at, nodes, cells)
     }
 }
 
@@ -455,9 +577,8 @@ pub fn read_member(member: &[u8], nodes: &mut [u32], cells: &mut [u32]) -> Answe
     ensures checks { λ r. ⌜ Delivered (checked (now (member .entry))) (now (nodes .entry)) (now (cells .entry)) r (now (nodes .exit)) (now (cells .exit)) ⌝ }
     ensures demands { λ r. ⌜ Demand3 (now (member .entry)) (now (nodes .entry)) (now (cells .entry)) r (now (nodes .exit)) (now (cells .exit)) ⌝ }
 {
-    if member.len() <= MEMBER_BYTES {
-        read_from_step(member, 0, nodes, cells)
-    } else {
-        refused(1, 0, 0, 0)
+    match opening(member) {
+        Head::Refused(r, p) => refused(r, p, 0, 0),
+        Head::Of(version, at) => read_from_step(member, 0, version, at, nodes, cells),
     }
 }

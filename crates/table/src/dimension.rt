@@ -12,7 +12,6 @@ ghost use Rattle.table.specs.Table as grammar;
 ghost use Rattle.table.specs.Rules.{dimensionRule, dimensionsRule};
 ghost use Rattle.table.specs.Laws.Dims as spec;
 ghost use Rattle.table.specs.Laws.Within.{Room, Scratch, needed, within};
-ghost use Rattle.table.specs.Laws.LeastBytes.{least-category};
 ghost use Rattle.table.specs.Records.{dimRecord};
 use crate::LEAST_CATEGORY;
 use crate::Section;
@@ -22,10 +21,12 @@ use crate::length;
 use layout::LITTLE;
 use layout::Step;
 use layout::number::any;
+use layout::number::at_most;
 use layout::number::between;
 use layout::number::boolean;
 use layout::number::count;
 use layout::number::fixed;
+use layout::number::left;
 use layout::number::peek;
 use once::Verdict;
 use once::check_leaves;
@@ -36,7 +37,6 @@ use sizes::MEMBER_BYTES;
 use sizes::MOST_DIMENSIONS;
 use sizes::MOST_NODES;
 use sizes::NO_PARENT;
-use sizes::NODE_AREA;
 use sizes::NODE_WORDS;
 use value::value;
 
@@ -119,7 +119,7 @@ fn dimension(
     dims: &mut [u32; DIMENSION_AREA],
     version: u64,
 ) -> Walk
-    requires { ⌜ (i < most-dimensions) × (length (now s) ≤ member-bytes) × (used ≤ most-nodes) × (least-category * used ≤ at) × Room spec.node-records (length (now nodes)) (now s) ⌝ }
+    requires { ⌜ (i < most-dimensions) × (length (now s) ≤ member-bytes) × (used ≤ most-nodes) × Room spec.node-records (length (now nodes)) used at (now s) ⌝ }
     ensures { λ r. ⌜ Keeps (now (s .entry)) (spec.Dim version at (spec.kept i used (now (nodes .entry)) (now (dims .entry)))) (check (dimensionRule version used) (drop at (now (s .entry))) at) (spec.dimsOut (i + 1) r (now (nodes .exit)) (now (dims .exit))) ⌝ }
 {
     let name = value(s, Step::Next(at), version);
@@ -153,7 +153,7 @@ fn all(
     dims: &mut [u32; DIMENSION_AREA],
     version: u64,
 ) -> Walk
-    requires { ⌜ (n ≤ most-dimensions) × (length (now s) ≤ member-bytes) × Room spec.node-records (length (now nodes)) (now s) ⌝ }
+    requires { ⌜ (n ≤ most-dimensions) × (length (now s) ≤ member-bytes) × Room spec.node-records (length (now nodes)) 0 at (now s) ⌝ }
     ensures { λ r. ⌜ Keeps (now (s .entry)) (Each (spec.Dim version) at (spec.kept 0 0 (now (nodes .entry)) (now (dims .entry)))) (check (items {n = n} (spec.nextDim version)) (drop at (now (s .entry))) at) (spec.dimsOut n r (now (nodes .exit)) (now (dims .exit))) ⌝ }
 {
     let mut at = at;
@@ -182,7 +182,7 @@ fn section(
     dims: &mut [u32; DIMENSION_AREA],
     version: u64,
 ) -> Section
-    requires { ⌜ (length (now s) ≤ member-bytes) × Room spec.node-records (length (now nodes)) (now s) ⌝ }
+    requires { ⌜ (length (now s) ≤ member-bytes) × Room spec.node-records (length (now nodes)) 0 at (now s) ⌝ }
     ensures { λ r. ⌜ Keeps (now (s .entry)) (spec.AllDims version at (now (nodes .entry)) (now (dims .entry))) (check (dimensionsRule version) (drop at (now (s .entry))) at) (spec.sectionOut r (now (nodes .exit)) (now (dims .exit))) ⌝ }
 {
     let n = peek(s, Step::Next(at), LITTLE, 4);
@@ -196,19 +196,14 @@ fn section(
 }
 
 // How many words the node records of n bytes have at most.
-fn most_words(n: usize) -> usize
+pub fn most_node_words(n: usize) -> usize
     ensures { λ r. ⌜ r ≡ needed spec.node-records n ⌝ }
 {
-    let k = n / LEAST_CATEGORY;
-    if k <= MOST_NODES {
-        NODE_WORDS * k
-    } else {
-        NODE_AREA
-    }
+    NODE_WORDS * at_most(n / LEAST_CATEGORY, MOST_NODES)
 }
 
 // The number of dimensions at a position, and the dimensions. Refused besides: more bytes than a member has, 1 at 0; a list that is too
-// short for the node records of so many bytes, 12 at 0. The words are scratch: after a refusal they may hold anything.
+// short for the node records of the bytes from there on, 12 at 0. The words are scratch: after a refusal they may hold anything.
 pub fn dimensions(
     s: &[u8],
     at: usize,
@@ -216,13 +211,13 @@ pub fn dimensions(
     dims: &mut [u32; DIMENSION_AREA],
     version: u64,
 ) -> Section
-    ensures dimensions { λ r. ⌜ Keeps (now (s .entry)) (spec.AllDims version at (now (nodes .entry)) (now (dims .entry))) (within spec.node-records (now (s .entry)) (length (now (nodes .entry))) (check (dimensionsRule version) (drop at (now (s .entry))) at)) (spec.sectionOut r (now (nodes .exit)) (now (dims .exit))) ⌝ }
+    ensures dimensions { λ r. ⌜ Keeps (now (s .entry)) (spec.AllDims version at (now (nodes .entry)) (now (dims .entry))) (within spec.node-records (now (s .entry)) at (length (now (nodes .entry))) (check (dimensionsRule version) (drop at (now (s .entry))) at)) (spec.sectionOut r (now (nodes .exit)) (now (dims .exit))) ⌝ }
     ensures scratch { λ _. ⌜ Scratch (now (nodes .entry)) (now (nodes .exit)) ⌝ }
 {
     if MEMBER_BYTES < s.len() {
         return Section::Refused(1, 0);
     }
-    let most = most_words(s.len());
+    let most = most_node_words(left(s, at));
     if nodes.len() < most {
         return Section::Refused(12, 0);
     }

@@ -38,6 +38,7 @@ use value::value;
 mod dimension; // dimensions
 
 pub use dimension::dimensions;
+pub use dimension::most_node_words;
 
 // The number -1, as four bytes spell it.
 const MINUS_ONE: u64 = 4294967295;

@@ -1,7 +1,7 @@
 // A call for all leaves of a dimension, over the lists of a member that was read.
 ghost use mathlib.Core.Path.{_≡_};
 ghost use lib.ListN.{length};
-ghost use Rattle.member.specs.IntoLists.{LongEnough};
+ghost use Rattle.member.specs.Laws.IntoLists.{LongEnough};
 ghost use Rattle.total.specs.Answers as spec;
 ghost use Rattle.total.specs.Answers.{AllTotalled};
 ghost use Rattle.total.specs.Laws.Reading.{Taken};
@@ -109,7 +109,7 @@ pub fn all_with_lists(
     nodes: &mut [u32],
     cells: &mut [u32],
 ) -> DimensionTotals
-    requires { ⌜ LongEnough (now member) (length (now «node_list»)) (length (now «cell_list»)) ⌝ }
+    requires { ⌜ LongEnough (now member) 0 (length (now «node_list»)) (length (now «cell_list»)) ⌝ }
     ensures { λ r. ⌜ AllTotalled (now (member .entry)) (now (totals .entry)) (now (nodes .entry)) (now (cells .entry)) dimension r (now (totals .exit)) (now (nodes .exit)) (now (cells .exit)) ⌝ }
 {
     let a = read_into(member, node_list, cell_list);

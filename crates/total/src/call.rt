@@ -1,7 +1,7 @@
 // A call for a leaf: the member is read into lists, so that the lent areas stay as they are if something is refused.
 ghost use mathlib.Core.Path.{_≡_};
 ghost use lib.ListN.{length};
-ghost use Rattle.member.specs.IntoLists.{LongEnough};
+ghost use Rattle.member.specs.Laws.IntoLists.{LongEnough};
 ghost use Rattle.total.specs.Answers.{Totalled};
 ghost use Rattle.total.specs.Laws.Reading.{Taken};
 ghost use Rattle.total.specs.Laws.Areas as areas;
@@ -87,7 +87,7 @@ pub fn with_lists(
     nodes: &mut [u32],
     cells: &mut [u32],
 ) -> LeafTotal
-    requires { ⌜ LongEnough (now member) (length (now «node_list»)) (length (now «cell_list»)) ⌝ }
+    requires { ⌜ LongEnough (now member) 0 (length (now «node_list»)) (length (now «cell_list»)) ⌝ }
     ensures { λ r. ⌜ Totalled (now (member .entry)) (now (nodes .entry)) (now (cells .entry)) dimension leaf r (now (nodes .exit)) (now (cells .exit)) ⌝ }
 {
     let a = read_into(member, node_list, cell_list);

@@ -13,6 +13,7 @@ ghost use Rattle.total.specs.Answers.{Totalled, ByDerivation, AllTotalle
 use crate::all::refused_all;
 use crate::leaf::refused;
 use crate::steps::Asked;
+use crate::steps::FIRST_STEP;
 use crate::steps::Said;
 use crate::steps::from_step;
 
@@ -56,7 +57,7 @@ pub fn total(
     let mut no_rows = [0u32; 0];
     match from_step(
         member,
-        0,
+        FIRST_STEP,
         dimension,
         Asked::Leaf(leaf),
         &mut no_rows,
@@ -81,7 +82,15 @@ pub fn totals(
     ensures answers { λ r. ⌜ AllTotalled (now (member .entry)) (now (totals .entry)) (now (nodes .entry)) (now (cells .entry)) dimension r (now (totals .exit)) (now (nodes .exit)) (now (cells .exit)) ⌝ }
     ensures demands { λ r. ⌜ AllByDerivation (now (member .entry)) (now (totals .entry)) (now (nodes .entry)) (now (cells .entry)) dimension r (now (totals .exit)) (now (nodes .exit)) (now (cells .exit)) ⌝ }
 {
-    match from_step(member, 0, dimension, Asked::Leaves, totals, nodes, cells) {
+    match from_step(
+        member,
+        FIRST_STEP,
+        dimension,
+        Asked::Leaves,
+        totals,
+        nodes,
+        cells,
+    ) {
         Said::Leaves(x) => x,
         // never, where all leaves are asked for
         Said::Leaf(_) => refused_all(0, 0, 0, 0, 0),

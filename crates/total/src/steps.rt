@@ -1,7 +1,7 @@
 // Both calls, with lists by the length of the member: short ones are sooner cleared, and a small member takes a small stack.
 ghost use Prim.Native.Nat.{_≤_};
 ghost use lib.ListN.{length};
-ghost use Rattle.member.specs.IntoLists.{LongEnough, small-lists, medium-lists, large-lists, larger-lists, largest-lists};
+ghost use Rattle.member.specs.Laws.IntoLists.{LongEnough, small-lists, medium-lists, large-lists, larger-lists, largest-lists};
 ghost use Rattle.total.specs.Laws.Asked.{Answered};
 use crate::DimensionTotals;
 use crate::LeafTotal;
@@ -32,6 +32,9 @@ pub enum Said {
     Leaves(DimensionTotals),
 }
 
+// Lists are chosen by the length of the member from this step on: the one before it is for the bytes after Formats.
+pub const FIRST_STEP: usize = 1;
+
 // With two lists that are long enough for the records of the member.
 fn either_with_lists(
     member: &[u8],
@@ -43,7 +46,7 @@ fn either_with_lists(
     nodes: &mut [u32],
     cells: &mut [u32],
 ) -> Said
-    requires { ⌜ LongEnough (now member) (length (now «node_list»)) (length (now «cell_list»)) ⌝ }
+    requires { ⌜ LongEnough (now member) 0 (length (now «node_list»)) (length (now «cell_list»)) ⌝ }
     ensures { λ r. ⌜ Answered (now (member .entry)) (now (totals .entry)) (now (nodes .entry)) (now (cells .entry)) dimension asked r (now (totals .exit)) (now (nodes .exit)) (now (cells .exit)) ⌝ }
 {
     match asked {
@@ -172,7 +175,7 @@ fn with_larger_lists(
     )
 }
 
-// A member that is read with largest lists.
+// A member that is read with the largest lists of a step.
 fn with_largest_lists(
     member: &[u8],
     dimension: u32,
@@ -239,11 +242,11 @@ pub fn from_step(
     let room = has_room(step, member.len());
     if room {
         match step {
-            0 => with_small_lists(member, dimension, asked, totals, nodes, cells),
-            1 => with_medium_lists(member, dimension, asked, totals, nodes, cells),
-            2 => with_large_lists(member, dimension, asked, totals, nodes, cells),
-            3 => with_larger_lists(member, dimension, asked, totals, nodes, cells),
-            4 => with_largest_lists(member, dimension, asked, totals, nodes, cells),
+            1 => with_small_lists(member, dimension, asked, totals, nodes, cells),
+            2 => with_medium_lists(member, dimension, asked, totals, nodes, cells),
+            3 => with_large_lists(member, dimension, asked, totals, nodes, cells),
+            4 => with_larger_lists(member, dimension, asked, totals, nodes, cells),
+            5 => with_largest_lists(member, dimension, asked, totals, nodes, cells),
             _ => with_full_lists(member, dimension, asked, totals, nodes, cells),
         }
     } else {

@@ -51,8 +51,8 @@ cellOut j (BadValue r p) ws = off r p
 
 -- ---- the section
 
-pub cell-room : (s : List ℕ) (n : ℕ) → needed cell-records (length s) ≤ n → Room cell-records n s
-cell-room s n h u few k = omega arith
+pub cell-room : (s : List ℕ) (at n : ℕ) → needed cell-records (length s - at) ≤ n → Room cell-records n 0 at s
+cell-room s at n h = record { enough = λ u few k. omega arith }
 
 -- an answer of the code, and the words with it
 abbrev pub cellsOut : Walk → List ℕ → Out (ℕ × List ℕ)
@@ -156,12 +156,12 @@ module _ (version : ℕ) where
       unfolding fresh
       not-below h = bad-index (stale-cell (rw h))
 
-      module _ (below : x < places) (before-it : least-cell * j < at) (few : j < most-cells) (enough : Room cell-records (length ws) s) where
+      module _ (below : x < places) (later : 0 < at) (few : j < most-cells) (free : Room cell-records (length ws) j (at - 1) s) where
         inside : p ≤ length s
         inside = num .says .inside (omega arith)
 
         there : cell-words * j + cell-words ≤ length ws
-        there = omega (arith, enough (j + 1) (omega arith) (omega (arith, inside, num .says .place)))
+        there = omega (arith, free .enough (j + 1) (omega arith) (omega (arith, inside, num .says .place)))
 
         stored : (z : ℕ) {c : CellRead} {vs : List ℕ} → Recorded s p j x ws c vs → vs ≡ sets ws (cell-words * j) (cellRecord (word32 x) (word32 p) z)
             → Stored s at places j ws x (cellOut (j + 1) c vs) vs

@@ -55,13 +55,13 @@ module _ (version : ℕ) where
     pub record Reading (j at′ : ℕ) (vs : List ℕ) : Type 0 where
       pub same-length : length vs ≡ length ws
       pub most : j ≤ n
-      pub bytes : least-cell * j < at′
+      pub bytes : at + least-cell * j ≤ at′
       pub placed : Placed vs j
       pub stores : AllNew (indexOf vs) j → Storing (cell-kind version) (cellOf version places) s n at ws j at′ vs
       pub repeats : Repeats j vs
 
-    pub reading : 0 < at → Reading 0 at ws
-    reading h = record { same-length = refl; most = omega arith; bytes = omega arith; placed = λ k l. absurd (omega arith); stores = λ _. storing (cell-kind version) (cellOf version places) s n at ws; repeats = λ k l. absurd (omega arith) }
+    pub reading : Reading 0 at ws
+    reading = record { same-length = refl; most = omega arith; bytes = omega arith; placed = λ k l. absurd (omega arith); stores = λ _. storing (cell-kind version) (cellOf version places) s n at ws; repeats = λ k l. absurd (omega arith) }
 
     module _ {j at′ : ℕ} {vs : List ℕ} (v : Reading j at′ vs) where
       module _ (h : j < n) where

@@ -3,7 +3,7 @@ use native.Mathlib.Omega.{arith}
 use borrow.Author.Tests.{leb-true}
 use borrow.Author.Needs.{needs}
 use Rattle.layout.specs.Steps.Slices.{bytes-of}
-use Rattle.member.specs.Laws.Whole.{too-many-places, no-axes, no-cells, with-cells}
+use Rattle.member.specs.Laws.Whole.{axes-later, too-many-places, no-axes, no-cells, with-cells}
 use Rattle.member.proofs.after_dims.Statement.{statement}
 use Rattle.member.proofs.after_dims.Tie as tie
 
@@ -13,7 +13,13 @@ after-dims-spec =
     (tie.spec
     (λ c κs. search needs) (λ c κs. search needs) (λ c. search needs) (λ c. search needs)
     (λ c. omega (arith, leb-true))
-    (λ c κs. c .before .before .before .before .before .before .before .before .before .before .before .pre)
+    (λ c κs.
+    let x = c .before .before .before .before .before in
+    let st = x .before .before .before .before .before in
+    let z = st .before in
+    let a = z .args in
+    let later = axes-later (a .s .now) (bytes-of _ (st .shared-slice-known .given)) (a .at) _ (rw (c .before .before .counts2 .given .1) at (x .axes .ensures .0)) in
+    (z .pre .0, omega (arith, later, z .pre .1)))
     (λ c. search needs) (λ c. search needs)
     (λ c.
     let p = c .before .before .before .before .before .before in

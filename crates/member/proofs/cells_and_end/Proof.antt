@@ -16,19 +16,19 @@ cells-and-end-spec =
     let k = c .before .before .before .before .before in
     let st = k .before .before .before .before in
     let a = st .args in
-    let o = rw (is-within cell-records (a .s .now) (length (a .words .now)) _ (st .pre .0) (st .pre .1)) at (k .cells .ensures .0) in
+    let o = rw (is-within cell-records (a .s .now) (a .at) (length (a .words .now)) _ (st .pre .0) (st .pre .1)) at (k .cells .ensures .0) in
     end-off (rw (c .before .r .given .1) at o))
     (λ c. search needs)
     (λ c.
     let k = c .before .before .before .before .before .before .before .before .before in
     let st = k .before .before .before .before in
     let a = st .args in
-    let o = rw (is-within cell-records (a .s .now) (length (a .words .now)) _ (st .pre .0) (st .pre .1)) at (k .cells .ensures .0) in
+    let o = rw (is-within cell-records (a .s .now) (a .at) (length (a .words .now)) _ (st .pre .0) (st .pre .1)) at (k .cells .ensures .0) in
     end-left (rw (c .before .before .before .before .before .q .given .1) at o) (c .before .before .before .ending .ensures) (c .before .r2 .given .1))
     (λ c. search needs)
     (λ c.
     let k = c .before .before .before .before .before .before .before .before in
     let st = k .before .before .before .before in
     let a = st .args in
-    let o = rw (is-within cell-records (a .s .now) (length (a .words .now)) _ (st .pre .0) (st .pre .1)) at (k .cells .ensures .0) in
+    let o = rw (is-within cell-records (a .s .now) (a .at) (length (a .words .now)) _ (st .pre .0) (st .pre .1)) at (k .cells .ensures .0) in
     end-there (rw (c .before .before .before .before .q .given .1) at o) (c .before .before .ending .ensures) (c .enum-told .given .1)))

@@ -1,6 +1,6 @@
 use mathlib.Core.Path.{sym}
 use native.Mathlib.Omega.{arith}
-use Rattle.member.specs.IntoLists.{has-room}
+use Rattle.member.specs.Laws.IntoLists.{has-room}
 use Rattle.member.specs.Laws.Whole.{room-last}
 use Rattle.member.proofs.has_room.Statement.{statement}
 use Rattle.member.proofs.has_room.Tie as tie
@@ -10,7 +10,7 @@ unfolding has-room
 has-room-spec =
     tie.close
     (tie.spec
-    (λ c. rw (c .match .keys1)) (λ c. rw (c .match .keys2)) (λ c. rw (c .match .keys3)) (λ c. rw (c .match .keys4)) (λ c. rw (c .match .keys5))
+    (λ c. rw (c .match .keys1)) (λ c. rw (c .match .keys2)) (λ c. rw (c .match .keys3)) (λ c. rw (c .match .keys4)) (λ c. rw (c .match .keys5)) (λ c. rw (c .match .keys6))
     (λ c.
     let r = c .match .rest in
-    sym (room-last (c .before .args .step) (c .before .args .bytes) (omega (arith, r .1, r .0 .1, r .0 .0 .1, r .0 .0 .0 .1, r .0 .0 .0 .0 .1)))))
+    sym (room-last (c .before .args .step) (c .before .args .bytes) (omega (arith, r .1, r .0 .1, r .0 .0 .1, r .0 .0 .0 .1, r .0 .0 .0 .0 .1, r .0 .0 .0 .0 .0 .1)))))

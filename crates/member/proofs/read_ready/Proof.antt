@@ -1,6 +1,6 @@
 use mathlib.Core.Path.{refl}
 use borrow.Author.Needs.{needs}
-use Rattle.member.specs.Laws.Whole.{no-header, none-stored}
+use Rattle.member.specs.Laws.Whole.{none-stored, enough-later}
 use Rattle.member.specs.Checked.{checked}
 use Rattle.member.proofs.read_ready.Statement.{statement}
 use Rattle.member.proofs.read_ready.Tie as tie
@@ -10,10 +10,13 @@ read-ready-spec =
     tie.close
     (tie.spec
     (λ _ _. tt) (λ c. search needs) (λ _ _. tt) (λ c. search needs)
-    (λ c κs. let h = c .before .before .before in (c .before .before .before .before .before .before .before .before .before .pre, rw (h .version .given .1) at (h .before .before .header .ensures)))
+    (λ c κs.
+    let h = c .before .before .before in
+    let z = c .before .before .before .before .before .before .before .before .before in
+    (enough-later (z .args .member .now) _ (z .pre), rw (h .version .given .1) at (h .before .before .opening .ensures)))
     (λ c.
     let h = c .before .before in
-    let s = c .before .before .before .before .before .before .before .before .args .member .now in
-    rw (c .refused .ensures) (none-stored (checked s) (no-header s (c .before .before .before .before .before .before .before .before .pre .short) (rw (h .r .given .1) at (h .before .before .header .ensures))) refl refl))
+    let z = c .before .before .before .before .before .before .before .before in
+    rw (c .refused .ensures) (none-stored (checked (z .args .member .now)) (rw (h .r .given .1) at (h .before .before .opening .ensures)) refl refl))
     (λ c. search needs) (λ c. search needs)
     (λ c. search needs))

@@ -37,12 +37,14 @@ use Rattle.cells.specs.declared.AxisCounts.the-variants as counts
 use Rattle.cells.specs.Laws.Axes.{Order, AllAxes}
 use Rattle.cells.specs.Laws.Cells.{AllCells, cell-records, cell-room}
 use Rattle.member.specs.declared.Answer.{Answer}
+use Rattle.member.specs.declared.Head.{Head}
+use Rattle.member.specs.declared.Head.the-variants as head
 use Rattle.member.specs.declared.Tail.{Tail}
 use Rattle.member.specs.Member.{Member, version as memberVersion, body-at, dimensions, dimensionsAt, order, cells, nodes, cellsStart, nodeRecords, dimensionEntries, cellRecords, frontSection, dimensionsSection, axesSection}
 use Rattle.member.specs.Refused.{bodyRule, memberRule}
 use Rattle.member.specs.Checked.{ended, checked}
 use Rattle.member.specs.Answer.{zeros, refusal, accepted, answerOf, nodesAfter, cellsAfter, Delivered}
-use Rattle.member.specs.IntoLists.{has-room, LongEnough, intoLists, Stored, all-stored, not-stored}
+use Rattle.member.specs.Laws.IntoLists.{has-room, LongEnough, intoLists, Stored, all-stored, not-stored}
 use Rattle.member.specs.Laws.Demanded.{ended-got}
 use Rattle.member.specs.Laws.Header.{Bound}
 
@@ -113,28 +115,53 @@ sizes-drop ws (suc k) i =
 -- ---- the whole
 
 -- the last step, and every other that has no room for a member
-pub room-last : (k n : ℕ) → 4 < k → has-room k n ≡ true
+pub room-last : (k n : ℕ) → 5 < k → has-room k n ≡ true
 unfolding has-room
 room-last zero n h = absurd (omega arith)
 room-last (suc zero) n h = absurd (omega arith)
 room-last (suc (suc zero)) n h = absurd (omega arith)
 room-last (suc (suc (suc zero))) n h = absurd (omega arith)
 room-last (suc (suc (suc (suc zero)))) n h = absurd (omega arith)
-room-last (suc (suc (suc (suc (suc k))))) n h = refl
+room-last (suc (suc (suc (suc (suc zero))))) n h = absurd (omega arith)
+room-last (suc (suc (suc (suc (suc (suc k)))))) n h = refl
 
-pub not-last : (k n : ℕ) → has-room k n ≡ false → k < 5
+pub not-last : (k n : ℕ) → has-room k n ≡ false → k < 6
 unfolding has-room
 not-last zero n e = omega arith
 not-last (suc zero) n e = omega arith
 not-last (suc (suc zero)) n e = omega arith
 not-last (suc (suc (suc zero))) n e = omega arith
 not-last (suc (suc (suc (suc zero)))) n e = omega arith
-not-last (suc (suc (suc (suc (suc k))))) n e = absurd (let z : _≡_ {A = ℕ} 0 1 = cc in omega arith)
+not-last (suc (suc (suc (suc (suc zero))))) n e = omega arith
+not-last (suc (suc (suc (suc (suc (suc k)))))) n e = absurd (let z : _≡_ {A = ℕ} 0 1 = cc in omega arith)
 
--- a member that is no longer than members are, and two lists that are long enough for its records
-pub record ReadyLists (s ns cs : List ℕ) : Type 0 where
+-- a member that is no longer than members are, of that version, whose sections before its dimensions end at a place
+pub record Opened (s : List ℕ) (version at : ℕ) : Type 0 where
   pub short : length s ≤ member-bytes
-  pub long : LongEnough s (length ns) (length cs)
+  pub from : ℕ
+  pub header : Bound s version from
+  pub front : Read (Front version) s from at
+
+-- what the code gives
+abbrev pub OpeningRead : List ℕ → Head → Type 0
+OpeningRead s (head.Of version at) = Opened s version at
+OpeningRead s (head.Refused n p) = checked s ≡ no n p
+
+-- lists that are long enough for all bytes are so for those from a place on
+pub enough-later : (s : List ℕ) (at : ℕ) {n m : ℕ} → LongEnough s 0 n m → LongEnough s at n m
+enough-later s at h = (omega (arith, h .0), omega (arith, h .1))
+
+-- lists for k bytes, where no more are left
+pub enough-for : (s : List ℕ) (at k : ℕ) {n : ℕ} → n ≡ length s - at → leb n k ≡ true → LongEnough s at (needed node-records k) (needed cell-records k)
+enough-for s at k {n} e h = let l = leb-true n k h in (omega (arith, e, l), omega (arith, e, l))
+
+-- lists for all records that a member may have
+pub enough-always : (s : List ℕ) (at : ℕ) → LongEnough s at node-area cell-area
+enough-always s at = (omega arith, omega arith)
+
+-- where the axes end
+pub axes-later : (s : List ℕ) → Bytes s → (at d : ℕ) {next : ℕ} {x : Order} → Keeps s AllAxes (check (countsRule d) (drop at s) at) (on next x) → at ≤ next
+axes-later s b at d {next} k = let r = kept-on k in omega (arith, found-by (countsRule d) s b at (r .tree) (drop next s) next (r .is) .place)
 
 -- the end after what comes after something
 ended-after : {A B : Type 0} (x : Got A) (f g : A → List ℕ → ℕ → Got B) → ((t : A) (s : List ℕ) (at : ℕ) → ended (f t s at) ≡ g t s at) → ended (bind x f) ≡ bind x g
@@ -264,13 +291,13 @@ pub none-stored : (y : Got (Tree Member)) {n p : ℕ} → y ≡ no n p → {ns c
 none-stored y e f g = rw e (not-stored refl f g)
 
 -- lists that are long enough are not refused
-pub as-checked : (s : List ℕ) {k m : ℕ} → LongEnough s k m → intoLists s k m ≡ checked s
+pub as-checked : (s : List ℕ) {k m : ℕ} → LongEnough s 0 k m → intoLists s k m ≡ checked s
 unfolding within checked pick
 as-checked s {k} {m} h = go (leb (length s) member-bytes)
   where
-    go : (b : Bool) → pick b (pick (leb (needed node-records (length s)) k) (pick b (pick (leb (needed cell-records (length s)) m) (pick b (ended (check memberRule s 0)) (no 1 0)) (no 13 0)) (no 1 0)) (no 12 0)) (no 1 0)
+    go : (b : Bool) → pick b (pick (leb (needed node-records (length s - 0)) k) (pick b (pick (leb (needed cell-records (length s - 0)) m) (pick b (ended (check memberRule s 0)) (no 1 0)) (no 13 0)) (no 1 0)) (no 12 0)) (no 1 0)
         ≡ pick b (ended (check memberRule s 0)) (no 1 0)
-    go true = rw (le-leb (needed node-records (length s)) k (h .0), le-leb (needed cell-records (length s)) m (h .1))
+    go true = rw (le-leb (needed node-records (length s - 0)) k (h .0), le-leb (needed cell-records (length s - 0)) m (h .1))
     go false = refl
 
 module _ (version : ℕ) where
@@ -290,7 +317,7 @@ module _ (version : ℕ) where
     pub count : t .cells ≡ length (cellsOf version c)
     pub stored : vs ≡ sets ws 0 (rowsWords (size (Cell version)) (cellWords version) (at + size Axes a + 4) (cellsOf version c))
     pub few : length (cellsOf version c) ≤ most-cells
-    pub bytes : least-cell * length (cellsOf version c) ≤ length s
+    pub bytes : at + least-cell * length (cellsOf version c) ≤ length s
 
   pub data TailIs (s : List ℕ) (at : ℕ) (ws : List ℕ) : Got (Tree Axes × Tree (Cells version)) → Tail → List ℕ → Type 0 where
     tail-on : {a : Tree Axes} {c : Tree (Cells version)} {r : List ℕ} {p : ℕ} {t : Tail} {vs : List ℕ} (l rs cs q : ℕ) → t .axes ≡ counts.Of l rs cs q
@@ -301,7 +328,7 @@ module _ (version : ℕ) where
   unfolding passes
   few-cells c v = omega (arith, v .2 .0, leb-true (c .0) most-cells (v .1))
 
-  many-bytes : {s : List ℕ} {at : ℕ} (c : Tree (Cells version)) → Valid (Cells version) c → {r : List ℕ} {p : ℕ} → Found (Cells version) s at c r p → at ≤ length s → least-cell * length (cellsOf version c) ≤ length s
+  many-bytes : {s : List ℕ} {at : ℕ} (c : Tree (Cells version)) → Valid (Cells version) c → {r : List ℕ} {p : ℕ} → Found (Cells version) s at c r p → at ≤ length s → at + least-cell * length (cellsOf version c) ≤ length s
   unfolding size spell
   many-bytes c v f h =
       let l = simp length-append at (f .place) in
@@ -376,7 +403,7 @@ module _ (version : ℕ) where
               count = h₂ ∙ k .keeps .count;
               stored = k .keeps .stored ∙ ap (λ (a : ℕ). sets ws 0 (rowsWords (size (Cell version)) (cellWords version) (a + 4) (cellsOf version c))) (axes-found .place);
               few = few-cells c v;
-              bytes = many-bytes c v f (stays-inside axes-found inside);
+              bytes = omega (arith, axes-found .place, many-bytes c v f (stays-inside axes-found inside));
             } in
             let is′ : ended (check (cellsRule version (placesOf version ts)) (drop next s) next) ≡ got c (drop q s) q = ap (λ (n : ℕ). ended (check (cellsRule version n) (drop next s) next)) (sym places-is) ∙ k .is in
             rw (by-counts, axes-read .is, is′) (tail-on (x .layers) (x .rows) (x .columns) q h₁ kept-all)
@@ -405,93 +432,104 @@ module _ (version : ℕ) where
       (ended-after (read (Front version) (drop at s) at) _ _ (λ f s₁ at₁. ended-after (check (dimensionsRule version) s₁ at₁) _ _ (λ d s₂ at₂. ended-after (check (axesRule version (d .1)) s₂ at₂) _ _ (λ a s₃ at₃.
       ended-bind (check (cellsRule version (placesOf version (d .1))) s₃ at₃) (λ c. (h .start, (version, (((f, d), a), c)))))))))
 
-  module _ (s : List ℕ) (b : Bytes s) (ns cs : List ℕ) (room : ReadyLists s ns cs) {st : Step} {from : ℕ} (hd : Bound s version from) (fr : Reads (Front version) s (Next from) st) where
+  -- the sections before the dimensions
+  module _ (s : List ℕ) (b : Bytes s) (short : length s ≤ member-bytes) {st : Step} {from : ℕ} (hd : Bound s version from) (fr : Reads (Front version) s (Next from) st) where
     pub no-front : {n p : ℕ} → st ≡ Refused n p → checked s ≡ no n p
     unfolding bind
-    no-front e = rw (in-sections s (room .short) hd, read-off fr e)
+    no-front e = rw (in-sections s short hd, read-off fr e)
 
-    module _ {at : ℕ} (e : st ≡ Next at) where
-      start : Read (Front version) s from at
-      start = read-on b fr e
+    pub opened : {at : ℕ} → st ≡ Next at → Opened s version at
+    opened e = record { short = short; from = from; header = hd; front = read-on b fr e }
 
-      abbrev Dimensioned : Out Kept → Type 0
-      Dimensioned = Keeps s (AllDims version at ns (replicate dimension-area 0)) (within node-records s (length ns) (check (dimensionsRule version) (drop at s) at))
+  -- the dimensions and what follows them
+  module _ (s : List ℕ) (b : Bytes s) (ns cs : List ℕ) {at : ℕ} (o : Opened s version at) (room : LongEnough s at (length ns) (length cs)) where
+    abbrev hd : Bound s version (o .from)
+    hd = o .header
 
-      pub no-dims : {n p : ℕ} → Dimensioned (off n p) → checked s ≡ no n p
-      unfolding bind
-      no-dims k =
-          let k′ = rw (is-within node-records s (length ns) (check (dimensionsRule version) (drop at s) at) (room .short) (room .long .0)) at k in
-          rw (in-sections s (room .short) hd, start .is, kept-off k′)
+    abbrev start : Read (Front version) s (o .from) at
+    start = o .front
 
-      module _ {next d used : ℕ} {ms es : List ℕ} (k : Dimensioned (on next (kept d used ms es))) where
-        dims : Reached s (AllDims version at ns (replicate dimension-area 0)) (check (dimensionsRule version) (drop at s) at) next (kept d used ms es)
-        dims = kept-on (rw (is-within node-records s (length ns) (check (dimensionsRule version) (drop at s) at) (room .short) (room .long .0)) at k)
+    abbrev Dimensioned : Out Kept → Type 0
+    Dimensioned = Keeps s (AllDims version at ns (replicate dimension-area 0)) (within node-records s at (length ns) (check (dimensionsRule version) (drop at s) at))
 
-        ts : List (Tree (Dimension version))
-        ts = dimsOf version (dims .tree)
+    pub no-dims : {n p : ℕ} → Dimensioned (off n p) → checked s ≡ no n p
+    unfolding bind
+    no-dims k =
+        let k′ = rw (is-within node-records s at (length ns) (check (dimensionsRule version) (drop at s) at) (o .short) (room .0)) at k in
+        rw (in-sections s (o .short) hd, start .is, kept-off k′)
 
-        there : Found (Dimensions version) s at (dims .tree) (drop next s) next
-        there = found-by (dimensionsRule version) s b at (dims .tree) (drop next s) next (dims .is)
+    module _ {next d used : ℕ} {ms es : List ℕ} (k : Dimensioned (on next (kept d used ms es))) where
+      dims : Reached s (AllDims version at ns (replicate dimension-area 0)) (check (dimensionsRule version) (drop at s) at) next (kept d used ms es)
+      dims = kept-on (rw (is-within node-records s at (length ns) (check (dimensionsRule version) (drop at s) at) (o .short) (room .0)) at k)
 
-        few-dims : length ts ≤ most-dimensions
-        unfolding passes ts
-        few-dims = omega (arith, there .valid .2 .0, leb-true (dims .tree .0) most-dimensions (there .valid .1))
+      ts : List (Tree (Dimension version))
+      ts = dimsOf version (dims .tree)
 
-        inside : next ≤ length s
-        inside = stays-inside there (stays-inside (start .there) (hd .inside))
+      there : Found (Dimensions version) s at (dims .tree) (drop next s) next
+      there = found-by (dimensionsRule version) s b at (dims .tree) (drop next s) next (dims .is)
 
-        tail-of : {t : Tail} {vs : List ℕ} → TailRead s next d es cs t vs → TailIs s next cs (afterDims ts (drop next s) next) t vs
-        unfolding ts
-        tail-of h =
-            let n-is = dims .keeps .number in
-            h ts few-dims n-is (ap (λ (l : List ℕ). sizes l 0 d) (dims .keeps .entries) ∙ ap (λ (n : ℕ). sizes (sets (replicate dimension-area 0) 0 (dimsEntries version 0 (at + 4) ts)) 0 n) n-is ∙ sizes-there (at + 4) ts few-dims) inside
+      few-dims : length ts ≤ most-dimensions
+      unfolding passes ts
+      few-dims = omega (arith, there .valid .2 .0, leb-true (dims .tree .0) most-dimensions (there .valid .1))
 
-        pub no-tail : {t : Tail} {vs : List ℕ} → TailRead s next d es cs t vs → {n p : ℕ} → t .axes ≡ counts.Refused n p → checked s ≡ no n p
-        unfolding bind ts
-        no-tail h {n} {p} e₁ = go (tail-of h) refl e₁
-          where
-            go : {y : Got (Tree Axes × Tree (Cells version))} {t : Tail} {vs : List ℕ} → TailIs s next cs y t vs → afterDims ts (drop next s) next ≡ y → t .axes ≡ counts.Refused n p → checked s ≡ no n p
-            go (tail-on l r c q x y) f g = absurd (let z : _≡_ {A = ℕ} 0 1 = cc in omega arith)
-            go (tail-off {n = m} {p = q} x) f g =
-                let m-is : m ≡ n = cc in
-                let q-is : q ≡ p = cc in
-                rw (in-sections s (room .short) hd, start .is, dims .is, f, m-is, q-is)
+      pub dims-later : at ≤ next
+      dims-later = omega (arith, there .place)
 
-        pub with-tail : {t : Tail} {vs : List ℕ} → TailRead s next d es cs t vs → {l r c q : ℕ} → t .axes ≡ counts.Of l r c q → Stored ns cs (checked s) (answered d used t es l r c) ms vs
-        unfolding bind ts zeros accepted
-        with-tail h {l} {r} {c} {q} e₁ = go (tail-of h) refl e₁
-          where
-            go : {y : Got (Tree Axes × Tree (Cells version))} {t : Tail} {vs : List ℕ} → TailIs s next cs y t vs → afterDims ts (drop next s) next ≡ y → t .axes ≡ counts.Of l r c q
-                → Stored ns cs (checked s) (answered d used t es l r c) ms vs
-            go (tail-on {a = a} {c = x} {r = rest} {p = p} {t = t} {vs = vs} l′ r′ c′ q′ o k) f g =
-                let l-is : l′ ≡ l = cc in
-                let r-is : r′ ≡ r = cc in
-                let c-is : c′ ≡ c = cc in
-                let tree : Tree Member = (hd .start, (version, (((start .tree, dims .tree), a), x))) in
-                let at-is : at ≡ body-at + size (Front version) (start .tree) = omega (arith, start .there .place, hd .place) in
-                let cells-at : next + size Axes a + 4 ≡ cellsStart tree = omega (arith, cells-start tree, at-is, there .place) in
-                let d-is = dims .keeps .number in
-                let used-is = dims .keeps .count in
-                let few = few-dims in
-                let used-few = dims .keeps .few in
-                let all = width-entries version 0 (at + 4) ts in
-                let bytes = dims .keeps .bytes in
-                let more = inside in
-                let entries-is : es ≡ dimensionEntries tree ++ zeros (dimension-area - length (dimensionEntries tree)) =
-                dims .keeps .entries ∙ in-front dimension-area (dimsEntries version 0 (at + 4) ts) (omega (arith, all))
-                ∙ ap (λ (n : ℕ). (dimsEntries version) 0 (n + 4) ts ++ zeros (dimension-area - length (dimsEntries version 0 (n + 4) ts))) at-is in
-                let order-is : t .order ≡ order tree ++ zeros (most-dimensions - length (order tree)) =
-                k .order ∙ in-front most-dimensions (map entryIndex (axisEntries a)) (omega (arith, length-map (axisEntries a) entryIndex, k .few-entries)) in
-                let node-fit : node-words * nodes tree ≤ length ns = node-room s (length ns) (room .long .0) (nodes tree) (omega arith) (omega arith) in
-                let cell-fit : cell-words * length (cells tree) ≤ length cs = cell-room s (length cs) (room .long .1) (length (cells tree)) (k .few) (k .bytes) in
-                let is : checked s ≡ got tree rest p = rw (in-sections s (room .short) hd, start .is, dims .is, f) in
-                rw is
-                (all-stored
-                (same-answer (word-same d (omega arith) ∙ d-is) (word-same used (omega arith) ∙ used-is) (word-same (t .cells) (omega (arith, k .count, k .few)) ∙ k .count) entries-is
-                (sym l-is ∙ k .on-layers) (sym r-is ∙ k .on-rows) (sym c-is ∙ k .on-columns) order-is)
-                (dims .keeps .words ∙ over ns (dimsWords version 0 0 (at + 4) ts) (node-words * nodes tree) (width-dims version 0 0 (at + 4) ts) node-fit
-                ∙ ap (λ (n : ℕ). dimsWords version 0 0 (n + 4) ts ++ drop (node-words * nodes tree) ns) at-is)
-                (k .stored
-                ∙ over cs (rowsWords (size (Cell version)) (cellWords version) (next + size Axes a + 4) (cellsOf version x)) (cell-words * length (cells tree)) (width-rows cell-words (size (Cell version)) (cellWords version) (λ _ _. refl) (next + size Axes a + 4) (cellsOf version x)) cell-fit
-                ∙ ap (λ (n : ℕ). rowsWords (size (Cell version)) (cellWords version) n (cellsOf version x) ++ drop (cell-words * length (cells tree)) cs) cells-at))
-            go (tail-off x) f g = absurd (let z : _≡_ {A = ℕ} 0 1 = cc in omega arith)
+      inside : next ≤ length s
+      inside = stays-inside there (stays-inside (start .there) (hd .inside))
+
+      tail-of : {t : Tail} {vs : List ℕ} → TailRead s next d es cs t vs → TailIs s next cs (afterDims ts (drop next s) next) t vs
+      unfolding ts
+      tail-of h =
+          let n-is = dims .keeps .number in
+          h ts few-dims n-is (ap (λ (l : List ℕ). sizes l 0 d) (dims .keeps .entries) ∙ ap (λ (n : ℕ). sizes (sets (replicate dimension-area 0) 0 (dimsEntries version 0 (at + 4) ts)) 0 n) n-is ∙ sizes-there (at + 4) ts few-dims) inside
+
+      pub no-tail : {t : Tail} {vs : List ℕ} → TailRead s next d es cs t vs → {n p : ℕ} → t .axes ≡ counts.Refused n p → checked s ≡ no n p
+      unfolding bind ts
+      no-tail h {n} {p} e₁ = go (tail-of h) refl e₁
+        where
+          go : {y : Got (Tree Axes × Tree (Cells version))} {t : Tail} {vs : List ℕ} → TailIs s next cs y t vs → afterDims ts (drop next s) next ≡ y → t .axes ≡ counts.Refused n p → checked s ≡ no n p
+          go (tail-on l r c q x y) f g = absurd (let z : _≡_ {A = ℕ} 0 1 = cc in omega arith)
+          go (tail-off {n = m} {p = q} x) f g =
+              let m-is : m ≡ n = cc in
+              let q-is : q ≡ p = cc in
+              rw (in-sections s (o .short) hd, start .is, dims .is, f, m-is, q-is)
+
+      pub with-tail : {t : Tail} {vs : List ℕ} → TailRead s next d es cs t vs → {l r c q : ℕ} → t .axes ≡ counts.Of l r c q → Stored ns cs (checked s) (answered d used t es l r c) ms vs
+      unfolding bind ts zeros accepted
+      with-tail h {l} {r} {c} {q} e₁ = go (tail-of h) refl e₁
+        where
+          go : {y : Got (Tree Axes × Tree (Cells version))} {t : Tail} {vs : List ℕ} → TailIs s next cs y t vs → afterDims ts (drop next s) next ≡ y → t .axes ≡ counts.Of l r c q
+              → Stored ns cs (checked s) (answered d used t es l r c) ms vs
+          go (tail-on {a = a} {c = x} {r = rest} {p = p} {t = t} {vs = vs} l′ r′ c′ q′ axes-are k) f g =
+              let l-is : l′ ≡ l = cc in
+              let r-is : r′ ≡ r = cc in
+              let c-is : c′ ≡ c = cc in
+              let tree : Tree Member = (hd .start, (version, (((start .tree, dims .tree), a), x))) in
+              let at-is : at ≡ body-at + size (Front version) (start .tree) = omega (arith, start .there .place, hd .place) in
+              let cells-at : next + size Axes a + 4 ≡ cellsStart tree = omega (arith, cells-start tree, at-is, there .place) in
+              let d-is = dims .keeps .number in
+              let used-is = dims .keeps .count in
+              let few = few-dims in
+              let used-few = dims .keeps .few in
+              let all = width-entries version 0 (at + 4) ts in
+              let bytes = dims .keeps .bytes in
+              let more = inside in
+              let entries-is : es ≡ dimensionEntries tree ++ zeros (dimension-area - length (dimensionEntries tree)) =
+              dims .keeps .entries ∙ in-front dimension-area (dimsEntries version 0 (at + 4) ts) (omega (arith, all))
+              ∙ ap (λ (n : ℕ). (dimsEntries version) 0 (n + 4) ts ++ zeros (dimension-area - length (dimsEntries version 0 (n + 4) ts))) at-is in
+              let order-is : t .order ≡ order tree ++ zeros (most-dimensions - length (order tree)) =
+              k .order ∙ in-front most-dimensions (map entryIndex (axisEntries a)) (omega (arith, length-map (axisEntries a) entryIndex, k .few-entries)) in
+              let node-fit : node-words * nodes tree ≤ length ns = node-room s at (length ns) (room .0) .enough (nodes tree) (omega arith) (omega arith) in
+              let cell-fit : cell-words * length (cells tree) ≤ length cs = cell-room s at (length cs) (room .1) .enough (length (cells tree)) (k .few) (omega (arith, k .bytes, there .place)) in
+              let is : checked s ≡ got tree rest p = rw (in-sections s (o .short) hd, start .is, dims .is, f) in
+              rw is
+              (all-stored
+              (same-answer (word-same d (omega arith) ∙ d-is) (word-same used (omega arith) ∙ used-is) (word-same (t .cells) (omega (arith, k .count, k .few)) ∙ k .count) entries-is
+              (sym l-is ∙ k .on-layers) (sym r-is ∙ k .on-rows) (sym c-is ∙ k .on-columns) order-is)
+              (dims .keeps .words ∙ over ns (dimsWords version 0 0 (at + 4) ts) (node-words * nodes tree) (width-dims version 0 0 (at + 4) ts) node-fit
+              ∙ ap (λ (n : ℕ). dimsWords version 0 0 (n + 4) ts ++ drop (node-words * nodes tree) ns) at-is)
+              (k .stored
+              ∙ over cs (rowsWords (size (Cell version)) (cellWords version) (next + size Axes a + 4) (cellsOf version x)) (cell-words * length (cells tree)) (width-rows cell-words (size (Cell version)) (cellWords version) (λ _ _. refl) (next + size Axes a + 4) (cellsOf version x)) cell-fit
+              ∙ ap (λ (n : ℕ). rowsWords (size (Cell version)) (cellWords version) n (cellsOf version x) ++ drop (cell-words * length (cells tree)) cs) cells-at))
+          go (tail-off x) f g = absurd (let z : _≡_ {A = ℕ} 0 1 = cc in omega arith)

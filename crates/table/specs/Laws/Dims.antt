@@ -83,8 +83,8 @@ pub data Closed (i at n used p u : ℕ) (ns ds : List ℕ) : Walk → List ℕ �
 
 -- ---- the section
 
-pub node-room : (s : List ℕ) (n : ℕ) → needed node-records (length s) ≤ n → Room node-records n s
-node-room s n h u few k = omega arith
+pub node-room : (s : List ℕ) (at n : ℕ) → needed node-records (length s - at) ≤ n → Room node-records n 0 at s
+node-room s at n h = record { enough = λ u few k. omega arith }
 
 -- an answer of the code, and the words with it
 abbrev pub sectionOut : Section → List ℕ → List ℕ → Out Kept
@@ -98,7 +98,7 @@ module _ (version : ℕ) where
     pub number : y .number ≡ x .number + 1
     pub count : y .used ≡ x .used + (dimNodes version) t
     pub few : y .used ≤ most-nodes
-    pub bytes : least-category * x .used ≤ at → least-category * y .used ≤ p
+    pub bytes : at + least-category * y .used ≤ p + least-category * x .used
     pub words : y .words ≡ sets (x .words) (node-words * x .used) (dimWords version (x .number) (x .used) at t)
     pub entries : y .entries ≡ sets (x .entries) (dimension-words * x .number) (dimEntry version (x .used) at t)
 
@@ -141,7 +141,7 @@ module _ (version : ℕ) where
     unfolding bind
     no-start r e = rw (check-parts (x .used) (drop at s) at, read-off r e) keeps-off
 
-    module _ (few : x .used ≤ most-nodes) (so-far : least-category * x .used ≤ at) (room : Room node-records (length (x .words)) s)
+    module _ (few : x .used ≤ most-nodes) (room : Room node-records (length (x .words)) (x .used) at s)
         {name before st : Step} {n f : ℕ} (v : Reads (Value version) s (Next at) name) (r : Reads ((Value version) ▸ DimProperties) s (Next at) before) (g : Reads int32 s before st)
         (pk : n ≡ peek little 4 s before) (e : st ≡ Next f) where
       start : Read Start s at f
@@ -170,10 +170,10 @@ module _ (version : ℕ) where
         inside : (f ≤ length s) × (q ≤ length s)
         inside = let h = ends-inside (start .there) (omega (arith, size-start (start .tree))) in (h, stays-inside there h)
 
-        many-bytes : least-category * u ≤ q
+        many-bytes : at + least-category * u ≤ q + least-category * x .used
         many-bytes =
             let e₁ = categories-bytes version category-depth (there .valid .1) in
-            omega (arith, e₁, all .place, all .count, start .there .place, so-far)
+            omega (arith, e₁, all .place, all .count, start .there .place)
 
         few-nodes : u ≤ most-nodes
         few-nodes = all .few few
@@ -188,7 +188,7 @@ module _ (version : ℕ) where
         unfolding ls leavesOf
         ls-is =
             let words = rw f-is at (all .words) in
-            (leaves-same version) (x .number) no-parent (x .used) _ u (x .words) ms ts (room u few-nodes (omega (arith, many-bytes, inside .1))) (all .count) few-nodes words
+            (leaves-same version) (x .number) no-parent (x .used) _ u (x .words) ms ts (room .enough u few-nodes (omega (arith, many-bytes, inside .1))) (all .count) few-nodes words
             ∙ further-leaves version at (size ((Value version) ▸ DimProperties) (start .tree .0) + 4) ts
 
         n-leaves : length ls ≡ length (leavesOf version tree)
@@ -237,7 +237,7 @@ module _ (version : ℕ) where
                   number = refl;
                   count = all .count;
                   few = few-nodes;
-                  bytes = λ _. many-bytes;
+                  bytes = many-bytes;
                   words = rw f-is′ at (all .words);
                   entries = es ∙ ap (sets (x .entries) (dimension-words * x .number)) entry-is;
                 }
@@ -252,7 +252,7 @@ module _ (version : ℕ) where
     pub number : y .number ≡ x .number + length ts
     pub count : y .used ≡ x .used + sum (dimNodes version) ts
     pub few : x .used ≤ most-nodes → y .used ≤ most-nodes
-    pub bytes : least-category * x .used ≤ at → least-category * y .used ≤ p
+    pub bytes : at + least-category * y .used ≤ p + least-category * x .used
     pub words : y .words ≡ sets (x .words) (node-words * x .used) (dimsWords version (x .number) (x .used) at ts)
     pub entries : y .entries ≡ sets (x .entries) (dimension-words * x .number) (dimsEntries version (x .used) at ts)
 
@@ -274,7 +274,7 @@ module _ (version : ℕ) where
 
   pub all-dims : {at : ℕ} {x : Kept} {ts : List (Tree (Dimension version))} {p : ℕ} {y : Kept} → Each Dim at x ts p y → Dims at x ts p y
   unfolding sum dimsWords dimsEntries dimEntry
-  all-dims each-none = record { place = omega arith; number = omega arith; count = omega arith; few = λ h. h; bytes = λ h. h; words = refl; entries = refl }
+  all-dims each-none = record { place = omega arith; number = omega arith; count = omega arith; few = λ h. h; bytes = omega arith; words = refl; entries = refl }
   all-dims {at} {x} {y = y} (each-more {t = t} {p = m} {y = z} {ts = ts} {q = e} q r) =
       let n : Dims m z ts e y = all-dims r in
       let i : node-words * x .used + length (dimWords version (x .number) (x .used) at t) ≡ node-words * z .used = omega (arith, width-dim (x .number) (x .used) at t, q .count) in
@@ -284,7 +284,7 @@ module _ (version : ℕ) where
         number = omega (arith, n .number, q .number);
         count = omega (arith, n .count, q .count);
         few = λ h. n .few (q .few);
-        bytes = λ h. n .bytes (q .bytes h);
+        bytes = omega (arith, n .bytes, q .bytes);
         words = n .words ∙ rw (sets-append, i, ← (q .words), ← (q .count), ← (q .place), ← (q .number));
         entries = n .entries ∙ rw (sets-append (dimEntry version (x .used) at t), j, ← (q .entries), ← (q .count), ← (q .place));
       }
@@ -298,7 +298,7 @@ module _ (version : ℕ) where
     pub done : List (Tree (Dimension version))
     pub count : used ≡ sum (dimNodes version) done
     pub few : used ≤ most-nodes
-    pub bytes : least-category * used ≤ at′
+    pub bytes : at + least-category * used ≤ at′
     pub most : i ≤ n
     pub going : Going s nextDim Dim n at (kept 0 0 ns ds) i at′ (kept i used ns′ ds′) done
 
@@ -319,7 +319,7 @@ module _ (version : ℕ) where
             done = r .tree ∷ w .done;
             count = omega (arith, r .keeps .count, w .count);
             few = r .keeps .few;
-            bytes = r .keeps .bytes (w .bytes);
+            bytes = omega (arith, r .keeps .bytes, w .bytes);
             most = omega arith;
             going = goes-on s nextDim Dim (w .going) h (rw (← (w .count)) (r .is)) (r .keeps);
           }
@@ -337,7 +337,7 @@ module _ (version : ℕ) where
     pub number : y .number ≡ length (dimsOf version t)
     pub count : y .used ≡ sum (dimNodes version) (dimsOf version t)
     pub few : y .used ≤ most-nodes
-    pub bytes : least-category * y .used ≤ p
+    pub bytes : at + least-category * y .used ≤ p
     pub words : y .words ≡ sets ns 0 (dimsWords version 0 0 (at + 4) (dimsOf version t))
     pub entries : y .entries ≡ sets ds 0 (dimsEntries version 0 (at + 4) (dimsOf version t))
 
@@ -349,7 +349,7 @@ module _ (version : ℕ) where
         number = omega (arith, d .number);
         count = omega (arith, d .count);
         few = d .few (omega arith);
-        bytes = d .bytes (omega arith);
+        bytes = omega (arith, d .bytes);
         words = rw p-is at (d .words);
         entries = rw p-is at (d .entries);
       }

@@ -10,7 +10,7 @@ use Rattle.member.specs.declared.Answer.{Answer}
 use Rattle.member.specs.Member.{Member, nodes, cells, nodeRecords, cellRecords, MemberDerivation, AsDemanded}
 use Rattle.member.specs.Checked.{checked}
 use Rattle.member.specs.Answer.{refusal, accepted}
-use Rattle.member.specs.IntoLists.{LongEnough, intoLists, Stored, all-stored, not-stored}
+use Rattle.member.specs.Laws.IntoLists.{LongEnough, intoLists, Stored, all-stored, not-stored}
 use Rattle.member.specs.Laws.Demanded as demanded
 use Rattle.member.specs.Laws.Holds.{not-zero}
 use Rattle.member.specs.Laws.Whole.{as-checked}
@@ -25,7 +25,7 @@ pub record Taken (bs : List ℕ) (a : Answer) (node-list cell-list : List ℕ) :
   pub in-nodes : node-list ≡ nodeRecords (derivation .tree) ++ other-nodes
   pub in-cells : cell-list ≡ cellRecords (derivation .tree) ++ other-cells
 
-module _ {bs : List ℕ} (b : Bytes bs) {N C : List ℕ} {a : Answer} {N′ C′ : List ℕ} (room : LongEnough bs (length N) (length C)) (x : Stored N C (intoLists bs (length N) (length C)) a N′ C′) where
+module _ {bs : List ℕ} (b : Bytes bs) {N C : List ℕ} {a : Answer} {N′ C′ : List ℕ} (room : LongEnough bs 0 (length N) (length C)) (x : Stored N C (intoLists bs (length N) (length C)) a N′ C′) where
   as-read : Stored N C (checked bs) a N′ C′
   as-read = rw (as-checked bs room) at x
 

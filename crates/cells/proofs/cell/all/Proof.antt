@@ -2,6 +2,8 @@
 use Prim.Native.Nat.{_-_}
 use native.Mathlib.Omega.{arith}
 use borrow.Author.Needs.{needs}
+use Rattle.table.specs.Laws.Within.{room-after}
+use Rattle.cells.specs.Laws.Cells.{cell-records}
 use Rattle.cells.specs.Laws.Reading.{Reading, reading, goes-on, at-index, at-value, at-end, answered}
 use Rattle.cells.proofs.cell.all.Statement.{statement}
 use Rattle.cells.proofs.cell.all.Tie as tie
@@ -12,11 +14,11 @@ all-spec =
     (tie.spec
     (λ s at places n words₀ version at₀ j₀ words at′ j. Reading version places s n at words₀ j at′ words)
     (λ s at places n words₀ version at₀ j₀ words at′ j. n - j)
-    (λ c. reading _ _ _ _ _ _ (c .before .before .pre .2))
+    (λ c. reading _ _ _ _ _ _)
     (λ c κs.
     let l = c .before .before in
     let p = l .before .before .before .pre in
-    (omega arith, p .1, l .loop .inv .bytes, rw (l .loop .inv .same-length) (p .3)))
+    (omega arith, p .1, omega (arith, p .2, l .loop .inv .bytes), rw (l .loop .inv .same-length) (room-after cell-records (omega (arith, p .2, l .loop .inv .bytes)) (p .3))))
     (λ c. search needs)
     (λ c κs.
     let k = c .before .before .before .before .before .before in

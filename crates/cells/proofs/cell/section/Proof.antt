@@ -5,8 +5,9 @@ use Rattle.layout.specs.Steps.Keeping.{kept-on, kept-off}
 use Rattle.layout.specs.Steps.Slices.{bytes-of}
 use Rattle.layout.specs.Steps.Numbered.{in-limit, ends-at, no-number, no-items, the-items}
 use Rattle.table.specs.Rules.{cellRule, cellsRule}
+use Rattle.table.specs.Laws.Within.{room-after}
 use Rattle.cells.specs.Laws.Rows.{after}
-use Rattle.cells.specs.Laws.Cells.{cell-kind, cellOf, AllCells, the-cells}
+use Rattle.cells.specs.Laws.Cells.{cell-records, cell-kind, cellOf, AllCells, the-cells}
 use Rattle.cells.proofs.cell.section.Statement.{statement}
 use Rattle.cells.proofs.cell.section.Tie as tie
 
@@ -21,7 +22,8 @@ section-spec =
     let st = k .before .before .before in
     let a = st .before .args in
     let b = bytes-of _ (st .shared-slice-known .given) in
-    (in-limit most-cells (after (cell-kind (a .version)) ((cellOf (a .version)) (a .places))) (a .s .now) b (a .at) ((AllCells (a .version)) (a .at) (a .words .now)) (k .count .ensures) (c .before .before .p .given .1) (k .before .peek .ensures), st .before .pre .0, omega (arith, ends-at most-cells (after (cell-kind (a .version)) ((cellOf (a .version)) (a .places))) (a .s .now) b (a .at) ((AllCells (a .version)) (a .at) (a .words .now)) (k .count .ensures) (c .before .before .p .given .1) (k .before .peek .ensures)), st .before .pre .1))
+    let end = ends-at most-cells (after (cell-kind (a .version)) ((cellOf (a .version)) (a .places))) (a .s .now) b (a .at) ((AllCells (a .version)) (a .at) (a .words .now)) (k .count .ensures) (c .before .before .p .given .1) (k .before .peek .ensures) in
+    (in-limit most-cells (after (cell-kind (a .version)) ((cellOf (a .version)) (a .places))) (a .s .now) b (a .at) ((AllCells (a .version)) (a .at) (a .words .now)) (k .count .ensures) (c .before .before .p .given .1) (k .before .peek .ensures), st .before .pre .0, omega (arith, end), room-after cell-records (omega (arith, end)) (st .before .pre .1)))
     (λ c. search needs) (λ c. search needs)
     (λ c.
     let k = c .before .before .before in

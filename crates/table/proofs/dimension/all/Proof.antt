@@ -3,7 +3,8 @@ use Prim.Native.Nat.{_-_}
 use native.Mathlib.Omega.{arith}
 use borrow.Author.Needs.{needs}
 use lib.ListN.{length}
-use Rattle.table.specs.Laws.Dims.{Passing, passing, passes-on, passes-off, passes-to}
+use Rattle.table.specs.Laws.Within.{room-after}
+use Rattle.table.specs.Laws.Dims.{node-records, Passing, passing, passes-on, passes-off, passes-to}
 use Rattle.table.proofs.dimension.all.Statement.{statement}
 use Rattle.table.proofs.dimension.all.Tie as tie
 
@@ -23,7 +24,7 @@ all-spec =
     (λ c κs.
     let l = c .before .before .before in
     let p = l .before .before .before .pre in
-    (omega arith, p .1, l .loop .inv .1 .few, l .loop .inv .1 .bytes, rw (l .loop .inv .0) (p .2)))
+    (omega arith, p .1, l .loop .inv .1 .few, rw (l .loop .inv .0) (room-after node-records (omega (arith, l .loop .inv .1 .bytes)) (p .2))))
     (λ c. search needs) (λ c. omega arith)
     (λ c. let l = c .before .before .before .before .before .before .before .before .before in
     passes-off _ _ _ _ _ _ (l .loop .inv .1) (omega arith) (rw (c .before .r .given .1) at (c .before .before .before .before .before .dimension .ensures)))

@@ -12,9 +12,18 @@ pub dimensions-spec : {M : Type 1} → statement M
 dimensions-spec =
     tie.close
     (tie.spec
-    (λ c. let a = c .before .before .before .args in (rw (too-long node-records (a .s .now) (length (a .nodes .now)) _ (c .if1 .taken)) keeps-off, refl))
-    (λ c κs. search needs)
-    (λ c. let a = c .before .before .before .before .before .args in (rw (too-short node-records (a .s .now) (length (a .nodes .now)) _ (omega arith) (omega (arith, c .before .most-words .ensures))) keeps-off, refl))
-    (λ c κs. (omega arith, node-room (c .before .before .before .before .before .before .before .args .s .now) _ (omega (arith, c .before .before .before .most-words .ensures))))
+    (λ c. let a = c .before .before .before .args in (rw (too-long node-records (a .s .now) (a .at) (length (a .nodes .now)) _ (c .if1 .taken)) keeps-off, refl))
+    (λ c κs. search needs) (λ c κs. search needs)
+    (λ c.
+    let n = c .before in
+    let a = n .before .before .before .before .before .args in
+    (rw (too-short node-records (a .s .now) (a .at) (length (a .nodes .now)) _ (omega arith) (omega (arith, n .most-node-words .ensures, n .before .left .ensures))) keeps-off, refl))
+    (λ c κs.
+    let n = c .before .before .before in
+    let a = n .before .before .before .before .before .args in
+    (omega arith, node-room (a .s .now) (a .at) _ (omega (arith, n .most-node-words .ensures, n .before .left .ensures))))
     (λ c. search needs)
-    (λ c. let a = c .before .before .before .before .before .before .before .before .before .before .args in (rw (is-within node-records (a .s .now) (length (a .nodes .now)) _ (omega arith) (omega (arith, c .before .before .before .before .before .before .most-words .ensures))) (c .before .before .section .ensures), omega arith)))
+    (λ c.
+    let n = c .before .before .before .before .before .before in
+    let a = n .before .before .before .before .before .args in
+    (rw (is-within node-records (a .s .now) (a .at) (length (a .nodes .now)) _ (omega arith) (omega (arith, n .most-node-words .ensures, n .before .left .ensures))) (c .before .before .section .ensures), omega arith)))

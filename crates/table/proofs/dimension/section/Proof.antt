@@ -1,10 +1,12 @@
+use native.Mathlib.Omega.{arith}
 use borrow.Author.Needs.{needs}
 use Rattle.sizes.specs.Sizes.{most-dimensions}
 use Rattle.layout.specs.Steps.Keeping.{kept-on, kept-off}
 use Rattle.layout.specs.Steps.Slices.{bytes-of}
 use Rattle.layout.specs.Steps.Numbered.{in-limit, ends-at, no-number, no-items, the-items}
 use Rattle.table.specs.Rules.{dimensionsRule}
-use Rattle.table.specs.Laws.Dims.{nextDim, AllDims, the-dims}
+use Rattle.table.specs.Laws.Within.{room-after}
+use Rattle.table.specs.Laws.Dims.{node-records, nextDim, AllDims, the-dims}
 use Rattle.table.proofs.dimension.section.Statement.{statement}
 use Rattle.table.proofs.dimension.section.Tie as tie
 
@@ -18,7 +20,9 @@ section-spec =
     let k = c .before .before .before .before .before in
     let st = k .before .before .before .before in
     let a = st .args in
-    (in-limit most-dimensions (nextDim (a .version)) (a .s .now) (bytes-of _ (k .before .before .before .shared-slice-known .given)) (a .at) ((AllDims (a .version)) (a .at) (a .nodes .now) (a .dims .now)) (k .count .ensures) (c .before .before .before .p .given .1) (k .before .peek .ensures), st .pre .0, st .pre .1))
+    let b = bytes-of _ (k .before .before .before .shared-slice-known .given) in
+    let end = ends-at most-dimensions (nextDim (a .version)) (a .s .now) b (a .at) ((AllDims (a .version)) (a .at) (a .nodes .now) (a .dims .now)) (k .count .ensures) (c .before .before .before .p .given .1) (k .before .peek .ensures) in
+    (in-limit most-dimensions (nextDim (a .version)) (a .s .now) b (a .at) ((AllDims (a .version)) (a .at) (a .nodes .now) (a .dims .now)) (k .count .ensures) (c .before .before .before .p .given .1) (k .before .peek .ensures), st .pre .0, room-after node-records (omega (arith, end)) (st .pre .1)))
     (λ c. search needs) (λ c. search needs)
     (λ c.
     let k = c .before .before .before in

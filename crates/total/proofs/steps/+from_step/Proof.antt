@@ -1,4 +1,4 @@
--- The step rises to 5 at most: there every member has room.
+-- The step rises to 6 at most: there every member has room.
 use mathlib.Core.Path.{sym, _∙_}
 use Prim.Native.Nat.{ℕ, _-_, _<_}
 use native.Mathlib.Omega.{arith}
@@ -6,7 +6,7 @@ use borrow.Author.Needs.{needs}
 use borrow.Author.Tests.{leb-true}
 use borrow.Fn.PlainCycle.{Measures, is, falls, and}
 use lib.ListN.{length}
-use Rattle.member.specs.IntoLists.{small-lists, medium-lists, large-lists, larger-lists, largest-lists, has-room}
+use Rattle.member.specs.Laws.IntoLists.{small-lists, medium-lists, large-lists, larger-lists, largest-lists, has-room}
 use Rattle.member.specs.Laws.Whole.{not-last}
 use Rattle.member.proofs.has_room.Reads as has-room-reads
 use Rattle.total.proofs.steps.from_step.Reads as step
@@ -22,7 +22,7 @@ use Rattle.total.proofs.steps.+from_step.{statement}
 use Rattle.total.proofs.steps.+from_step.Tie.{close}
 
 abbrev μ : Measures 4 step-kinds.ps ℕ
-μ κs a = 5 - a .1 .0
+μ κs a = 6 - a .1 .0
 
 pub +from-step-spec : {M : Type 1} → statement M
 unfolding has-room
@@ -44,7 +44,7 @@ unfolding has-room
     record { fits = omega (arith, not-last (z .step) (length (z .member .now)) (sym (c .before .has-room .ensures) ∙ c .if1 .left)) })
     (λ c κs.
     let z = c .before .before .before .before .before .before .before .before .before .args in
-    let n : z .step < 5 = not-last (z .step) (length (z .member .now)) (sym (c .before .before .before .before .has-room .ensures) ∙ c .before .before .before .if1 .left) in
+    let n : z .step < 6 = not-last (z .step) (length (z .member .now)) (sym (c .before .before .before .before .has-room .ensures) ∙ c .before .before .before .if1 .left) in
     (omega (arith, n), tt))
     (λ c. search needs) (λ c. search needs) (λ c. search needs) (λ c. c .before .before .before .before .before .before .with-small-lists .ensures)
     (λ c. search needs) (λ c. search needs) (λ c. search needs) (λ c. c .before .before .before .before .before .before .with-medium-lists .ensures)

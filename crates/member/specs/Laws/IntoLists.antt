@@ -1,8 +1,8 @@
--- What `read_into` answers, and what its two lists then hold; and lists in steps by the member's length.
+-- What `read_into` answers, and what its two lists then hold; and lists in steps by the bytes that are left.
 use mathlib.Core.Path.{_≡_}
 use mathlib.Core.Bool.{Bool, true}
 use mathlib.Core.List.{List, _++_}
-use Prim.Native.Nat.{ℕ, zero, suc, _*_, _≤_}
+use Prim.Native.Nat.{ℕ, zero, suc, _-_, _*_, _≤_}
 use lib.ListN.{length, drop}
 use lib.Dec.{leb}
 use Rattle.sizes.specs.Sizes.{node-words, cell-words}
@@ -16,13 +16,13 @@ use Rattle.member.specs.Member.{Member, cells, nodes, nodeRecords, cellR
 use Rattle.member.specs.Checked.{checked}
 use Rattle.member.specs.Answer.{refusal, accepted}
 
--- lists of those lengths have room for the records of all that the bytes can hold
-abbrev pub LongEnough : List ℕ → ℕ → ℕ → Type 0
-LongEnough bs node-length cell-length = (needed node-records (length bs) ≤ node-length) × (needed cell-records (length bs) ≤ cell-length)
+-- lists of those lengths have room for the records of all that the bytes from the place `at` on can hold
+abbrev pub LongEnough : List ℕ → ℕ → ℕ → ℕ → Type 0
+LongEnough bs at node-length cell-length = (needed node-records (length bs - at) ≤ node-length) × (needed cell-records (length bs - at) ≤ cell-length)
 
 -- a list that has not is refused before anything is read: that of the nodes by 12, that of the cells by 13, both at 0
 abbrev pub intoLists : List ℕ → ℕ → ℕ → Got (Tree Member)
-intoLists bs node-length cell-length = within node-records bs node-length (within cell-records bs cell-length (checked bs))
+intoLists bs node-length cell-length = within node-records bs 0 node-length (within cell-records bs 0 cell-length (checked bs))
 
 -- the answer, and both lists then: the records, and beyond them what was there; after a refusal as many words, which may be any
 pub data Stored (node-list cell-list : List ℕ) : Got (Tree Member) → Answer → List ℕ → List ℕ → Type 0 where
@@ -30,7 +30,10 @@ pub data Stored (node-list cell-list : List ℕ) : Got (Tree Member) → Answer 
       → vs ≡ cellRecords t ++ drop (cell-words * length (cells t)) cell-list → Stored node-list cell-list (got t r p) a ms vs
   not-stored : {n p : ℕ} {a : Answer} {ms vs : List ℕ} → a ≡ refusal n p 0 0 → Scratch node-list ms → Scratch cell-list vs → Stored node-list cell-list (no n p) a ms vs
 
--- the bytes of a member that is read with the lists of each step
+-- the bytes that are read with the lists of each step
+abbrev pub smallest-lists : ℕ
+smallest-lists = 1024
+
 abbrev pub small-lists : ℕ
 small-lists = 2560
 
@@ -46,11 +49,12 @@ larger-lists = 16384
 abbrev pub largest-lists : ℕ
 largest-lists = 32768
 
--- the lists of step 0 to 4 are these; those of every other have room for each member
+-- the lists of step 0 to 5 are these; those of every other have room for each member
 unfoldable pub has-room : ℕ → ℕ → Bool
-has-room zero n = leb n small-lists
-has-room (suc zero) n = leb n medium-lists
-has-room (suc (suc zero)) n = leb n large-lists
-has-room (suc (suc (suc zero))) n = leb n larger-lists
-has-room (suc (suc (suc (suc zero)))) n = leb n largest-lists
-has-room (suc (suc (suc (suc (suc k))))) n = true
+has-room zero n = leb n smallest-lists
+has-room (suc zero) n = leb n small-lists
+has-room (suc (suc zero)) n = leb n medium-lists
+has-room (suc (suc (suc zero))) n = leb n large-lists
+has-room (suc (suc (suc (suc zero)))) n = leb n larger-lists
+has-room (suc (suc (suc (suc (suc zero))))) n = leb n largest-lists
+has-room (suc (suc (suc (suc (suc (suc k)))))) n = true
