@@ -78,11 +78,17 @@ pub fn run_end(input: &[u8], start: usize) -> usize
     i
 }
 
-// How many of the bytes of a block stand before the first that isn't under 128: the least of their places. The loop has no exit on the way.
+// How many of the bytes of a block stand before the first that isn't under 128: the least of their places; 0 if no block is left. The loop
+// has no exit on the way.
 pub fn leading(input: &[u8], i: usize) -> usize
-    requires { ⌜ i + block ≤ length (now input) ⌝ }
     ensures { λ r. ⌜ (r ≤ block) × Ascii (now (input .entry)) i r ⌝ }
 {
+    if input.len() < i {
+        return 0;
+    }
+    if input.len() - i < BLOCK {
+        return 0;
+    }
     let mut n = BLOCK_END;
     let mut j: u8 = 0;
     while j < BLOCK_END {

@@ -7,7 +7,7 @@ use Rattle.codepages.proofs.store_block.Tie as tie
 pub store-block-spec : {M : Type 1} → statement M
 store-block-spec = tie.close (tie.spec
     (λ c κs. let s = c .before .before .before .before .before in (s .pre .1, omega (arith, s .pre .4 .roomy, s .pre .5)))
-    (λ c κs. c .before .before .before .before .before .before .before .before .pre .1)
+    (λ _ _. tt)
     (λ c. search needs)
     (λ c.
     let l = c .before in

@@ -6,7 +6,7 @@ use Prim.Native.Nat.{ℕ, _+_, _-_, _≤_, _<_}
 use lib.ListN.{getD}
 use Rattle.codepages.specs.Pages.{ascii}
 use Rattle.codepages.specs.Laws.Pages.{side}
-use Rattle.codepages.specs.Laws.Passes.{block}
+use Rattle.codepages.specs.Laws.Passes.{block, ascii-none}
 use Rattle.codepages.proofs.ascii.leading.Statement.{statement}
 use Rattle.codepages.proofs.ascii.leading.Tie as tie
 
@@ -18,6 +18,9 @@ abbrev μ-loop : tie.MeasureT-loop
 
 pub leading-spec : {M : Type 1} → statement M
 leading-spec = tie.close (tie.spec Inv-loop μ-loop
+    (λ c. (omega arith, ascii-none _ _))
+    (λ c. search needs)
+    (λ c. (omega arith, ascii-none _ _))
     (λ c. (omega arith, omega arith, (λ l a b. absurd (omega arith))))
     (λ c. search needs)
     (λ c. omega arith)
