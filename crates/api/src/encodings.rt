@@ -1,11 +1,9 @@
 // Text in old code pages, for programs in C, Rust and other languages.
 ghost use lib.ListN.{length};
 ghost use Rattle.codepages.specs.Convert.{to, from, converted};
-ghost use Rattle.api.specs.Encodings.{Converted};
-use crate::answers::step_words;
-use codepages::from_utf8;
-use codepages::to_utf8;
-use sizes::WRITE_ANSWER_WORDS;
+ghost use Rattle.written_words.specs.Encodings.{Converted};
+use written_words::text::from_utf8_answer;
+use written_words::text::to_utf8_answer;
 
 // Converts text in that page to UTF-8. WRITE_ANSWER_WORDS, with the refusal or 0, its place and the length at the front of `answer`; 0, with
 // nothing written and nothing changed, if it is shorter.
@@ -18,14 +16,7 @@ pub extern "C" fn digarumbi_to_utf8(
 ) -> usize
     ensures { λ n. ⌜ Converted (converted to page (length (now (out .entry))) (now (input .entry))) (now (out .entry)) (now (answer .entry)) n (now (out .exit)) (now (answer .exit)) ⌝ }
 {
-    let room = WRITE_ANSWER_WORDS <= answer.len();
-    if room {
-        let a = to_utf8(page, input, out);
-        step_words(answer, a.refusal, a.place, a.length);
-        WRITE_ANSWER_WORDS
-    } else {
-        0
-    }
+    to_utf8_answer(page, input, out, answer)
 }
 
 // Converts UTF-8 to text in that page, likewise.
@@ -38,12 +29,5 @@ pub extern "C" fn digarumbi_from_utf8(
 ) -> usize
     ensures { λ n. ⌜ Converted (converted from page (length (now (out .entry))) (now (input .entry))) (now (out .entry)) (now (answer .entry)) n (now (out .exit)) (now (answer .exit)) ⌝ }
 {
-    let room = WRITE_ANSWER_WORDS <= answer.len();
-    if room {
-        let a = from_utf8(page, input, out);
-        step_words(answer, a.refusal, a.place, a.length);
-        WRITE_ANSWER_WORDS
-    } else {
-        0
-    }
+    from_utf8_answer(page, input, out, answer)
 }

@@ -1,6 +1,5 @@
 // The library for programs in C, Rust and other languages: numbers and slices alone. A slice is a pointer and a length there;
 // include/digarumbi.h has these functions and the layout of their words.
-mod answers; // answers as words
 mod case_data; // compressed case data
 mod encodings; // text in old code pages
 mod member_list; // a night's members in one call
@@ -9,43 +8,31 @@ mod totals; // totals under a leaf
 mod values; // what a Value says
 
 ghost use mathlib.Core.Path.{_≡_};
-ghost use Prim.Native.Nat.{_+_};
 ghost use lib.ListN.{length};
-ghost use lib.Dec.{leb};
 ghost use Rattle.sizes.specs.Sizes.{abi, look-answer-words};
-ghost use Rattle.layout.specs.Layout.{pick};
 ghost use Rattle.layout.specs.Read.{read};
 ghost use Rattle.units.specs.Units.{in-pixels, in-points, height};
 ghost use Rattle.layout.specs.Part.{partOf};
-ghost use Rattle.desk.specs.Desk.{filledOf, nameOf, afterOf};
+ghost use Rattle.desk.specs.Desk.{filledOf, nameOf, namePlace, afterOf};
 ghost use Rattle.look.specs.Look.{TableLook};
 ghost use Rattle.look.specs.Answers.{expected};
 ghost use Rattle.look_words.specs.FieldWords as look_spec;
 ghost use Rattle.store.specs.Puts.{AtFront};
-ghost use Rattle.api.specs.Api.{MemberRead, namePlace, Rewritten};
-use crate::answers::member_words;
-use crate::answers::step_words;
-use desk::filled;
+ghost use Rattle.member_words.specs.MemberWords.{MemberRead};
+ghost use Rattle.written_words.specs.Looks.{Rewritten};
 use desk::node_after;
 use desk::node_name;
-use look::Answer;
-use look::read::read_look;
+use desk::place::node_name_place;
 use look_words::look_answer;
-use look_write::Written;
-use look_write::write_look;
 use member::part;
-use member::read_member;
+use member_words::member_answer;
 use sizes::ABI;
-use sizes::ANSWER_WORDS;
-use sizes::NAME_LENGTH;
-use sizes::NAME_PLACE;
-use sizes::NODE_WORDS;
-use sizes::WRITE_ANSWER_WORDS;
 use units::Pt;
 use units::Px;
 use units::font_height;
 use units::pt_to_px;
 use units::px_to_pt;
+use written_words::rewrite_answer;
 
 // The version of this interface. The header that a program was compiled with has its own: a record's words are as it says where the two are
 // the same.
@@ -67,34 +54,7 @@ pub extern "C" fn digarumbi_read_member(
 ) -> usize
     ensures { λ n. ⌜ MemberRead (now (member .entry)) (now (answer .entry)) (now (nodes .entry)) (now (cells .entry)) n (now (answer .exit)) (now (nodes .exit)) (now (cells .exit)) ⌝ }
 {
-    let room = ANSWER_WORDS <= answer.len();
-    if room {
-        let a = read_member(member, nodes, cells);
-        member_words(answer, a);
-        ANSWER_WORDS
-    } else {
-        0
-    }
-}
-
-// A place, if that many bytes from there on lie inside the member, else 0.
-fn inside(member: &[u8], place: u32, n: u32) -> usize
-    ensures { λ r. ⌜ r ≡ pick (leb (place + n) (length (now (member .entry)))) place 0 ⌝ }
-{
-    let fits = place as usize + n as usize <= member.len();
-    if fits { place as usize } else { 0 }
-}
-
-// The place of the name of node i; 0 if there is no record i, or if it points outside the member.
-fn name_place(member: &[u8], nodes: &[u32], i: usize) -> usize
-    ensures { λ r. ⌜ r ≡ namePlace (now (member .entry)) (now (nodes .entry)) i ⌝ }
-{
-    if i < nodes.len() / NODE_WORDS {
-        let at = NODE_WORDS * i;
-        inside(member, nodes[at + NAME_PLACE], nodes[at + NAME_LENGTH])
-    } else {
-        0
-    }
+    member_answer(member, answer, nodes, cells)
 }
 
 // The length of the name of node i, and its place in the member; both 0 if there is no record i, or if it points outside the member.
@@ -110,8 +70,7 @@ pub extern "C" fn digarumbi_node_name(
     ensures { λ n. ⌜ n ≡ length (nameOf (now (member .entry)) (filledOf (now (nodes .entry)) count) i) ⌝ }
     ensures { λ _. ⌜ now (place .exit) ≡ namePlace (now (member .entry)) (filledOf (now (nodes .entry)) count) i ⌝ }
 {
-    let words = filled(nodes, count);
-    *place = name_place(member, words, i);
+    *place = node_name_place(member, nodes, count, i);
     node_name(member, nodes, count, i).len()
 }
 
@@ -147,26 +106,7 @@ pub extern "C" fn digarumbi_read_look(file: &[u8], answer: &mut [u32]) -> usize
 pub extern "C" fn digarumbi_rewrite_look(file: &[u8], out: &mut [u8], answer: &mut [u32]) -> usize
     ensures { λ n. ⌜ Rewritten (now (file .entry)) (now (out .entry)) (now (answer .entry)) n (now (out .exit)) (now (answer .exit)) ⌝ }
 {
-    let got = read_look(file);
-    let room = WRITE_ANSWER_WORDS <= answer.len();
-    if room {
-        match got {
-            Answer::Refused(n, p) => {
-                step_words(answer, n, p, 0);
-            }
-            Answer::Accepted(look) => match write_look(look, file, out) {
-                Written::Refused(n, p) => {
-                    step_words(answer, n, p, 0);
-                }
-                Written::Length(n) => {
-                    step_words(answer, 0, 0, n);
-                }
-            },
-        }
-        WRITE_ANSWER_WORDS
-    } else {
-        0
-    }
+    rewrite_answer(file, out, answer)
 }
 
 // Points in pixels: 0 or the refusal's number, 7; the place is 0.

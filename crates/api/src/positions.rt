@@ -1,31 +1,7 @@
 // The position of a cell and the index of a position, as words at the front of a lent area.
-ghost use Rattle.layout.specs.declared.Step.the-variants.{Next};
-ghost use Rattle.store.specs.Puts.{PutsWords};
-ghost use Rattle.api.specs.Positions as spec;
-use layout::Step;
-use position::CellIndex;
-use position::Position;
-use position::index_of;
-use position::position_of;
-use sizes::INDEX_ANSWER_WORDS;
-use sizes::POSITION_ANSWER_WORDS;
-use store::words::put;
-
-fn position_words(out: &mut [u32], x: Position) -> Step
-    ensures { λ r. ⌜ PutsWords (spec.positionWords x) (now (out .entry)) (Next 0) (now (out .exit)) r ⌝ }
-{
-    put(
-        out,
-        Step::Next(0),
-        &[x.refusal, 0, x.layer, x.row, x.column],
-    )
-}
-
-fn index_words(out: &mut [u32], x: CellIndex) -> Step
-    ensures { λ r. ⌜ PutsWords (spec.indexWords x) (now (out .entry)) (Next 0) (now (out .exit)) r ⌝ }
-{
-    put(out, Step::Next(0), &[x.refusal, 0, x.index])
-}
+ghost use Rattle.position_words.specs.Positions.{PositionGiven, IndexGiven};
+use position_words::index_answer;
+use position_words::position_answer;
 
 // The layer, row and column position of the cell with that index. POSITION_ANSWER_WORDS, with the answer in as many words at the front of
 // `answer`; 0, with nothing changed, if it is shorter.
@@ -39,16 +15,9 @@ pub extern "C" fn digarumbi_position(
     index: u32,
     answer: &mut [u32],
 ) -> usize
-    ensures { λ n. ⌜ spec.PositionGiven (now (ns .entry)) layers rows columns (now (order .entry)) index (now (answer .entry)) n (now (answer .exit)) ⌝ }
+    ensures { λ n. ⌜ PositionGiven (now (ns .entry)) layers rows columns (now (order .entry)) index (now (answer .entry)) n (now (answer .exit)) ⌝ }
 {
-    let room = POSITION_ANSWER_WORDS <= answer.len();
-    if room {
-        let x = position_of(ns, layers, rows, columns, order, index);
-        position_words(answer, x);
-        POSITION_ANSWER_WORDS
-    } else {
-        0
-    }
+    position_answer(ns, layers, rows, columns, order, index, answer)
 }
 
 // The index of the cell at that position, likewise.
@@ -64,14 +33,7 @@ pub extern "C" fn digarumbi_index(
     column: u32,
     answer: &mut [u32],
 ) -> usize
-    ensures { λ n. ⌜ spec.IndexGiven (now (ns .entry)) layers rows columns (now (order .entry)) layer row column (now (answer .entry)) n (now (answer .exit)) ⌝ }
+    ensures { λ n. ⌜ IndexGiven (now (ns .entry)) layers rows columns (now (order .entry)) layer row column (now (answer .entry)) n (now (answer .exit)) ⌝ }
 {
-    let room = INDEX_ANSWER_WORDS <= answer.len();
-    if room {
-        let x = index_of(ns, layers, rows, columns, order, layer, row, column);
-        index_words(answer, x);
-        INDEX_ANSWER_WORDS
-    } else {
-        0
-    }
+    index_answer(ns, layers, rows, columns, order, layer, row, column, answer)
 }

@@ -1,2 +1,3 @@
 mod Tests
 mod Held
+mod Names

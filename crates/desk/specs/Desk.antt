@@ -18,6 +18,12 @@ unfoldable pub nameOf : List ℕ → List ℕ → ℕ → List ℕ
 nameOf member nodes i =
     pick (leb (node-words * (i + 1)) (length nodes)) (partOf member (getD nodes (node-words * i + name-place) 0) (getD nodes (node-words * i + name-length) 0)) []
 
+-- the place of the name of node i, in its record; 0 if there is no record i, or if it points outside the member
+unfoldable pub namePlace : List ℕ → List ℕ → ℕ → ℕ
+namePlace member nodes i =
+    let place = getD nodes (node-words * i + name-place) 0 in
+    pick (leb (node-words * (i + 1)) (length nodes)) (pick (leb (place + getD nodes (node-words * i + name-length) 0) (length member)) place 0) 0
+
 -- Document 02, T-07: of `count` nodes, the one after node i and all that is below it, by how many nodes its record says it contains: `count` where
 -- there is none. A record that is not there, or does not count its own node, is not followed: `count`
 unfoldable pub afterOf : List ℕ → ℕ → ℕ → ℕ

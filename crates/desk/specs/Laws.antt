@@ -6,8 +6,8 @@ use mathlib.Core.Bool.{Bool, true, false}
 use mathlib.Core.List.{List, [], _++_}
 use Prim.Native.Nat.{ℕ, _+_, _*_, _/_, _≤_, _<_, min}
 use native.Mathlib.Omega.{arith}
-use lib.ListN.{length, take, drop, getD, length-append, length-take}
-use lib.Seq.{take-at}
+use lib.ListN.{length, take, drop, getD, length-append, length-drop, length-take}
+use lib.Seq.{take-at, length-take-le}
 use lib.Dec.{leb}
 use borrow.Author.Tests.{le-leb, lt-leb, leb-true}
 use Rattle.sizes.specs.Sizes.{node-words, name-place, name-length}
@@ -19,7 +19,7 @@ use Rattle.member.specs.Member.{nodes, nodeRecords}
 use Rattle.member.specs.Laws.RecordsSpelt.{node-width}
 use Rattle.member.specs.Laws.NodesBelow.{nodes-below, size-inside}
 use Rattle.member.specs.Demand3.{Accepted, Demand3}
-use Rattle.desk.specs.Desk.{filledOf, nameOf, afterOf}
+use Rattle.desk.specs.Desk.{filledOf, nameOf, namePlace, afterOf}
 
 -- ---- the words filled
 
@@ -63,6 +63,31 @@ pub outside : (member ns : List ℕ) (i : ℕ) → length member < getD ns (node
 unfolding nameOf partOf pick
 outside member ns i h =
     rw (lt-leb (getD ns (node-words * i + name-place) 0 + getD ns (node-words * i + name-length) 0) (length member) h) (same (leb (node-words * (i + 1)) (length ns)) [])
+
+-- a name is where its place and its length say (`digarumbi_node_name` gives these two, at the words filled)
+pub named : (member nodes : List ℕ) (i : ℕ) → nameOf member nodes i ≡ take (length (nameOf member nodes i)) (drop (namePlace member nodes i) member)
+unfolding nameOf namePlace partOf pick
+named member nodes i = record-there (leb (node-words * (i + 1)) (length nodes))
+  where
+    place : ℕ
+    place = getD nodes (node-words * i + name-place) 0
+
+    n : ℕ
+    n = getD nodes (node-words * i + name-length) 0
+
+    part : (b : Bool) → leb (place + n) (length member) ≡ b
+        → pick b (take n (drop place member)) [] ≡ take (length (pick b (take n (drop place member)) [])) (drop (pick b place 0) member)
+    part true e =
+        let h : n ≤ length (drop place member) = omega (arith, leb-true (place + n) (length member) e, length-drop place member) in
+        rw (length-take-le n (drop place member) h)
+    part false e = refl
+
+    record-there : (b : Bool)
+        → pick b (pick (leb (place + n) (length member)) (take n (drop place member)) []) []
+        ≡ take (length (pick b (pick (leb (place + n) (length member)) (take n (drop place member)) []) []))
+        (drop (pick b (pick (leb (place + n) (length member)) place 0) 0) member)
+    record-there true = part (leb (place + n) (length member)) refl
+    record-there false = refl
 
 -- ---- the node after a group
 

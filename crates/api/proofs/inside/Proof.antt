@@ -1,8 +1,0 @@
-use native.Mathlib.Omega.{arith}
-use Rattle.layout.specs.Layout.{pick}
-use Rattle.api.proofs.inside.Statement.{statement}
-use Rattle.api.proofs.inside.Tie as tie
-
-pub inside-spec : {M : Type 1} → statement M
-unfolding pick
-inside-spec = tie.close (tie.spec (λ c. omega arith) (λ c. rw (c .if1 .taken)) (λ c. rw (c .if1 .left)))

@@ -1,6 +1,0 @@
-pub mod Api
-pub mod Values
-pub mod Positions
-pub mod Encodings
-pub mod Members
-pub mod Laws

@@ -1,0 +1,2 @@
+mod Convert
+mod Rewrite
