@@ -80,6 +80,14 @@ pub record Strides (kind count bias : ℕ) (c : Cursor) (s : List ℕ) (m : Move
       → (r : ℕ) → feed kinds bias (view c) s (fits (suc r)) ≡ put (wrote m) (feed kinds bias (view (m .cursor)) (drop (m .takes) s) (less (fits (suc r)) (wrote m)))
   pub falls : m .goes ≡ true → (kinds : List ℕ) → length kinds ≡ count → getD kinds (c .at) 0 ≡ kind → μ (view (m .cursor)) (drop (m .takes) s) < μ (view c) s
 
+-- a step in which the next code gives an element, whatever bytes are offered, or none
+pub record Given (kind count bias : ℕ) (c : Cursor) (m : Moved) : Type 0 where
+  pub good : Good count (m .cursor)
+  pub still : m .goes ≡ false → m ≡ halting c
+  pub takes : m .takes ≡ 0
+  pub writes : m .goes ≡ true → m .writes ≡ true
+  pub strides : m .goes ≡ true → (input : List ℕ) (i : ℕ) → Strides kind count bias c (drop i input) m
+
 -- eight bytes of a list from a place on
 unfoldable pub eight-at : List ℕ → ℕ → List ℕ
 eight-at s i = getD s i 0 ∷ getD s (i + 1) 0 ∷ getD s (i + 2) 0 ∷ getD s (i + 3) 0 ∷ getD s (i + 4) 0 ∷ getD s (i + 5) 0 ∷ getD s (i + 6) 0 ∷ getD s (i + 7) 0 ∷ []

@@ -54,6 +54,12 @@ pub struct Fed {
     pub written: usize,
 }
 
+// Where codes that give elements have come to.
+pub struct Gave {
+    pub cursor: Cursor,
+    pub written: usize,
+}
+
 // A refusal, or 0, and its place.
 pub struct Answer {
     pub refusal: u32,

@@ -184,3 +184,25 @@ pub fn stride(kind: u8, count: usize, bias: u8, c: Cursor, input: &[u8], i: usiz
     }
     halting(c)
 }
+
+// The step of a code that gives an element; none where the next one gives no element.
+pub fn give(kind: u8, count: usize, bias: u8, c: Cursor) -> Moved
+    requires { ⌜ Good count c ⌝ }
+    ensures { λ r. ⌜ spec.Given kind count bias c r ⌝ }
+{
+    let acts = c.phase == ACTS;
+    if acts {
+        let code = (c.codes % 256) as u8;
+        match judge(kind, bias, code) {
+            Verdict::Gives(x) => {
+                let at = following(c.at, count);
+                return writing(passed(c, at, c.taken), 0, x);
+            }
+            Verdict::Skip => {}
+            Verdict::Finish => {}
+            Verdict::Wrong => {}
+            Verdict::Block => {}
+        }
+    }
+    halting(c)
+}

@@ -1,13 +1,13 @@
 -- A call as a loop of steps: what holds whenever the loop's test is reached, and that each turn keeps it.
 use mathlib.Core.Path.{_≡_, refl, sym, ap, _∙_}
-use mathlib.Core.Bool.{Bool, true, false}
+use mathlib.Core.Bool.{Bool, true, false, false≢true}
 use mathlib.Core.List.{List, [], _∷_, _++_, append-assoc, append-nil}
 use Prim.Native.Nat.{ℕ, zero, suc, _+_, _-_, _*_, _/_, _%_, _≤_, _<_}
 use native.Mathlib.Omega.{arith}
 use lib.Dec.{ltb}
 use lib.ListN.{length, take, drop, getD, set, length-append, length-drop}
 use lib.Seq.{sets, drop-drop, length-sets, getD-drop}
-use borrow.Author.Tests.{ltb-true, ltb-false}
+use borrow.Author.Tests.{ltb-true, ltb-false, lt-ltb, le-ltb}
 use Rattle.layout.specs.Layout.{le, pick}
 use Rattle.layout.specs.Laws.Digits.{length-le}
 use Rattle.case_stream.specs.Stream.{Element}
@@ -16,7 +16,7 @@ use Rattle.case_stream.specs.Laws.Steps.{μ, put-nil, put-put, feed-halts}
 use Rattle.case_state.specs.declared.Cursor.{Cursor}
 use Rattle.cases.specs.declared.Moved.{Moved}
 use Rattle.case_state.specs.Cursor.{view, Good}
-use Rattle.cases.specs.Steps.{wrote, Strides, emitted, counted, goes-on, joined, firsts, Fed-is}
+use Rattle.cases.specs.Steps.{wrote, Strides, Given, emitted, counted, goes-on, joined, firsts, Fed-is}
 
 joined-append : (es fs : List Element) → joined (es ++ fs) ≡ joined es ++ joined fs
 unfolding joined
@@ -209,10 +209,6 @@ pub same-length : {K : List ℕ} {count bias room : ℕ} {c₀ : Cursor} {input 
     → Going K count bias room c₀ input o₀ o c i w going → length o ≡ length o₀
 same-length {o₀ = o₀} g = rw (g .wrote) (length-sets o₀ 0 (joined (g .es)))
 
-pub fits-one : {K : List ℕ} {count bias room : ℕ} {c₀ : Cursor} {input o₀ o : List ℕ} {c : Cursor} {i w : ℕ} {going : Bool}
-    → Going K count bias room c₀ input o₀ o c i w going → going ≡ true → room ≡ length o₀ / 8 → 8 * w + 8 ≤ length o
-fits-one {w = w} g e h = let l = g .roomy e in omega (arith, same-length g)
-
 pub length-firsts : (n : ℕ) (l : List ℕ) → length (firsts n l) ≡ n
 unfolding firsts
 length-firsts zero l = refl
@@ -245,3 +241,76 @@ module _ (kinds : List ℕ) (count bias room : ℕ) (c₀ : Cursor) (input o₀ 
       let a′ : Strides (getD (firsts count kinds) (c .at) 0) count bias c (drop i input) m = rw e at a in
       let l = length-firsts count kinds in
       rw (e₃, e₁, e₂, t) (again (firsts count kinds) count bias room c₀ input o₀ l o c i w g′ m a′, lesser (firsts count kinds) count bias room c₀ input o₀ l o c i w g′ m a′)
+
+-- ---- 4. codes that give elements
+
+-- what goes on from o, c and w goes on from o′, c′ and w′, with the same bytes left and no more to do
+pub record Gone (K : List ℕ) (count bias room : ℕ) (o : List ℕ) (c : Cursor) (w : ℕ) (o′ : List ℕ) (c′ : Cursor) (w′ : ℕ) : Type 0 where
+  pub same-length : length o′ ≡ length o
+  pub good : Good count c′
+  pub most : w′ ≤ room
+  pub goes : (c₀ : Cursor) (input o₀ : List ℕ) (i : ℕ) → Going K count bias room c₀ input o₀ o c i w true
+      → Going K count bias room c₀ input o₀ o′ c′ i w′ (ltb w′ room) × (μ (view c′) (drop i input) ≤ μ (view c) (drop i input))
+
+pub gone : (K : List ℕ) (count bias room : ℕ) (o : List ℕ) (c : Cursor) (w : ℕ) → Good count c → w < room → Gone K count bias room o c w o c w
+gone K count bias room o c w g h = record { same-length = refl; good = g; most = omega arith; goes = λ c₀ input o₀ i x. (rw (lt-ltb w room h) x, omega arith) }
+
+module _ (kinds : List ℕ) (count bias room : ℕ) (o₁ : List ℕ) (c₁ : Cursor) (w₁ : ℕ) (o : List ℕ) (c : Cursor) (w : ℕ)
+    (g : Gone (firsts count kinds) count bias room o₁ c₁ w₁ o c w) (h : w < room) (m : Moved) (a : Given (getD kinds (c .at) 0) count bias c m) where
+  gone-on : m .goes ≡ true → Gone (firsts count kinds) count bias room o₁ c₁ w₁ (emitted o w (m .writes) (m .element)) (m .cursor) (counted w (m .writes))
+  unfolding emitted counted goes-on pick
+  gone-on e =
+      let k = a .writes e in
+      record {
+        same-length = rw k (length-sets o (8 * w) (le 8 (m .element)) ∙ g .same-length);
+        good = a .good;
+        most = rw k (omega arith);
+        goes = λ c₀ input o₀ i x.
+            let p = g .goes c₀ input o₀ i x in
+            let z : i + m .takes ≡ i = omega (arith, a .takes) in
+            let l = a .strides e input i .falls e (firsts count kinds) (length-firsts count kinds) (getD-firsts count kinds (c .at) (g .good .at-in)) in
+            let f : μ (view (m .cursor)) (drop i input) < μ (view c) (drop i input) = rw (a .takes) at l in
+            (rw (z, e) at (turns kinds count bias room c₀ input o₀ o c i w (ltb w room) (p .0) (lt-ltb w room h) m (a .strides e input i) _ _ _ refl refl refl .0), omega (arith, p .1, f));
+      }
+
+  gone-still : m .goes ≡ false → Gone (firsts count kinds) count bias room o₁ c₁ w₁ (emitted o w (m .writes) (m .element)) (m .cursor) (counted w (m .writes))
+  unfolding emitted counted pick
+  gone-still e = rw (a .still e) g
+
+  pub gives-on : {o′ : List ℕ} {w′ : ℕ} {going : Bool} → o′ ≡ emitted o w (m .writes) (m .element) → w′ ≡ counted w (m .writes) → going ≡ goes-on (m .goes) w′ room
+      → Gone (firsts count kinds) count bias room o₁ c₁ w₁ o′ (m .cursor) w′ × (going ≡ true → w′ < room) × ((room - w′) + pick going 1 0 < (room - w) + 1)
+  unfolding goes-on counted pick
+  gives-on e₁ e₂ e₃ = rw (e₃, e₁, e₂) (by (m .goes) refl)
+    where
+      most : (b : Bool) → pick b 1 0 ≤ 1
+      most true = omega arith
+      most false = omega arith
+
+      by : (t : Bool) → m .goes ≡ t → Gone (firsts count kinds) count bias room o₁ c₁ w₁ (emitted o w (m .writes) (m .element)) (m .cursor) (counted w (m .writes))
+          × (goes-on t (counted w (m .writes)) room ≡ true → counted w (m .writes) < room) × ((room - counted w (m .writes)) + pick (goes-on t (counted w (m .writes)) room) 1 0 < (room - w) + 1)
+      by true e =
+          let n : counted w (m .writes) ≡ w + 1 = rw (a .writes e) in
+          (gone-on e, λ q. ltb-true (counted w (m .writes)) room q, omega (arith, n, most (ltb (counted w (m .writes)) room)))
+      by false e =
+          let n : counted w (m .writes) ≡ w = rw (a .still e) in
+          (gone-still e, λ q. absurd (false≢true q), omega (arith, n))
+
+-- a turn: codes that give elements, then a step where one more fits
+module _ (kinds : List ℕ) (count bias room : ℕ) (c₀ : Cursor) (input o₀ o : List ℕ) (c : Cursor) (i w : ℕ) (going : Bool)
+    (x : Going (firsts count kinds) count bias room c₀ input o₀ o c i w going) (t : going ≡ true) (o₁ : List ℕ) (c₁ : Cursor) (w₁ : ℕ)
+    (g : Gone (firsts count kinds) count bias room o c w o₁ c₁ w₁) where
+  given : Going (firsts count kinds) count bias room c₀ input o₀ o₁ c₁ i w₁ (ltb w₁ room) × (μ (view c₁) (drop i input) ≤ μ (view c) (drop i input))
+  given = g .goes c₀ input o₀ i (rw t at x)
+
+  pub turns-after : w₁ < room → (m : Moved) → Strides (getD kinds (c₁ .at) 0) count bias c₁ (drop i input) m
+      → (o′ : List ℕ) (w′ : ℕ) (going′ : Bool) → o′ ≡ emitted o₁ w₁ (m .writes) (m .element) → w′ ≡ counted w₁ (m .writes) → going′ ≡ goes-on (m .goes) w′ room
+      → Going (firsts count kinds) count bias room c₀ input o₀ o′ (m .cursor) (i + m .takes) w′ going′ × (measure input (m .cursor) (i + m .takes) going′ < measure input c i going)
+  unfolding measure pick
+  turns-after h m a o′ w′ going′ e₁ e₂ e₃ =
+      let r = turns kinds count bias room c₀ input o₀ o₁ c₁ i w₁ (ltb w₁ room) (given .0) (lt-ltb w₁ room h) m a o′ w′ going′ e₁ e₂ e₃ in
+      let l = rw (lt-ltb w₁ room h) at (r .1) in
+      (r .0, rw t (omega (arith, given .1, l)))
+
+  pub ends-after : room ≤ w₁ → Going (firsts count kinds) count bias room c₀ input o₀ o₁ c₁ i w₁ false × (measure input c₁ i false < measure input c i going)
+  unfolding measure pick
+  ends-after h = (rw (le-ltb w₁ room h) at (given .0), rw t (omega (arith, given .1)))

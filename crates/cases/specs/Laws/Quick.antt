@@ -1,6 +1,6 @@
 -- A step as a call sees it; and eight bytes at once, of a group and of a block, which leave what eight steps leave.
 use mathlib.Core.Path.{_≡_, refl, sym, ap, _∙_}
-use mathlib.Core.Bool.{Bool, true, false}
+use mathlib.Core.Bool.{Bool, true, false, true≢false, false≢true}
 use mathlib.Core.List.{List, [], _∷_, _++_}
 use Prim.Native.Nat.{ℕ, zero, suc, _+_, _-_, _*_, _/_, _%_, _^_, _≤_, _<_}
 use native.Mathlib.Omega.{arith}
@@ -19,7 +19,7 @@ use Rattle.case_stream.specs.Laws.Whole.{room-goes, gather-whole, block-whole}
 use Rattle.case_state.specs.declared.Cursor.{Cursor}
 use Rattle.cases.specs.declared.Moved.{Moved}
 use Rattle.case_state.specs.Cursor.{act-at, view, Counts, Good}
-use Rattle.cases.specs.Steps.{passed, offered, wrote, step-of, silent, writing, Advances, Strides, eight-at, whole}
+use Rattle.cases.specs.Steps.{passed, offered, wrote, step-of, halting, silent, writing, Advances, Strides, Given, eight-at, whole}
 use Rattle.case_state.specs.Laws.Counting.{counts-first}
 use Rattle.cases.specs.Laws.Goods.{good-act, view-gather, view-acting, view-passed, view-eight}
 use Rattle.case_state.specs.Laws.Tests.{both}
@@ -225,3 +225,23 @@ module _ (kind count bias : ℕ) (c : Cursor) (g : Good count c) (s : List ℕ) 
     pub block-of : held ≡ c .filled → eqb (c .phase) 0 ≡ false → eqb (c .phase) 1 ≡ true → says kind bias (c .codes % 256) ≡ block
         → Strides kind count bias c (drop i s) (writing (passed c ((c .at + 1) % count) (c .taken + 8)) 8 x)
     block-of h e₀ e₁ q = whole-block kind count bias c g (drop i s) x there-8 (whole-in .1) (eight .0) (eight .1) e₀ e₁ (says-block kind bias (c .codes % 256) q) (rw h at (whole-in .2))
+
+-- ---- 5. a code that gives an element, or none
+
+pub given : (kind count bias : ℕ) (c d : Cursor) (x : ℕ) → ((more : Bool) (b : ℕ) → Advances kind count bias c more b (writing d 0 x)) → Given kind count bias c (writing d 0 x)
+given kind count bias c d x a = record {
+  good = a true 0 .good;
+  still = λ e. absurd (true≢false e);
+  takes = refl;
+  writes = λ _. refl;
+  strides = λ _ input i. steps-at kind count bias c input i _ _ refl (a _ _);
+}
+
+pub not-given : (kind count bias : ℕ) (c : Cursor) → Good count c → Given kind count bias c (halting c)
+not-given kind count bias c g = record {
+  good = g;
+  still = λ _. refl;
+  takes = refl;
+  writes = λ e. absurd (false≢true e);
+  strides = λ e. absurd (false≢true e);
+}
