@@ -248,12 +248,11 @@ module _ (kinds : List ℕ) (count bias room : ℕ) (c₀ : Cursor) (input o₀ 
 pub record Gone (K : List ℕ) (count bias room : ℕ) (o : List ℕ) (c : Cursor) (w : ℕ) (o′ : List ℕ) (c′ : Cursor) (w′ : ℕ) : Type 0 where
   pub same-length : length o′ ≡ length o
   pub good : Good count c′
-  pub most : w′ ≤ room
   pub goes : (c₀ : Cursor) (input o₀ : List ℕ) (i : ℕ) → Going K count bias room c₀ input o₀ o c i w true
       → Going K count bias room c₀ input o₀ o′ c′ i w′ (ltb w′ room) × (μ (view c′) (drop i input) ≤ μ (view c) (drop i input))
 
 pub gone : (K : List ℕ) (count bias room : ℕ) (o : List ℕ) (c : Cursor) (w : ℕ) → Good count c → w < room → Gone K count bias room o c w o c w
-gone K count bias room o c w g h = record { same-length = refl; good = g; most = omega arith; goes = λ c₀ input o₀ i x. (rw (lt-ltb w room h) x, omega arith) }
+gone K count bias room o c w g h = record { same-length = refl; good = g; goes = λ c₀ input o₀ i x. (rw (lt-ltb w room h) x, omega arith) }
 
 module _ (kinds : List ℕ) (count bias room : ℕ) (o₁ : List ℕ) (c₁ : Cursor) (w₁ : ℕ) (o : List ℕ) (c : Cursor) (w : ℕ)
     (g : Gone (firsts count kinds) count bias room o₁ c₁ w₁ o c w) (h : w < room) (m : Moved) (a : Given (getD kinds (c .at) 0) count bias c m) where
@@ -264,7 +263,6 @@ module _ (kinds : List ℕ) (count bias room : ℕ) (o₁ : List ℕ) (c₁ : Cu
       record {
         same-length = rw k (length-sets o (8 * w) (le 8 (m .element)) ∙ g .same-length);
         good = a .good;
-        most = rw k (omega arith);
         goes = λ c₀ input o₀ i x.
             let p = g .goes c₀ input o₀ i x in
             let z : i + m .takes ≡ i = omega (arith, a .takes) in
