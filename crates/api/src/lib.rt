@@ -10,9 +10,9 @@ mod values; // what a Value says
 ghost use mathlib.Core.Path.{_≡_};
 ghost use lib.ListN.{length};
 ghost use Rattle.sizes.specs.Sizes.{abi, look-answer-words};
-ghost use Rattle.layout.specs.Read.{read};
+ghost use Rattle.grammar.specs.Laws.Layout.Read.{read};
 ghost use Rattle.units.specs.Units.{in-pixels, in-points, height};
-ghost use Rattle.layout.specs.Part.{partOf};
+ghost use Rattle.grammar.specs.Part.{partOf};
 ghost use Rattle.desk.specs.Desk.{filledOf, nameOf, namePlace, afterOf};
 ghost use Rattle.look.specs.Look.{TableLook};
 ghost use Rattle.look.specs.Answers.{expected};

@@ -6,7 +6,7 @@ use mathlib.Core.List.{List, [], _∷_}
 use Prim.Native.Nat.{ℕ, _+_, _-_, _*_, _/_, _%_, _^_, _≤_, _<_}
 use lib.Dec.{eqb}
 use lib.ListN.{length}
-use Rattle.layout.specs.Layout.{le, undigit, pick}
+use Rattle.sizes.specs.Basics.{le, undigit, pick}
 use Rattle.case_stream.specs.Stream.{limit, block-code, Stop, ended, bad, full}
 use Rattle.case_stream.specs.Machine.{State, gather, acting, stopped}
 use Rattle.case_state.specs.declared.Cursor.{Cursor}

@@ -5,7 +5,7 @@ use mathlib.Core.List.{List, [], _∷_, _++_}
 use Prim.Native.Nat.{ℕ, zero, suc, _+_, _-_, _*_, _%_}
 use lib.Dec.{eqb, leb, ltb}
 use lib.ListN.{length, getD}
-use Rattle.layout.specs.Layout.{pick}
+use Rattle.sizes.specs.Basics.{pick}
 use Rattle.case_stream.specs.Stream.{Element, limit, Stop, ended, bad, full, Says, skip, finish, block, wrong, gives, says}
 
 -- Each begins with the position in the case and the number of bytes taken.

@@ -7,7 +7,7 @@ use lib.Dec.{eqb, leb, ltb}
 use lib.IntN.{pos}
 use lib.Ieee.{Float, Format, binary64, sub, ofInt, toBits}
 use lib.ListN.{length, take, drop, getD}
-use Rattle.layout.specs.Layout.{le, pick}
+use Rattle.sizes.specs.Basics.{le, pick}
 
 -- ---- 1. what a code says
 

@@ -7,7 +7,7 @@ use Prim.Native.Nat.{ℕ, zero, suc, _-_, _/_, _≤_}
 use lib.Dec.{eqb, leb, ltb}
 use lib.ListN.{length, take, drop, replicate}
 use lib.Seq.{sets}
-use Rattle.layout.specs.Layout.{pick}
+use Rattle.sizes.specs.Basics.{pick}
 use Rattle.case_stream.specs.Stream.{Element, limit, most-kinds, most-bias, ended, bad, full}
 use Rattle.case_stream.specs.Machine as machine
 use Rattle.case_stream.specs.Machine.{gather, acting, stopped, fits, Out, out}

@@ -6,7 +6,7 @@ use Prim.Native.Nat.{ℕ, zero, suc, _+_, _-_, _*_, _/_, _^_, _≤_, _<_}
 use lib.Dec.{eqb, leb, ltb}
 use lib.ListN.{length, drop, getD}
 use lib.Seq.{sets}
-use Rattle.layout.specs.Layout.{le, pick}
+use Rattle.sizes.specs.Basics.{le, pick}
 use Rattle.case_stream.specs.Stream.{Element, limit, Says, skip, finish, block, wrong, gives}
 use Rattle.case_stream.specs.Machine.{fits, less, Step, halts, goes, moves, out, put, feed}
 use Rattle.case_stream.specs.Laws.Steps.{μ}

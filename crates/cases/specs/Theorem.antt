@@ -6,7 +6,7 @@ use mathlib.Core.List.{List, [], _∷_, _++_}
 use Prim.Native.Nat.{ℕ, zero, suc, _+_, _-_, _/_, _≤_, _<_}
 use native.Mathlib.Omega.{arith}
 use lib.ListN.{length, drop}
-use Rattle.layout.specs.Layout.{le, pick}
+use Rattle.sizes.specs.Basics.{le, pick}
 use Rattle.case_stream.specs.Stream.{Element, meaning}
 use Rattle.case_stream.specs.Machine.{State as Machine, fits, out, feed, run, start}
 use Rattle.case_stream.specs.Cuts.{Calls, no-call, call, out-of}

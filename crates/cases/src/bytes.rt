@@ -3,7 +3,7 @@ ghost use mathlib.Core.Path.{_≡_};
 ghost use Prim.Native.Nat.{_+_, _-_, _≤_, _<_};
 ghost use lib.ListN.{length};
 ghost use lib.Seq.{sets};
-ghost use Rattle.layout.specs.Layout.{le, undigit};
+ghost use Rattle.sizes.specs.Basics.{le, undigit};
 ghost use Rattle.cases.specs.Steps as spec;
 
 fn wide(x: u8) -> u64

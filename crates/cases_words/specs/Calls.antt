@@ -5,7 +5,7 @@ use mathlib.Core.List.{List, [], _∷_, _++_}
 use Prim.Native.Nat.{ℕ}
 use lib.ListN.{length, drop}
 use lib.Dec.{eqb, leb}
-use Rattle.layout.specs.Layout.{pick}
+use Rattle.sizes.specs.Basics.{pick}
 use Rattle.cases.specs.declared.Answer.{Answer}
 use Rattle.cases.specs.declared.Call.{Call}
 use Rattle.cases.specs.Answers.{start-of, call-of, output-of, finish-of}

@@ -4,7 +4,7 @@ mod words; // a state from words, and words of a state
 ghost use mathlib.Core.Path.{_≡_};
 ghost use lib.ListN.{length};
 ghost use lib.Dec.{leb};
-ghost use Rattle.layout.specs.Layout.{pick};
+ghost use Rattle.sizes.specs.Basics.{pick};
 ghost use Rattle.cases_words.specs.StateWords as state_spec;
 ghost use Rattle.cases_words.specs.Calls as spec;
 use crate::words::keep;

@@ -5,7 +5,7 @@ ghost use mathlib.Core.List.{_++_};
 ghost use Prim.Native.Nat.{min, _+_, _≤_, _<_};
 ghost use lib.ListN.{length, drop, getD};
 ghost use lib.Dec.{leb};
-ghost use Rattle.layout.specs.Layout.{pick};
+ghost use Rattle.sizes.specs.Basics.{pick};
 ghost use Rattle.layout.specs.declared.Step.the-variants.{Next};
 ghost use Rattle.store.specs.Puts.{PutsWords};
 ghost use Rattle.cases.specs.Steps.{firsts};

@@ -6,8 +6,8 @@ use Prim.Native.Nat.{ℕ, _+_, _-_, _≤_, _<_}
 use native.Mathlib.Omega.{arith}
 use lib.Dec.{ltb, eqb}
 use borrow.Author.Tests.{eq-eqb, ne-eqb, eqb-true, eqb-false}
-use Rattle.layout.specs.Layout.{among}
-use Rattle.once.specs.Once.{fresh}
+use Rattle.sizes.specs.Basics.{among}
+use Rattle.grammar.specs.Once.{fresh}
 
 -- ---- the test of a number
 

@@ -5,7 +5,7 @@ use mathlib.Core.List.{List, [], _∷_, _++_}
 use Prim.Native.Nat.{ℕ, zero, suc, _-_, _<_}
 use lib.Dec.{ltb}
 use lib.ListN.{length, getD, drop}
-use Rattle.layout.specs.Layout.{pick}
+use Rattle.sizes.specs.Basics.{pick}
 use Rattle.codepages.specs.declared.Answer.{Answer}
 use Rattle.codepages.specs.Pages.{first-page, page-count, no-code-point, no-byte, code-point, byte}
 use Rattle.codepages.specs.Utf8.{encode, decode}

@@ -2,7 +2,7 @@
 use mathlib.Core.Path.{_≡_, refl}
 use mathlib.Core.List.{List, [], _∷_}
 use Prim.Native.Nat.{ℕ}
-use Rattle.layout.specs.Layout.{pick}
+use Rattle.sizes.specs.Basics.{pick}
 use Rattle.codepages.specs.Table.{entries}
 use Rattle.codepages.specs.Pages.{page, listed, code-point, position, byte}
 use Rattle.codepages.specs.Utf8.{scalar, encode, continuation, shortest, row-two, row-three, row-four, row, decode}

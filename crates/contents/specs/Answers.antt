@@ -6,11 +6,12 @@ use Prim.Native.Nat.{ℕ}
 use lib.ListN.{length}
 use lib.Dec.{leb}
 use Rattle.sizes.specs.Sizes.{member-bytes, below-value}
-use Rattle.layout.specs.Layout.{Test, a-version, among, Layout, Tree, pick}
-use Rattle.layout.specs.Numbers.{refusal}
-use Rattle.layout.specs.Fails.{Spells, Fails}
-use Rattle.sections.specs.Sections.{versions}
-use Rattle.value.specs.Value.{CellValue, Argument}
+use Rattle.sizes.specs.Basics.{among, pick}
+use Rattle.grammar.specs.Layout.{Test, a-version, Layout, Tree}
+use Rattle.grammar.specs.Numbers.{refusal}
+use Rattle.grammar.specs.Fails.{Spells, Fails}
+use Rattle.grammar.specs.Sections.{versions}
+use Rattle.grammar.specs.Value.{CellValue, Argument}
 use Rattle.contents.specs.declared.Contents.{Contents}
 use Rattle.contents.specs.declared.Argument.{Argument as ArgumentContents}
 unfoldable pub use Rattle.contents.specs.Contents.{none, raw, contents, argumentOf, argumentContents}

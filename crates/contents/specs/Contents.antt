@@ -6,11 +6,12 @@ use lib.Dec.{eqb}
 use Rattle.sizes.specs.Sizes.{below-value}
 use Rattle.layout.specs.declared.Step.{Step}
 use Rattle.layout.specs.declared.Step.the-variants.{Next, Refused}
-use Rattle.layout.specs.Layout.{Layout, _▸_, Tree, pick, size}
-use Rattle.layout.specs.Conventions.{choose}
+use Rattle.sizes.specs.Basics.{pick}
+use Rattle.grammar.specs.Layout.{Layout, _▸_, Tree, size}
+use Rattle.grammar.specs.Conventions.{choose}
 use Rattle.store.specs.declared.Name.{Name}
 use Rattle.store.specs.Fields.{Text, lent, letters, Fields, placed}
-use Rattle.value.specs.Value.{Modifiers, ArgumentOf, TemplateOf, Form01, Form02, Form03, Form04, Form05, Form06, RawValueOf, ValueIn, CellValue, Argument}
+use Rattle.grammar.specs.Value.{Modifiers, ArgumentOf, TemplateOf, Form01, Form02, Form03, Form04, Form05, Form06, RawValueOf, ValueIn, CellValue, Argument}
 use Rattle.contents.specs.declared.RawValue.{RawValue}
 use Rattle.contents.specs.declared.Contents.{Contents}
 use Rattle.contents.specs.declared.Argument.{Argument as ArgumentContents}

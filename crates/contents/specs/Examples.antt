@@ -4,12 +4,13 @@ use mathlib.Core.Bool.{true, false}
 use mathlib.Core.List.{List, [], _∷_, _++_, map}
 use Prim.Native.Nat.{ℕ}
 use lib.ListN.{length, replicate}
-use Rattle.layout.specs.Layout.{pick, among, passes, suits, undigits, undigit, spell, spellAll, spellFill, digits, le, size}
-use Rattle.layout.specs.Numbers.{refusal}
-use Rattle.layout.specs.Read.{read, bind, readNumber, readCounted, readTimes, readLeading, readFill, ends, lead}
+use Rattle.sizes.specs.Basics.{pick, among, undigit, le}
+use Rattle.grammar.specs.Layout.{passes, suits, undigits, spell, spellAll, spellFill, digits, size}
+use Rattle.grammar.specs.Numbers.{refusal}
+use Rattle.grammar.specs.Laws.Layout.Read.{read, bind, readNumber, readCounted, readTimes, readLeading, readFill, ends, lead}
 use Rattle.store.specs.declared.Name.{Name}
 use Rattle.store.specs.Fields.{placed, placedAll, placedIn}
-use Rattle.value.specs.Value as grammar
+use Rattle.grammar.specs.Value as grammar
 use Rattle.contents.specs.declared.Contents.{Contents}
 use Rattle.contents.specs.declared.RawValue.{RawValue}
 use Rattle.contents.specs.Contents.{none, raw, contents, chosen, either, rawSays, template-form, says-01, says-02, says-03, says-04, says-05, says-06, says-31, says-58, argumentOf, argumentContents}

@@ -12,16 +12,17 @@ use lib.Seq.{length-take-le}
 use lib.Dec.{eqb, leb}
 use borrow.Author.Tests.{le-leb, leb-true}
 use Rattle.sizes.specs.Sizes.{member-bytes, node-words, cell-words, dimension-words, name-place, name-length, below-value}
-use Rattle.layout.specs.Layout.{little, among, passes, Layout, number, leading, Tree, digits, le, spell, size, pick, Leads, All, all-none, all-more, Valid}
-use Rattle.layout.specs.Fails.{Spells}
-use Rattle.layout.specs.Part.{partOf}
-use Rattle.value.specs.Value.{Value, CellValue, RawValueOf, ValueIn, cell-zeros, forms, left-out}
-use Rattle.sections.specs.Sections.{versions}
-use Rattle.once.specs.Once.{word}
-use Rattle.table.specs.Laws.RecordsPoint.{Points, record-of}
-use Rattle.member.specs.Member.{Member, version, nodeRecords, dimensionEntries, cellRecords, MemberDerivation}
-use Rattle.member.specs.Laws.RecordsSpelt.{nodeNames, dimensionNames, cellValues, nodes-point, dimensions-point, values-point, part-of}
-use Rattle.member.specs.Laws.ValidValues.{nodes-valid, dimensions-valid, cells-valid}
+use Rattle.sizes.specs.Basics.{among, le, pick}
+use Rattle.grammar.specs.Layout.{little, passes, Layout, number, leading, Tree, digits, spell, size, Leads, All, all-none, all-more, Valid}
+use Rattle.grammar.specs.Fails.{Spells}
+use Rattle.grammar.specs.Part.{partOf}
+use Rattle.grammar.specs.Value.{Value, CellValue, RawValueOf, ValueIn, cell-zeros, forms, left-out}
+use Rattle.grammar.specs.Sections.{versions}
+use Rattle.grammar.specs.RecordWords.{word}
+use Rattle.grammar.specs.Laws.Table.RecordsPoint.{Points, record-of}
+use Rattle.grammar.specs.Member.{Member, version, nodeRecords, dimensionEntries, cellRecords, MemberDerivation}
+use Rattle.grammar.specs.Laws.Member.RecordsSpelt.{nodeNames, dimensionNames, cellValues, nodes-point, dimensions-point, values-point, part-of}
+use Rattle.grammar.specs.Laws.Member.ValidValues.{nodes-valid, dimensions-valid, cells-valid}
 use Rattle.contents.specs.declared.Contents.{Contents}
 use Rattle.contents.specs.Contents.{contents}
 use Rattle.contents.specs.Answers.{unread, ValueAnswers}

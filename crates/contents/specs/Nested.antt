@@ -6,13 +6,13 @@ use Prim.Native.Nat.{ℕ, suc, _+_}
 use native.Mathlib.Omega.{arith}
 use lib.ListN.{length, drop, length-append}
 use Rattle.sizes.specs.Sizes.{value-depth, below-value}
-use Rattle.layout.specs.Layout.{little, Layout, Tree, digits, spellAll, spell, Valid}
-use Rattle.layout.specs.Conventions.{lestring}
-use Rattle.layout.specs.Fails.{Spells}
-use Rattle.layout.specs.Laws.{digits-length}
-use Rattle.layout.specs.Steps.Spelt as spelt
+use Rattle.grammar.specs.Layout.{little, Layout, Tree, digits, spellAll, spell, Valid}
+use Rattle.grammar.specs.Conventions.{lestring}
+use Rattle.grammar.specs.Fails.{Spells}
+use Rattle.grammar.specs.Laws.Layout.{digits-length}
+use Rattle.grammar.specs.Laws.Layout.Spelt as spelt
 use Rattle.store.specs.Fields.{placed}
-use Rattle.value.specs.Value.{ArgumentOf, TemplateOf, Argument, ValueIn, Value, CellValue}
+use Rattle.grammar.specs.Value.{ArgumentOf, TemplateOf, Argument, ValueIn, Value, CellValue}
 use Rattle.contents.specs.declared.Contents.{Contents}
 use Rattle.contents.specs.declared.Argument.{Argument as ArgumentContents}
 use Rattle.contents.specs.Contents.{contents, argumentContents, says-58}

@@ -2,7 +2,7 @@
 use mathlib.Core.Bool.{true, false}
 use Prim.Native.Nat.{ℕ}
 use lib.Ieee.{binary64, ofBits, nanBits}
-use Rattle.layout.specs.Layout.{pick}
+use Rattle.sizes.specs.Basics.{pick}
 use Rattle.contents.specs.declared.double.Double.{Double}
 
 -- every bit pattern but a NaN's is a number, infinities too; there is none in the place of a NaN, and 0 is given

@@ -2,9 +2,9 @@
 ghost use mathlib.Core.Path.{_≡_};
 ghost use mathlib.Core.Bool.{false};
 ghost use Rattle.sizes.specs.Sizes.{below-value};
-ghost use Rattle.layout.specs.Layout.{_▸_};
+ghost use Rattle.grammar.specs.Layout.{_▸_};
 ghost use Rattle.fields.specs.Gives.{Shows};
-ghost use Rattle.value.specs.Value as grammar;
+ghost use Rattle.grammar.specs.Value as grammar;
 ghost use Rattle.contents.specs.Contents as spec;
 use crate::RawValue;
 use fields::read::byte;

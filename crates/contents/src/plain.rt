@@ -2,7 +2,7 @@
 // bytes, and its fields have fixed places.
 ghost use mathlib.Core.Path.{_≡_};
 ghost use Rattle.layout.specs.declared.Step.the-variants.{Next};
-ghost use Rattle.layout.specs.Layout.{little};
+ghost use Rattle.grammar.specs.Layout.{little};
 ghost use Rattle.layout.specs.Reads.{peek};
 ghost use Rattle.contents.specs.Laws.Plain as spec;
 use crate::unread;

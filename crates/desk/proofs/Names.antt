@@ -6,7 +6,7 @@ use lib.ListN.{length, getD}
 use lib.Dec.{leb}
 use borrow.Author.Tests.{le-leb, lt-leb}
 use Rattle.sizes.specs.Sizes.{node-words, name-place, name-length}
-use Rattle.layout.specs.Layout.{pick}
+use Rattle.sizes.specs.Basics.{pick}
 use Rattle.desk.specs.Desk.{namePlace}
 
 pub place-there : (member nodes : List ℕ) (i : ℕ) {r : ℕ} → node-words * (i + 1) ≤ length nodes

@@ -5,9 +5,9 @@ use Prim.Native.Nat.{ℕ, _+_, _*_, _≤_, _<_, min}
 use lib.ListN.{length, take, getD}
 use borrow.Author.Tests.{le-leb, lt-leb}
 use Rattle.sizes.specs.Sizes.{node-words, name-place, name-length}
-use Rattle.layout.specs.Layout.{pick}
-use Rattle.layout.specs.Part.{partOf}
-use Rattle.table.specs.Below.{sizeOf}
+use Rattle.sizes.specs.Basics.{pick}
+use Rattle.grammar.specs.Part.{partOf}
+use Rattle.grammar.specs.Below.{sizeOf}
 use Rattle.desk.specs.Desk.{filledOf, nameOf, afterOf}
 
 pub enough : (area : List ℕ) (count : ℕ) → node-words * count ≤ length area → take (node-words * count) area ≡ filledOf area count

@@ -5,9 +5,9 @@ use Prim.Native.Nat.{ℕ, _+_, _*_, min}
 use lib.ListN.{length, take, getD}
 use lib.Dec.{leb}
 use Rattle.sizes.specs.Sizes.{node-words, name-place, name-length}
-use Rattle.layout.specs.Layout.{pick}
-use Rattle.layout.specs.Part.{partOf}
-use Rattle.table.specs.Below.{sizeOf}
+use Rattle.sizes.specs.Basics.{pick}
+use Rattle.grammar.specs.Part.{partOf}
+use Rattle.grammar.specs.Below.{sizeOf}
 
 -- the words of the first `count` records of an area; none where the area has fewer
 unfoldable pub filledOf : List ℕ → ℕ → List ℕ

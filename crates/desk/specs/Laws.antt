@@ -11,13 +11,13 @@ use lib.Seq.{take-at, length-take-le}
 use lib.Dec.{leb}
 use borrow.Author.Tests.{le-leb, lt-leb, leb-true}
 use Rattle.sizes.specs.Sizes.{node-words, name-place, name-length}
-use Rattle.layout.specs.Layout.{pick}
+use Rattle.sizes.specs.Basics.{pick}
 use Rattle.member.specs.declared.Answer.{Answer}
-use Rattle.layout.specs.Part.{partOf}
-use Rattle.table.specs.Below.{sizeOf, Below}
-use Rattle.member.specs.Member.{nodes, nodeRecords}
-use Rattle.member.specs.Laws.RecordsSpelt.{node-width}
-use Rattle.member.specs.Laws.NodesBelow.{nodes-below, size-inside}
+use Rattle.grammar.specs.Part.{partOf}
+use Rattle.grammar.specs.Below.{sizeOf, Below}
+use Rattle.grammar.specs.Member.{nodes, nodeRecords}
+use Rattle.grammar.specs.Laws.Member.RecordsSpelt.{node-width}
+use Rattle.grammar.specs.Laws.Member.NodesBelow.{nodes-below, size-inside}
 use Rattle.member.specs.Demand3.{Accepted, Demand3}
 use Rattle.desk.specs.Desk.{filledOf, nameOf, namePlace, afterOf}
 

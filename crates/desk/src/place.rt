@@ -3,7 +3,7 @@ ghost use mathlib.Core.Path.{_≡_};
 ghost use Prim.Native.Nat.{_+_};
 ghost use lib.ListN.{length};
 ghost use lib.Dec.{leb};
-ghost use Rattle.layout.specs.Layout.{pick};
+ghost use Rattle.sizes.specs.Basics.{pick};
 ghost use Rattle.desk.specs.Desk.{filledOf, namePlace};
 use crate::filled;
 use sizes::NAME_LENGTH;

@@ -9,20 +9,21 @@ use lib.ListN.{length}
 use lib.Dec.{ltb}
 use borrow.Author.Tests.{ltb-true}
 use Rattle.sizes.specs.Sizes.{no-parent}
-use Rattle.layout.specs.Layout.{le, digits, spellAll, spellFill, spell, Tree, passes, suits, among, pick, Bytes, no-bytes, byte, size}
-use Rattle.layout.specs.Read.{Got, got, no, lead, read, refusal}
-use Rattle.layout.specs.Check.{check}
-use Rattle.value.specs.Value.{FontStyle, CellStyle, StylePair, TemplatePrefix, TemplateString, Modifiers, ValueMod, ArgumentOf, TemplateOf, Form01, Form02, Form03, Form04, Form05, Form06, RawValueOf, ValueIn, Value, CellValue}
-use Rattle.sections.specs.Sections.{HeaderFlags, HeaderNumbers, HeaderStart, HeaderRest, Titles, Footnote, Footnotes, AreaFont, AreaColors, AreaMargins, Area, EightAreas, Areas, BordersContent, Borders, PrintSettingsContent, PrintSettings, BreaksContent, TableFlags, TableSettingsContent, TableSettings, Y0, CustomCurrency, X1Start, X1, X2, X1X2, X3, Y1, Y2, X0, FormatsEnd, Formats, Front}
-use Rattle.once.specs.Once.{fresh, firstBad}
-use Rattle.index.specs.Index.{product}
-use Rattle.table.specs.Table.{DimProperties}
-use Rattle.table.specs.Records.{sum, nodes as categoryNodes, leafIndexes, dimNodes, dimLeaves, nodeRecord, wordsAll, treeWords, dimWords, dimsWords}
-use Rattle.table.specs.Rules.{categoryRule, leavesAll, treeLeaves, leavesOf, dimensionRule, dimensionsRule, entryRule, axesRule, cellRule, cellsRule}
-use Rattle.member.specs.Member.{Member, dimensions, nodes, cells, nodeRecords, MemberDerivation, AsDemanded}
-use Rattle.member.specs.Refused.{bodyRule, memberRule}
-use Rattle.member.specs.Checked.{ended, checked}
-use Rattle.member.specs.Laws.Demanded.{accepted}
+use Rattle.sizes.specs.Basics.{le, among, pick}
+use Rattle.grammar.specs.Layout.{digits, spellAll, spellFill, spell, Tree, passes, suits, Bytes, no-bytes, byte, size}
+use Rattle.grammar.specs.Laws.Layout.Read.{Got, got, no, lead, read, refusal}
+use Rattle.grammar.specs.Laws.Layout.Check.{check}
+use Rattle.grammar.specs.Value.{FontStyle, CellStyle, StylePair, TemplatePrefix, TemplateString, Modifiers, ValueMod, ArgumentOf, TemplateOf, Form01, Form02, Form03, Form04, Form05, Form06, RawValueOf, ValueIn, Value, CellValue}
+use Rattle.grammar.specs.Sections.{HeaderFlags, HeaderNumbers, HeaderStart, HeaderRest, Titles, Footnote, Footnotes, AreaFont, AreaColors, AreaMargins, Area, EightAreas, Areas, BordersContent, Borders, PrintSettingsContent, PrintSettings, BreaksContent, TableFlags, TableSettingsContent, TableSettings, Y0, CustomCurrency, X1Start, X1, X2, X1X2, X3, Y1, Y2, X0, FormatsEnd, Formats, Front}
+use Rattle.grammar.specs.Once.{fresh, firstBad}
+use Rattle.grammar.specs.Index.{product}
+use Rattle.grammar.specs.Table.{DimProperties}
+use Rattle.grammar.specs.Records.{sum, nodes as categoryNodes, leafIndexes, dimNodes, dimLeaves, nodeRecord, wordsAll, treeWords, dimWords, dimsWords}
+use Rattle.grammar.specs.Rules.{categoryRule, leavesAll, treeLeaves, leavesOf, dimensionRule, dimensionsRule, entryRule, axesRule, cellRule, cellsRule}
+use Rattle.grammar.specs.Member.{Member, dimensions, nodes, cells, nodeRecords, MemberDerivation, AsDemanded}
+use Rattle.grammar.specs.Refused.{bodyRule, memberRule}
+use Rattle.grammar.specs.Laws.Member.Checked.{ended, checked}
+use Rattle.grammar.specs.Laws.Member.Demanded.{accepted}
 
 -- ---- the bytes, by the sections of source document 003
 

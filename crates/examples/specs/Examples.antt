@@ -4,16 +4,17 @@ use mathlib.Core.Bool.{Bool, true, false, _&&_}
 use mathlib.Core.List.{List, [], _∷_, map}
 use Prim.Native.Nat.{ℕ}
 use lib.ListN.{replicate}
-use Rattle.layout.specs.Layout.{passes, among, pick}
-use Rattle.layout.specs.Read.{Got, got, no, read, refusal}
-use Rattle.layout.specs.Check.{check}
+use Rattle.sizes.specs.Basics.{among, pick}
+use Rattle.grammar.specs.Layout.{passes}
+use Rattle.grammar.specs.Laws.Layout.Read.{Got, got, no, read, refusal}
+use Rattle.grammar.specs.Laws.Layout.Check.{check}
 use Rattle.units.specs.Units.{in-pixels, in-points}
-use Rattle.value.specs.Value.{Value, ValueIn, RawValueOf, TemplateOf, ArgumentOf}
-use Rattle.sections.specs.Sections.{Front, HeaderStart, HeaderRest, HeaderFlags, HeaderNumbers}
-use Rattle.once.specs.Once.{fresh}
-use Rattle.index.specs.Index.{product, index}
-use Rattle.member.specs.Refused.{bodyRule, memberRule}
-use Rattle.member.specs.Checked.{ended, checked}
+use Rattle.grammar.specs.Value.{Value, ValueIn, RawValueOf, TemplateOf, ArgumentOf}
+use Rattle.grammar.specs.Sections.{Front, HeaderStart, HeaderRest, HeaderFlags, HeaderNumbers}
+use Rattle.grammar.specs.Once.{fresh}
+use Rattle.grammar.specs.Index.{product, index}
+use Rattle.grammar.specs.Refused.{bodyRule, memberRule}
+use Rattle.grammar.specs.Laws.Member.Checked.{ended, checked}
 
 data Input : Type 0 where
   -- a member, a Value

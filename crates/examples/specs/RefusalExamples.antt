@@ -5,7 +5,7 @@ use mathlib.Core.Path.{_≡_, refl}
 use mathlib.Core.List.{List, [], _∷_, _++_, map}
 use Prim.Native.Nat.{ℕ, zero, suc}
 use lib.ListN.{length, take, drop, set}
-use Rattle.layout.specs.Layout.{little, big, digits}
+use Rattle.grammar.specs.Layout.{little, big, digits}
 use Rattle.examples.specs.AcceptedExample.{member, Line, refused-at, accepted-with, line}
 
 -- ---- parts

@@ -5,8 +5,8 @@ use Prim.Native.Nat.{ℕ}
 use lib.ListN.{length, drop}
 use Rattle.layout.specs.declared.Step.{Step}
 use Rattle.layout.specs.declared.Step.the-variants.{Next, Refused}
-use Rattle.layout.specs.Layout.{Layout, Tree, Bytes}
-use Rattle.layout.specs.Read.{got, read}
+use Rattle.grammar.specs.Layout.{Layout, Tree, Bytes}
+use Rattle.grammar.specs.Laws.Layout.Read.{got, read}
 use Rattle.layout.specs.Reads.{Reads, bytes}
 use Rattle.layout.specs.declared.Span.{Span}
 use Rattle.layout.specs.declared.Span.the-variants.{Of}

@@ -7,7 +7,7 @@ use native.Mathlib.Nat.{min-eq-left, min-eq-right, mul-zero, mul-one, mul-assoc,
 use native.Mathlib.Omega.{arith}
 use borrow.Author.Tests.{leb-true, leb-false}
 use lib.Dec.{leb}
-use Rattle.index.specs.Index.{product}
+use Rattle.grammar.specs.Index.{product}
 
 by-size : (l a n : ℕ) (b : Bool) → leb a l ≡ b → min (min a l * n) l ≡ min (a * n) l
 by-size l a n true e = rw (min-eq-left (leb-true a l e))

@@ -2,7 +2,8 @@
 ghost use mathlib.Core.Path.{_≡_};
 ghost use Prim.Native.Nat.{_+_, _*_, _≤_, min};
 ghost use Rattle.sizes.specs.Sizes.{most-dimensions, most-places};
-ghost use Rattle.index.specs.Index as spec;
+ghost use Rattle.grammar.specs.RecordWords.{sizes};
+ghost use Rattle.grammar.specs.Index as spec;
 use layout::number::at_most;
 use once::word;
 use sizes::DIMENSION_N;
@@ -25,7 +26,7 @@ fn times(p: u64, n: u32) -> u64
 // The product of the n of the `count` dimensions from dimension i on, as far as one too large; more than there can be count as so many. An n of 0
 // makes it 0, even after the limit was met.
 pub fn product_from(dims: &[u32], i: usize, count: usize) -> u64
-    ensures { λ r. ⌜ r ≡ min (spec.product (spec.sizes (now (dims .entry)) (min i most-dimensions) (min count most-dimensions))) (most-places + 1) ⌝ }
+    ensures { λ r. ⌜ r ≡ min (spec.product (sizes (now (dims .entry)) (min i most-dimensions) (min count most-dimensions))) (most-places + 1) ⌝ }
 {
     let mut i = at_most(i, MOST_DIMENSIONS);
     let mut left = at_most(count, MOST_DIMENSIONS);
@@ -40,7 +41,7 @@ pub fn product_from(dims: &[u32], i: usize, count: usize) -> u64
 
 // The product of the n of d dimensions, likewise.
 pub fn product_of(dims: &[u32], d: usize) -> u64
-    ensures { λ r. ⌜ r ≡ min (spec.product (spec.sizes (now (dims .entry)) 0 (min d most-dimensions))) (most-places + 1) ⌝ }
+    ensures { λ r. ⌜ r ≡ min (spec.product (sizes (now (dims .entry)) 0 (min d most-dimensions))) (most-places + 1) ⌝ }
 {
     product_from(dims, 0, d)
 }

@@ -7,7 +7,8 @@ use native.Mathlib.Numerals.{add-one}
 use native.Mathlib.Omega.{arith}
 use lib.ListN.{length, getD, take, drop, length-drop}
 use lib.Seq.{drop-cons, take-suc, getD-drop}
-use Rattle.layout.specs.Layout.{little, big, undigit, undigits}
+use Rattle.sizes.specs.Basics.{undigit}
+use Rattle.grammar.specs.Layout.{little, big, undigits}
 
 one-more : (s : List ℕ) (p n : ℕ) → p < length s → undigit (take (suc n) (drop p s)) ≡ undigit (take n (drop (suc p) s)) * 256 + getD s p 0
 unfolding undigit

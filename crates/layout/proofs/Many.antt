@@ -4,8 +4,8 @@ use mathlib.Core.Bool.{Bool, true, false}
 use mathlib.Core.List.{List}
 use Prim.Native.Nat.{ℕ}
 use Rattle.layout.specs.declared.Step.{Step}
-use Rattle.layout.specs.Layout.{little, big, any-number, Layout, number, times}
-use Rattle.layout.specs.Conventions.{field}
+use Rattle.grammar.specs.Layout.{little, big, any-number, Layout, number, times}
+use Rattle.grammar.specs.Conventions.{field}
 use Rattle.layout.specs.Reads.{Reads, order, peek}
 use Rattle.layout.specs.Steps.Numbers.{switch-of}
 

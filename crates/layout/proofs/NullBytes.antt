@@ -8,7 +8,7 @@ use native.Mathlib.Omega.{arith}
 use lib.ListN.{length, take, drop, getD, drop-of-length-le, take-append-drop, length-drop}
 use lib.Seq.{take-all, drop-cons, drop-drop, take-add}
 use lib.Dec.{eqb}
-use Rattle.layout.specs.Layout.{among}
+use Rattle.sizes.specs.Basics.{among}
 
 -- one was found, or stands from i on
 abbrev pub NullFrom : List ℕ → ℕ → Bool → Type 0

@@ -9,7 +9,7 @@ use lib.ListN.{length}
 use lib.Dec.{eqb}
 use borrow.Author.Tests.{eqb-true}
 use Rattle.layout.specs.declared.Step.the-variants.{Next}
-use Rattle.layout.specs.Layout.{pick}
+use Rattle.sizes.specs.Basics.{pick}
 use Rattle.layout.specs.Reads.{fitting}
 
 pub fitting-room : (size n : ℕ) (s : List ℕ) (at : ℕ) → fitting size n s (Next at) * size ≤ length s - at

@@ -7,8 +7,8 @@ use native.Mathlib.Omega.{arith}
 use lib.ListN.{length, drop, getD, drop-of-length-le}
 use lib.Seq.{drop-cons}
 use borrow.Author.Tests.{eq-eqb, ne-eqb}
-use Rattle.layout.specs.Layout.{pick}
-use Rattle.layout.specs.Read.{lead}
+use Rattle.sizes.specs.Basics.{pick}
+use Rattle.grammar.specs.Laws.Layout.Read.{lead}
 
 module _ (b : ℕ) (s : List ℕ) (i : ℕ) where
   pub lead-none : lead b 0 (drop i s) ≡ 0

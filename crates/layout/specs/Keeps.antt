@@ -4,7 +4,7 @@ use mathlib.Core.Path.{_≡_}
 use mathlib.Core.List.{List, [], _∷_}
 use Prim.Native.Nat.{ℕ}
 use lib.ListN.{drop}
-use Rattle.layout.specs.Read.{Got, got, no}
+use Rattle.grammar.specs.Laws.Layout.Read.{Got, got, no}
 
 -- the next place and what is kept, or a refusal's number and place
 pub data Out (X : Type 0) : Type 0 where

@@ -11,8 +11,9 @@ use Rattle.layout.specs.declared.Step.the-variants.{Next, Refused}
 use Rattle.layout.specs.declared.Span.{Span}
 use Rattle.layout.specs.declared.Span.the-variants.{Of}
 use Rattle.layout.specs.declared.Span.the-variants as span
-use Rattle.layout.specs.Layout.{Order, little, big, Test, passes, Content, suits, Fill, exact, optional, open-ended, Layout, pick}
-use Rattle.layout.specs.Read.{Got, got, no, refusal, readNumber, readCounted, lead, read, zero-byte, ends-early, limit-passed}
+use Rattle.sizes.specs.Basics.{pick}
+use Rattle.grammar.specs.Layout.{Order, little, big, Test, passes, Content, suits, Fill, exact, optional, open-ended, Layout}
+use Rattle.grammar.specs.Laws.Layout.Read.{Got, got, no, refusal, readNumber, readCounted, lead, read, zero-byte, ends-early, limit-passed}
 
 -- a reading without its tree and without what is left
 abbrev pub forget : {A : Type 0} → Got A → Step

@@ -10,7 +10,6 @@ pub mod Runs
 pub mod Fields
 pub mod Fixed
 pub mod Rows
-pub mod Least
 pub mod Keeping
 pub mod Slices
 pub mod Spelt

@@ -5,7 +5,7 @@ ghost use mathlib.Core.Bool.{_||_};
 ghost use Prim.Native.Nat.{_≤_, _*_};
 ghost use lib.ListN.{length};
 ghost use lib.Dec.{eqb};
-ghost use Rattle.layout.specs.Layout.{among};
+ghost use Rattle.sizes.specs.Basics.{among};
 
 // The bytes that are looked through at a time in a long part.
 const BLOCK: usize = 16;

@@ -1,7 +1,7 @@
 // Strings and counted regions: a count, and as many bytes.
 ghost use mathlib.Core.Path.{_≡_};
 ghost use Prim.Native.Nat.{_+_, min};
-ghost use Rattle.layout.specs.Layout.{any-number, no-zero, exact, optional, open-ended, number, string, times};
+ghost use Rattle.grammar.specs.Layout.{any-number, no-zero, exact, optional, open-ended, number, string, times};
 ghost use Rattle.layout.specs.Reads as spec;
 ghost use Rattle.layout.specs.Reads.{Reads, order};
 use crate::Span;

@@ -1,7 +1,7 @@
 // Rows of fields of any value, skipped without visiting each: the first that does not fit is found by division.
 ghost use mathlib.Core.Path.{_≡_};
-ghost use Rattle.layout.specs.Layout.{any-number, number, times};
-ghost use Rattle.layout.specs.Conventions as grammar;
+ghost use Rattle.grammar.specs.Layout.{any-number, number, times};
+ghost use Rattle.grammar.specs.Conventions as grammar;
 ghost use Rattle.layout.specs.Reads as spec;
 ghost use Rattle.layout.specs.Reads.{Reads, order};
 use crate::Step;

@@ -2,7 +2,7 @@
 ghost use mathlib.Core.Path.{_≡_};
 ghost use Prim.Native.Nat.{_+_};
 ghost use lib.ListN.{drop};
-ghost use Rattle.layout.specs.Read.{lead};
+ghost use Rattle.grammar.specs.Laws.Layout.Read.{lead};
 ghost use Rattle.layout.specs.Reads as spec;
 use crate::Step;
 

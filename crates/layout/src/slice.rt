@@ -1,6 +1,6 @@
 // A part of a slice.
 ghost use mathlib.Core.Path.{_≡_};
-ghost use Rattle.layout.specs.Part.{partOf};
+ghost use Rattle.grammar.specs.Part.{partOf};
 
 // That part of the bytes; the empty part if it doesn't lie inside.
 pub fn part(s: &[u8], place: usize, length: usize) -> &[u8]

@@ -9,8 +9,8 @@ use lib.Seq.{drop-cons}
 use lib.Dec.{eqb}
 use Rattle.layout.specs.declared.Step.{Step}
 use Rattle.layout.specs.declared.Step.the-variants.{Next, Refused}
-use Rattle.layout.specs.Layout.{Tree, Bytes}
-use Rattle.layout.specs.Read.{Got, got, no, read}
+use Rattle.grammar.specs.Layout.{Tree, Bytes}
+use Rattle.grammar.specs.Laws.Layout.Read.{Got, got, no, read}
 use Rattle.layout.specs.Reads.{forget, step, chain, Reads}
 use Rattle.fields.specs.Gives.{Gives}
 use Rattle.look.specs.declared.Look.{Look}

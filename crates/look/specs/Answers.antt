@@ -3,8 +3,8 @@ use mathlib.Core.Bool.{Bool, true, false}
 use mathlib.Core.List.{[], _∷_}
 use Prim.Native.Nat.{ℕ}
 use lib.Dec.{eqb}
-use Rattle.layout.specs.Layout.{Tree}
-use Rattle.layout.specs.Read.{Got, got, no}
+use Rattle.grammar.specs.Layout.{Tree}
+use Rattle.grammar.specs.Laws.Layout.Read.{Got, got, no}
 use Rattle.store.specs.Fields.{Fields, placed}
 use Rattle.look.specs.declared.Separator.the-variants.{NotDrawn}
 use Rattle.look.specs.declared.Frame.{Frame}

@@ -5,8 +5,8 @@ use mathlib.Core.List.{List, [], _∷_}
 use Prim.Native.Nat.{ℕ}
 use lib.ListN.{length}
 use lib.Dec.{eqb}
-use Rattle.layout.specs.Layout.{little, big, the-number, a-version, one-of, a-color, at-most, any-bytes, Layout, empty, number, string, _▸_, times, undigits}
-use Rattle.layout.specs.Conventions.{field, fixed, i, byte, bool, int16, int32}
+use Rattle.grammar.specs.Layout.{little, big, the-number, a-version, one-of, a-color, at-most, any-bytes, Layout, empty, number, string, _▸_, times, undigits}
+use Rattle.grammar.specs.Conventions.{field, fixed, i, byte, bool, int16, int32}
 
 -- "The quoted names in 002 are class names, and each carries a 16-bit little-endian length before its letters"; "the length is one field, the
 -- letters the next" (document 02, T-02)

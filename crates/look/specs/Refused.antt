@@ -12,8 +12,8 @@
 use mathlib.Core.List.{List, _∷_}
 use Prim.Native.Nat.{ℕ}
 use lib.ListN.{length}
-use Rattle.layout.specs.Layout.{Tree, spell}
-use Rattle.layout.specs.Fails.{Spells, Fails}
+use Rattle.grammar.specs.Layout.{Tree, spell}
+use Rattle.grammar.specs.Fails.{Spells, Fails}
 use Rattle.look.specs.Look.{TableLook}
 
 -- Refused bs n p: refusal n is given at the place p

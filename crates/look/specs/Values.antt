@@ -4,7 +4,7 @@ use mathlib.Core.List.{List, [], _∷_}
 use Prim.Native.Nat.{ℕ}
 use lib.ListN.{length}
 use lib.Dec.{eqb}
-use Rattle.layout.specs.Layout.{big, undigits}
+use Rattle.grammar.specs.Layout.{big, undigits}
 use Rattle.store.specs.Fields.{lent, Fields}
 use Rattle.store.specs.Values.{bit, twos}
 use Rattle.look.specs.declared.Separator.{Separator}

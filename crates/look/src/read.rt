@@ -2,8 +2,8 @@
 ghost use mathlib.Core.Path.{_≡_};
 ghost use mathlib.Core.Bool.{false};
 ghost use lib.Dec.{eqb};
-ghost use Rattle.layout.specs.Layout.{Bytes};
-ghost use Rattle.layout.specs.Read.{read};
+ghost use Rattle.grammar.specs.Layout.{Bytes};
+ghost use Rattle.grammar.specs.Laws.Layout.Read.{read};
 ghost use Rattle.fields.specs.Gives.{Gives};
 ghost use Rattle.look.specs.Look as grammar;
 ghost use Rattle.look.specs.Values as values;

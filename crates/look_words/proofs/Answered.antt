@@ -8,8 +8,8 @@ use lib.Dec.{leb}
 use Rattle.sizes.specs.Sizes.{look-answer-words}
 use Rattle.layout.specs.declared.Step.{Step}
 use Rattle.layout.specs.declared.Step.the-variants.{Next}
-use Rattle.layout.specs.Layout.{Bytes}
-use Rattle.layout.specs.Read.{read}
+use Rattle.grammar.specs.Layout.{Bytes}
+use Rattle.grammar.specs.Laws.Layout.Read.{read}
 use Rattle.look.specs.declared.Answer.{Answer}
 use Rattle.look.specs.Look.{TableLook}
 use Rattle.look.specs.Answers.{outcome, expected}

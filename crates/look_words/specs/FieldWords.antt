@@ -3,7 +3,7 @@ use mathlib.Core.List.{List, [], _∷_, _++_}
 use Prim.Native.Nat.{ℕ}
 use lib.ListN.{take, replicate}
 use Rattle.sizes.specs.Sizes.{look-words}
-use Rattle.layout.specs.Layout.{Test, any-number, the-number, a-version, a-bool, at-most, one-of, one-of-but, a-color, Layout, empty, number, string, _▸_, times, leading, region, nothing, spellAll}
+use Rattle.grammar.specs.Layout.{Test, any-number, the-number, a-version, a-bool, at-most, one-of, one-of-but, a-color, Layout, empty, number, string, _▸_, times, leading, region, nothing, spellAll}
 use Rattle.layout.specs.Words.{word32}
 use Rattle.store.specs.Fields.{Text, lent, letters, Fields}
 use Rattle.look.specs.Look as grammar

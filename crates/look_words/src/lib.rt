@@ -4,7 +4,7 @@ mod areas; // colors and styles
 mod borders; // separators
 
 ghost use Rattle.sizes.specs.Sizes.{look-answer-words};
-ghost use Rattle.layout.specs.Read.{read};
+ghost use Rattle.grammar.specs.Laws.Layout.Read.{read};
 ghost use Rattle.look.specs.Look.{TableLook};
 ghost use Rattle.look.specs.Answers.{expected};
 ghost use Rattle.look_words.specs.LookWords as spec;

@@ -10,7 +10,8 @@ use lib.Dec.{leb}
 use Rattle.sizes.specs.Sizes.{longest-look}
 use Rattle.layout.specs.declared.Step.{Step}
 use Rattle.layout.specs.declared.Step.the-variants.{Next, Refused}
-use Rattle.layout.specs.Layout.{Bytes, pick}
+use Rattle.sizes.specs.Basics.{pick}
+use Rattle.grammar.specs.Layout.{Bytes}
 use Rattle.layout.specs.Reads.{chain}
 use Rattle.store.specs.Check.{check}
 use Rattle.store.specs.Put.{stored}

@@ -7,7 +7,8 @@ use lib.ListN.{length, drop}
 use lib.Dec.{eqb, leb}
 use Rattle.layout.specs.declared.Step.{Step}
 use Rattle.layout.specs.declared.Step.the-variants.{Next, Refused}
-use Rattle.layout.specs.Layout.{spell, Bytes, pick}
+use Rattle.sizes.specs.Basics.{pick}
+use Rattle.grammar.specs.Layout.{spell, Bytes}
 use Rattle.layout.specs.Reads.{chain}
 use Rattle.store.specs.Fields.{resolve}
 use Rattle.store.specs.Check.{check}

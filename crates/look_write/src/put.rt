@@ -1,7 +1,7 @@
 // The productions of 002, each written with its fields into a buffer.
 ghost use Prim.Native.Nat.{_^_, _<_};
 ghost use lib.ListN.{length};
-ghost use Rattle.layout.specs.Layout.{times};
+ghost use Rattle.grammar.specs.Layout.{times};
 ghost use Rattle.store.specs.Puts.{Puts, PutsPlain};
 ghost use Rattle.look.specs.Look as grammar;
 ghost use Rattle.look.specs.Values as values;

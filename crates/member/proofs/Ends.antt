@@ -7,8 +7,8 @@ use lib.ListN.{length, drop}
 use lib.Dec.{leb}
 use Rattle.layout.specs.declared.Step.{Step}
 use Rattle.layout.specs.declared.Step.the-variants.{Next, Refused}
-use Rattle.layout.specs.Layout.{pick}
-use Rattle.layout.specs.Read.{lead}
+use Rattle.sizes.specs.Basics.{pick}
+use Rattle.grammar.specs.Laws.Layout.Read.{lead}
 use Rattle.layout.specs.Reads.{skip}
 use Rattle.member.specs.Laws.Whole.{endAt, end-is}
 

@@ -7,10 +7,11 @@ use Prim.Native.Nat.{ℕ, _-_, _*_}
 use lib.ListN.{length, drop, replicate}
 use lib.Dec.{leb}
 use Rattle.sizes.specs.Sizes.{most-dimensions, node-words, cell-words, dimension-area}
-use Rattle.layout.specs.Layout.{Tree, pick}
-use Rattle.layout.specs.Read.{Got, got, no}
+use Rattle.sizes.specs.Basics.{pick}
+use Rattle.grammar.specs.Layout.{Tree}
+use Rattle.grammar.specs.Laws.Layout.Read.{Got, got, no}
 use Rattle.member.specs.declared.Answer.{Answer}
-use Rattle.member.specs.Member.{Member, dimensions, layers, rows, columns, order, cells, nodes, nodeRecords, dimensionEntries, cellRecords}
+use Rattle.grammar.specs.Member.{Member, dimensions, layers, rows, columns, order, cells, nodes, nodeRecords, dimensionEntries, cellRecords}
 
 -- words that are all 0
 unfoldable pub zeros : ℕ → List ℕ

@@ -8,7 +8,7 @@
 --
 -- And document 01: "A refusal is given exactly in its case."
 --
--- The grammar is `Member`, and a derivation `MemberDerivation`, in Member.antt; which refusal is given where stands in Refused.antt. A call of
+-- The grammar is `Member`, and a derivation `MemberDerivation`, in grammar's Member.antt; which refusal is given where stands in its Refused.antt. A call of
 -- `read_member` ensures `Demand3`, below.
 use mathlib.Core.Path.{_≡_}
 use mathlib.Core.Logic.{_↔_, _⊎_}
@@ -16,17 +16,17 @@ use mathlib.Core.List.{List, _++_}
 use Prim.Native.Nat.{ℕ, _*_, _-_, _≤_}
 use lib.ListN.{length, drop}
 use Rattle.sizes.specs.Sizes.{member-bytes, most-dimensions, node-words, cell-words, dimension-area}
-use Rattle.layout.specs.Layout.{Tree, All}
-use Rattle.layout.specs.Strings.{strings, NoZero}
-use Rattle.value.specs.Value.{Value, CellValue}
+use Rattle.grammar.specs.Layout.{Tree, All}
+use Rattle.grammar.specs.Strings.{strings, NoZero}
+use Rattle.grammar.specs.Value.{Value, CellValue}
 use Rattle.member.specs.declared.Answer.{Answer}
-use Rattle.member.specs.Member.{Member, version, dimensions, layers, rows, columns, order, cells, nodes, nodeRecords, dimensionEntries, cellRecords, MemberDerivation, AsDemanded, LargeEnough}
-use Rattle.member.specs.Refused.{RefusedWith}
+use Rattle.grammar.specs.Member.{Member, version, dimensions, layers, rows, columns, order, cells, nodes, nodeRecords, dimensionEntries, cellRecords, MemberDerivation, AsDemanded, LargeEnough}
+use Rattle.grammar.specs.Refused.{RefusedWith}
 use Rattle.member.specs.Answer.{zeros}
-use Rattle.member.specs.Laws.Demanded as demanded
-use Rattle.member.specs.Laws.RecordsSpelt.{nodeNames, dimensionNames, cellValues}
-use Rattle.member.specs.Laws.ValidValues.{nodes-valid, dimensions-valid, cells-valid}
-use Rattle.member.specs.Laws.NoZeroInside.{Free, member-free, values-free, cell-values-free}
+use Rattle.grammar.specs.Laws.Member.Demanded as demanded
+use Rattle.grammar.specs.Laws.Member.RecordsSpelt.{nodeNames, dimensionNames, cellValues}
+use Rattle.grammar.specs.Laws.Member.ValidValues.{nodes-valid, dimensions-valid, cells-valid}
+use Rattle.grammar.specs.Laws.Member.NoZeroInside.{Free, member-free, values-free, cell-values-free}
 
 -- a derivation that is as demanded, for which areas of these lengths are large enough
 pub record Accepted (bs : List ℕ) (node-length cell-length : ℕ) : Type 0 where

@@ -9,11 +9,11 @@ use lib.Dec.{leb}
 use Rattle.sizes.specs.Sizes.{answer-words}
 use Rattle.layout.specs.declared.Step.{Step}
 use Rattle.layout.specs.declared.Step.the-variants.{Next}
-use Rattle.layout.specs.Layout.{pick}
+use Rattle.sizes.specs.Basics.{pick}
 use Rattle.layout.specs.Words.{word32}
 use Rattle.layout.specs.Laws.Words.{word-same}
 use Rattle.member.specs.declared.Answer.{Answer}
-use Rattle.member.specs.Checked.{checked}
+use Rattle.grammar.specs.Laws.Member.Checked.{checked}
 use Rattle.member.specs.Answer.{answerOf, Delivered}
 use Rattle.member.specs.Demand3.{Demand3}
 use Rattle.store.specs.Puts.{PutsWords}

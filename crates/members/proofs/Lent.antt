@@ -4,10 +4,10 @@ use mathlib.Core.List.{List, _++_}
 use Prim.Native.Nat.{ℕ, _+_, _*_, _-_, _/_, _≤_, _<_}
 use lib.ListN.{length, take, drop}
 use Rattle.sizes.specs.Sizes.{member-bytes}
-use Rattle.layout.specs.Layout.{Tree}
-use Rattle.layout.specs.Read.{Got}
+use Rattle.grammar.specs.Layout.{Tree}
+use Rattle.grammar.specs.Laws.Layout.Read.{Got}
 use Rattle.member.specs.declared.Answer.{Answer}
-use Rattle.member.specs.Member.{Member}
+use Rattle.grammar.specs.Member.{Member}
 use Rattle.member.specs.Answer.{Delivered}
 use Rattle.members.specs.Members.{withShare, shareAnswer, nodeShare, cellShare, InShare}
 use Rattle.members.specs.Laws.Shares.{share-inside, share-length, lent, back}

@@ -5,9 +5,9 @@ use Prim.Native.Nat.{ℕ, _*_, _/_, _≤_}
 use lib.ListN.{length, take-append-drop}
 use lib.Seq.{drop-drop}
 use Rattle.sizes.specs.Sizes.{member-bytes}
-use Rattle.layout.specs.Part.{partOf}
+use Rattle.grammar.specs.Part.{partOf}
 use Rattle.member.specs.declared.Answer.{Answer}
-use Rattle.member.specs.Checked.{checked}
+use Rattle.grammar.specs.Laws.Member.Checked.{checked}
 use Rattle.member.specs.Answer.{answerOf, nodesAfter, cellsAfter, Delivered}
 use Rattle.members.specs.Members.{members, start, size, memberAt, shareOf, withShare, shareAnswer, nodeShare, cellShare, InShare}
 use Rattle.members.specs.Laws.Reading.{empty-refused, member-part, member-none}

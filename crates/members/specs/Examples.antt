@@ -4,13 +4,14 @@ use mathlib.Core.Path.{_≡_, refl}
 use mathlib.Core.List.{List, [], _∷_, map}
 use Prim.Native.Nat.{ℕ, _/_}
 use lib.ListN.{length, replicate}
-use Rattle.layout.specs.Layout.{Tree, pick, spell, digits, le, spellAll, spellFill, passes, suits, among}
-use Rattle.layout.specs.Read.{Got, got, no, lead, read, refusal}
-use Rattle.layout.specs.Check.{check}
-use Rattle.sections.specs.Sections.{HeaderStart}
-use Rattle.member.specs.Member.{Member}
-use Rattle.member.specs.Refused.{memberRule, bodyRule}
-use Rattle.member.specs.Checked.{ended, checked}
+use Rattle.sizes.specs.Basics.{pick, le, among}
+use Rattle.grammar.specs.Layout.{Tree, spell, digits, spellAll, spellFill, passes, suits}
+use Rattle.grammar.specs.Laws.Layout.Read.{Got, got, no, lead, read, refusal}
+use Rattle.grammar.specs.Laws.Layout.Check.{check}
+use Rattle.grammar.specs.Sections.{HeaderStart}
+use Rattle.grammar.specs.Member.{Member}
+use Rattle.grammar.specs.Refused.{memberRule, bodyRule}
+use Rattle.grammar.specs.Laws.Member.Checked.{ended, checked}
 use Rattle.members.specs.Members.{listRefusal, memberAt, shareOf, withShare, joined, cut}
 
 -- the numbers of words of a list, and what it gets

@@ -9,9 +9,9 @@ use lib.ListN.{length, take, drop, getD, length-drop}
 use lib.Seq.{ext-getD, getD-take, getD-drop, length-take-le}
 use lib.Dec.{leb}
 use borrow.Author.Tests.{leb-true}
-use Rattle.layout.specs.Layout.{pick}
-use Rattle.layout.specs.Read.{no}
-use Rattle.member.specs.Checked.{checked}
+use Rattle.sizes.specs.Basics.{pick}
+use Rattle.grammar.specs.Laws.Layout.Read.{no}
+use Rattle.grammar.specs.Laws.Member.Checked.{checked}
 use Rattle.members.specs.Members.{members, start, size, listRefusal, memberAt, shareOf, shareAnswer, nodeShare, cellShare, answerAt, nodesThen, cellsThen}
 use Rattle.members.specs.Laws.Areas.{node-share-then, cell-share-then}
 

@@ -5,11 +5,12 @@ use Prim.Native.Nat.{ℕ, zero, suc, _+_, _*_, _/_, _%_, _≤_}
 use lib.ListN.{length, take, drop, getD}
 use lib.Dec.{leb, eqb}
 use Rattle.sizes.specs.Sizes.{member-bytes, most-members}
-use Rattle.layout.specs.Layout.{Tree, pick}
-use Rattle.layout.specs.Read.{Got, no}
+use Rattle.sizes.specs.Basics.{pick}
+use Rattle.grammar.specs.Layout.{Tree}
+use Rattle.grammar.specs.Laws.Layout.Read.{Got, no}
 use Rattle.member.specs.declared.Answer.{Answer}
-use Rattle.member.specs.Member.{Member}
-use Rattle.member.specs.Checked.{checked}
+use Rattle.grammar.specs.Member.{Member}
+use Rattle.grammar.specs.Laws.Member.Checked.{checked}
 use Rattle.member.specs.Answer.{answerOf, nodesAfter, cellsAfter}
 
 -- ---- the list

@@ -4,7 +4,8 @@ use mathlib.Core.List.{List}
 use Prim.Native.Nat.{ℕ, _+_, _*_, _/_, _≤_, _<_}
 use lib.ListN.{length, take, drop}
 use borrow.Author.Tests.{le-leb}
-use Rattle.layout.specs.Layout.{Bytes, pick}
+use Rattle.sizes.specs.Basics.{pick}
+use Rattle.grammar.specs.Layout.{Bytes}
 use Rattle.member.specs.Answer.{Delivered}
 use Rattle.member.specs.Demand3.{Demand3}
 use Rattle.member.specs.Laws.Holds.{demand3}

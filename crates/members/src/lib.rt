@@ -1,7 +1,7 @@
 // A night's members in one call: the members of a list, each read with its share of two areas (document 02, T-09).
 ghost use mathlib.Core.Path.{_≡_};
 ghost use Prim.Native.Nat.{_+_, _*_, _/_, _<_, _≤_};
-ghost use Rattle.member.specs.Checked.{checked};
+ghost use Rattle.grammar.specs.Laws.Member.Checked.{checked};
 ghost use Rattle.members.specs.Members.{members, listRefusal, memberAt, InShare};
 use layout::slice::part;
 use member::Answer;

@@ -11,7 +11,7 @@ use borrow.Author.Tests.{le-leb, leb-true, eqb-true}
 use Rattle.sizes.specs.Sizes.{answer-words, members-answer-words, most-members}
 use Rattle.layout.specs.declared.Step.{Step}
 use Rattle.layout.specs.declared.Step.the-variants.{Next}
-use Rattle.layout.specs.Layout.{pick}
+use Rattle.sizes.specs.Basics.{pick}
 use Rattle.layout.specs.Words.{word32}
 use Rattle.layout.specs.Laws.Words.{word-same}
 use Rattle.member.specs.declared.Answer.{Answer}

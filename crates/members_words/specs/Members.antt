@@ -6,7 +6,7 @@ use Prim.Native.Nat.{ℕ, _+_, _*_, _<_}
 use lib.ListN.{length}
 use lib.Dec.{leb, eqb}
 use Rattle.sizes.specs.Sizes.{answer-words, members-answer-words}
-use Rattle.layout.specs.Layout.{pick}
+use Rattle.sizes.specs.Basics.{pick}
 use Rattle.store.specs.Puts.{AtFront}
 use Rattle.members.specs.Members.{members, listRefusal, joined, answerAt, nodesThen, cellsThen}
 use Rattle.member_words.specs.MemberWords.{answerWords}

@@ -1,14 +1,15 @@
 -- The leaf indexes seen so far are marked.
 use mathlib.Core.Path.{_≡_, sym, _∙_}
 use mathlib.Core.Bool.{true, false, not, and-false}
+use mathlib.Core.Option.{some}
 use mathlib.Core.List.{List, []}
 use Prim.Native.Nat.{ℕ, _+_, _-_, _*_, _≤_, _<_}
 use borrow.Author.Tests.{eq-eqb, ne-eqb, lt-ltb, le-ltb}
 use lib.ListN.{getD, set, replicate}
 use Rattle.sizes.specs.Sizes.{most-nodes, node-words}
-use Rattle.layout.specs.Layout.{among}
-use Rattle.once.specs.declared.Verdict.the-variants.{Bad}
-use Rattle.once.specs.Once.{word, fresh, leaf, leaves, firstBad}
+use Rattle.sizes.specs.Basics.{among}
+use Rattle.grammar.specs.RecordWords.{word, leaf, leaves}
+use Rattle.grammar.specs.Once.{fresh, firstBad}
 use Rattle.once.specs.Laws.Marks.{Marks, no-marks, marked}
 use Rattle.once.proofs.Walk.{Walking, at-start, fresh-leaf, stale-leaf}
 
@@ -26,11 +27,11 @@ module _ {ws : List ℕ} {n first k : ℕ} {marks : List ℕ} {i left : ℕ} (w 
       let u : not (among x (w .seen)) ≡ true = sym (w .known .says x b) ∙ eq-eqb (getD marks x 0) 0 z in
       fresh-leaf w h l x e (rw (lt-ltb x n a, u)) (marked most-nodes marks (w .seen) x (w .known) b)
 
-  pub too-big : n ≤ x → Bad (leaf ws i .1) ≡ firstBad n [] (leaves ws first k)
+  pub too-big : n ≤ x → some (leaf ws i .1) ≡ firstBad n [] (leaves ws first k)
   unfolding fresh
   too-big a = stale-leaf w h l x e (rw (le-ltb x n a))
 
-  pub met-before : x < most-nodes → (getD marks x 0 ≡ 0 → ⊥) → Bad (leaf ws i .1) ≡ firstBad n [] (leaves ws first k)
+  pub met-before : x < most-nodes → (getD marks x 0 ≡ 0 → ⊥) → some (leaf ws i .1) ≡ firstBad n [] (leaves ws first k)
   unfolding fresh
   met-before b z =
       let u : not (among x (w .seen)) ≡ false = sym (w .known .says x b) ∙ ne-eqb (getD marks x 0) 0 z in

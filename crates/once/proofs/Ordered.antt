@@ -5,8 +5,9 @@ use Prim.Native.Nat.{ℕ, _+_, _-_, _*_, _<_}
 use native.Mathlib.Omega.{arith}
 use borrow.Author.Tests.{lt-ltb}
 use Rattle.sizes.specs.Sizes.{node-words}
-use Rattle.layout.specs.Layout.{all-none, all-more}
-use Rattle.once.specs.Once.{word, fresh, leaf}
+use Rattle.grammar.specs.Layout.{all-none, all-more}
+use Rattle.grammar.specs.RecordWords.{word, leaf}
+use Rattle.grammar.specs.Once.{fresh}
 use Rattle.once.specs.Laws.Marks.{Below, not-among, higher}
 use Rattle.once.proofs.Walk.{Walking, at-start, fresh-leaf}
 

@@ -1,15 +1,16 @@
 -- The walk over the nodes: what it has still to find, after the leaf indexes seen so far; and records one at a time.
 use mathlib.Core.Path.{_≡_, sym, _∙_}
 use mathlib.Core.Bool.{Bool, true, false}
+use mathlib.Core.Option.{none, some}
 use mathlib.Core.List.{List, [], _∷_}
 use Prim.Native.Nat.{ℕ, zero, suc, _+_, _-_, _*_, _<_}
 use native.Mathlib.Numerals.{sub-one}
 use native.Mathlib.Omega.{arith}
 use borrow.Author.Tests.{eq-eqb, ne-eqb}
 use Rattle.sizes.specs.Sizes.{node-words}
-use Rattle.layout.specs.Layout.{among, pick}
-use Rattle.once.specs.declared.Verdict.the-variants.{Fine, Bad}
-use Rattle.once.specs.Once.{word, fresh, isLeaf, leaf, leaves, firstBad, firsts}
+use Rattle.sizes.specs.Basics.{among, pick}
+use Rattle.grammar.specs.RecordWords.{word, isLeaf, leaf, leaves, firsts}
+use Rattle.grammar.specs.Once.{fresh, firstBad}
 
 module _ (ws : List ℕ) (i : ℕ) where
   pub at-leaf : (k : ℕ) → 0 < k → word ws (node-words * i) ≡ 0 → leaves ws i k ≡ leaf ws i ∷ leaves ws (i + 1) (k - 1)
@@ -48,7 +49,7 @@ module _ {Known : List ℕ → Type 0} {ws : List ℕ} {n first k : ℕ} where
   at-start h e e′ = record { seen = []; known = h; same = rw (e, e′) }
 
   module _ {i left : ℕ} (w : Walking Known ws n first k i left) where
-    pub at-end : left ≡ 0 → firstBad n [] (leaves ws first k) ≡ Fine
+    pub at-end : left ≡ 0 → firstBad n [] (leaves ws first k) ≡ none
     unfolding leaves firstBad
     at-end z = sym (w .same) ∙ rw z
 
@@ -58,7 +59,7 @@ module _ {Known : List ℕ → Type 0} {ws : List ℕ} {n first k : ℕ} where
 
       module _ (l : word ws (node-words * i) ≡ 0) (x : ℕ) (e : x ≡ leaf ws i .0) where
         by-leaf : (b : Bool) → fresh n (w .seen) x ≡ b
-            → pick b (firstBad n (x ∷ w .seen) (leaves ws (i + 1) (left - 1))) (Bad (leaf ws i .1)) ≡ firstBad n [] (leaves ws first k)
+            → pick b (firstBad n (x ∷ w .seen) (leaves ws (i + 1) (left - 1))) (some (leaf ws i .1)) ≡ firstBad n [] (leaves ws first k)
         unfolding firstBad
         by-leaf b f = rw (← f, e) (rw (at-leaf ws i left h l) at (w .same))
 
@@ -66,6 +67,6 @@ module _ {Known : List ℕ → Type 0} {ws : List ℕ} {n first k : ℕ} where
         unfolding pick
         fresh-leaf f h′ = record { seen = x ∷ w .seen; known = h′; same = by-leaf true f }
 
-        pub stale-leaf : fresh n (w .seen) x ≡ false → Bad (leaf ws i .1) ≡ firstBad n [] (leaves ws first k)
+        pub stale-leaf : fresh n (w .seen) x ≡ false → some (leaf ws i .1) ≡ firstBad n [] (leaves ws first k)
         unfolding pick
         stale-leaf f = by-leaf false f

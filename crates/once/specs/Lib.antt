@@ -1,3 +1,1 @@
-pub mod Once
-pub mod Repeat
 pub mod Laws

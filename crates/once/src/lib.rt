@@ -6,9 +6,10 @@ ghost use mathlib.Core.List.{[]};
 ghost use Prim.Native.Nat.{_+_, _*_, _≤_, min};
 ghost use lib.ListN.{length};
 ghost use Rattle.sizes.specs.Sizes.{most-nodes, most-cells, node-words};
-ghost use Rattle.layout.specs.Layout.{among};
-ghost use Rattle.once.specs.Once as spec;
-ghost use Rattle.once.specs.Laws.Leaves.{LeavesAre};
+ghost use Rattle.sizes.specs.Basics.{among};
+ghost use Rattle.grammar.specs.Once.{firstBad};
+ghost use Rattle.grammar.specs.RecordWords as spec;
+ghost use Rattle.once.specs.Laws.Leaves.{placeOf, LeavesAre};
 ghost use Rattle.once.specs.declared.Verdict.the-variants.{Fine};
 use layout::number::at_most;
 use sizes::LEAF_INDEX;
@@ -135,7 +136,7 @@ fn in_order(nodes: &[u32], first: usize, k: usize) -> Numbered
 // Whether the leaf indexes among the k nodes from the first on are below n and stand once each, in any order. The mark at x is 1 where
 // the index x was met.
 fn check_marked(nodes: &[u32], first: usize, k: usize, n: u64) -> Verdict
-    ensures { λ r. ⌜ r ≡ spec.firstBad (min n most-nodes) [] (spec.leaves (now (nodes .entry)) (min first most-nodes) (min k most-nodes)) ⌝ }
+    ensures { λ r. ⌜ placeOf r ≡ firstBad (min n most-nodes) [] (spec.leaves (now (nodes .entry)) (min first most-nodes) (min k most-nodes)) ⌝ }
 {
     let end = at_most(n as usize, MOST_NODES);
     let mut marks = [0u8; MOST_NODES];

@@ -7,7 +7,7 @@ ghost use mathlib.Core.List.{[]};
 ghost use Prim.Native.Nat.{_+_, _*_, _≤_, _<_, min};
 ghost use lib.ListN.{length};
 ghost use Rattle.sizes.specs.Sizes.{most-cells, node-words, repeat-steps};
-ghost use Rattle.once.specs.Repeat.{strided, Answered};
+ghost use Rattle.grammar.specs.Repeat.{strided, Answered};
 ghost use Rattle.once.specs.Laws.Marks.{Marks};
 ghost use Rattle.once.specs.Laws.Repeats.{Compared, ByMarks};
 ghost use Rattle.once.specs.Laws.Places.{PlaceTrees, Empty, buckets};

@@ -7,9 +7,9 @@ use native.Mathlib.Omega.{arith}
 use borrow.Author.Tests.{eq-eqb, ne-eqb, lt-ltb, le-ltb}
 use lib.ListN.{length}
 use Rattle.sizes.specs.Sizes.{most-dimensions, most-places}
-use Rattle.layout.specs.Layout.{pick}
-use Rattle.once.specs.Once.{word}
-use Rattle.index.specs.Index.{product}
+use Rattle.sizes.specs.Basics.{pick}
+use Rattle.grammar.specs.RecordWords.{word}
+use Rattle.grammar.specs.Index.{product}
 use Rattle.position.specs.Axes.{part, axesOf, indexAt}
 use Rattle.position.specs.Answers.{onceEach, tooLarge, axesMatch, refusal, along, at, noPosition, position, spanOf, within, found, noIndex, indexOf}
 use Rattle.position.specs.Laws.Turned.{Fits, fits-none, fits-more}

@@ -7,7 +7,7 @@ use native.Mathlib.Numerals.{sub-one, add-one}
 use native.Mathlib.Omega.{arith}
 use lib.ListN.{length, drop}
 use lib.Seq.{drop-cons}
-use Rattle.once.specs.Once.{word}
+use Rattle.grammar.specs.RecordWords.{word}
 use Rattle.position.specs.Axes.{part}
 use Rattle.position.specs.Laws.Table.{down}
 

@@ -11,9 +11,10 @@ use lib.Dec.{leb, eqb}
 use lib.ListN.{length, getD, set}
 use lib.Seq.{getD-set-same, getD-set-other}
 use Rattle.sizes.specs.Sizes.{most-places}
-use Rattle.layout.specs.Layout.{among, pick}
-use Rattle.once.specs.Once.{word, fresh}
-use Rattle.index.specs.Index.{product}
+use Rattle.sizes.specs.Basics.{among, pick}
+use Rattle.grammar.specs.RecordWords.{word}
+use Rattle.grammar.specs.Once.{fresh}
+use Rattle.grammar.specs.Index.{product}
 use Rattle.position.specs.Axes.{positionOn, coordinateOn, coordinateAt, part, axesOf}
 use Rattle.position.specs.Answers.{onceEach}
 use Rattle.position.specs.Laws.Turned.{Fits, placed, Placed}

@@ -5,9 +5,10 @@ use Prim.Native.Nat.{ℕ, _+_}
 use lib.Dec.{eqb, ltb}
 use lib.ListN.{length}
 use Rattle.sizes.specs.Sizes.{most-dimensions, most-places}
-use Rattle.layout.specs.Layout.{pick}
-use Rattle.once.specs.Once.{word, fresh}
-use Rattle.index.specs.Index.{product, coordinate}
+use Rattle.sizes.specs.Basics.{pick}
+use Rattle.grammar.specs.RecordWords.{word}
+use Rattle.grammar.specs.Once.{fresh}
+use Rattle.grammar.specs.Index.{product, coordinate}
 use Rattle.position.specs.declared.Position.{Position}
 use Rattle.position.specs.declared.CellIndex.{CellIndex}
 use Rattle.position.specs.Axes.{positionOn, span, part, axesOf, indexAt}

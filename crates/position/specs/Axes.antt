@@ -4,9 +4,9 @@ use mathlib.Core.List.{List, [], _∷_, map}
 use Prim.Native.Nat.{ℕ, zero, suc, _+_, _*_, _/_, _%_}
 use lib.Dec.{eqb}
 use lib.ListN.{length}
-use Rattle.layout.specs.Layout.{among, pick}
-use Rattle.once.specs.Once.{word}
-use Rattle.index.specs.Index.{product, index}
+use Rattle.sizes.specs.Basics.{among, pick}
+use Rattle.grammar.specs.RecordWords.{word}
+use Rattle.grammar.specs.Index.{product, index}
 
 -- ---- one axis
 

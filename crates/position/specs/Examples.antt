@@ -1,9 +1,10 @@
 -- Positions by computation.
 use mathlib.Core.Path.{_≡_, refl}
 use mathlib.Core.List.{[], _∷_}
-use Rattle.layout.specs.Layout.{among, pick}
-use Rattle.once.specs.Once.{word, fresh}
-use Rattle.index.specs.Index.{product, coordinate}
+use Rattle.sizes.specs.Basics.{among, pick}
+use Rattle.grammar.specs.RecordWords.{word}
+use Rattle.grammar.specs.Once.{fresh}
+use Rattle.grammar.specs.Index.{product, coordinate}
 use Rattle.position.specs.Axes.{positionOn, coordinateOn, coordinateAt, part, axesOf, pairs}
 use Rattle.position.specs.Answers.{onceEach, tooLarge, axesMatch, refusal, along, at, noPosition, position, spanOf, within, found, noIndex, indexOf}
 

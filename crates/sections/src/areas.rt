@@ -1,7 +1,7 @@
 // Areas.
-ghost use Rattle.layout.specs.Conventions as notation;
+ghost use Rattle.grammar.specs.Conventions as notation;
 ghost use Rattle.layout.specs.Reads.{Reads};
-ghost use Rattle.sections.specs.Sections as grammar;
+ghost use Rattle.grammar.specs.Sections as grammar;
 use layout::LITTLE;
 use layout::Step;
 use layout::number::any;

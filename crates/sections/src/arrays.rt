@@ -1,8 +1,8 @@
 // Arrays of rows of numbers, skipped without visiting each.
-ghost use Rattle.layout.specs.Layout.{times};
-ghost use Rattle.layout.specs.Conventions as notation;
+ghost use Rattle.grammar.specs.Layout.{times};
+ghost use Rattle.grammar.specs.Conventions as notation;
 ghost use Rattle.layout.specs.Reads.{Reads};
-ghost use Rattle.sections.specs.Sections as grammar;
+ghost use Rattle.grammar.specs.Sections as grammar;
 use layout::BIG;
 use layout::LITTLE;
 use layout::Step;

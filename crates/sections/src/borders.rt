@@ -1,6 +1,6 @@
 // Borders.
 ghost use Rattle.layout.specs.Reads.{Reads};
-ghost use Rattle.sections.specs.Sections as grammar;
+ghost use Rattle.grammar.specs.Sections as grammar;
 use crate::arrays::triples;
 use layout::BIG;
 use layout::LITTLE;

@@ -1,7 +1,7 @@
 // Footnotes.
-ghost use Rattle.layout.specs.Layout.{times};
+ghost use Rattle.grammar.specs.Layout.{times};
 ghost use Rattle.layout.specs.Reads.{Reads};
-ghost use Rattle.sections.specs.Sections as grammar;
+ghost use Rattle.grammar.specs.Sections as grammar;
 use crate::optional::optional_value;
 use layout::LITTLE;
 use layout::Step;

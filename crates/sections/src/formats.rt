@@ -1,9 +1,9 @@
 // Formats.
-ghost use Rattle.layout.specs.Layout.{_▸_, times, little, optional, region};
-ghost use Rattle.layout.specs.Conventions as notation;
+ghost use Rattle.grammar.specs.Layout.{_▸_, times, little, optional, region};
+ghost use Rattle.grammar.specs.Conventions as notation;
 ghost use Rattle.layout.specs.Reads.{Reads};
-ghost use Rattle.sections.specs.Sections as grammar;
-ghost use Rattle.value.specs.Value as values;
+ghost use Rattle.grammar.specs.Sections as grammar;
+ghost use Rattle.grammar.specs.Value as values;
 use crate::arrays::style_maps;
 use layout::LITTLE;
 use layout::Step;

@@ -1,6 +1,6 @@
 // The sections of a member that stand before its dimensions.
 ghost use Rattle.layout.specs.Reads.{Reads};
-ghost use Rattle.sections.specs.Sections as grammar;
+ghost use Rattle.grammar.specs.Sections as grammar;
 use crate::areas::areas;
 use crate::borders::borders;
 use crate::footnotes::footnotes;

@@ -1,7 +1,7 @@
 // A Value that may be there.
-ghost use Rattle.layout.specs.Conventions as notation;
+ghost use Rattle.grammar.specs.Conventions as notation;
 ghost use Rattle.layout.specs.Reads.{Reads};
-ghost use Rattle.value.specs.Value as values;
+ghost use Rattle.grammar.specs.Value as values;
 use layout::LITTLE;
 use layout::Step;
 use layout::number::one_of_two;

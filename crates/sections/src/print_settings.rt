@@ -1,6 +1,6 @@
 // PrintSettings.
 ghost use Rattle.layout.specs.Reads.{Reads};
-ghost use Rattle.sections.specs.Sections as grammar;
+ghost use Rattle.grammar.specs.Sections as grammar;
 use layout::BIG;
 use layout::LITTLE;
 use layout::Step;

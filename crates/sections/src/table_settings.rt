@@ -1,7 +1,7 @@
 // TableSettings.
-ghost use Rattle.layout.specs.Conventions as notation;
+ghost use Rattle.grammar.specs.Conventions as notation;
 ghost use Rattle.layout.specs.Reads.{Reads};
-ghost use Rattle.sections.specs.Sections as grammar;
+ghost use Rattle.grammar.specs.Sections as grammar;
 use crate::arrays::pairs;
 use crate::arrays::triples;
 use layout::BIG;

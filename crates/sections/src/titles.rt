@@ -1,8 +1,8 @@
 // Titles.
-ghost use Rattle.layout.specs.Conventions as notation;
+ghost use Rattle.grammar.specs.Conventions as notation;
 ghost use Rattle.layout.specs.Reads.{Reads};
-ghost use Rattle.sections.specs.Sections as grammar;
-ghost use Rattle.value.specs.Value as values;
+ghost use Rattle.grammar.specs.Sections as grammar;
+ghost use Rattle.grammar.specs.Value as values;
 use crate::optional::optional_value;
 use layout::LITTLE;
 use layout::Step;

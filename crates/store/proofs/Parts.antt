@@ -6,7 +6,8 @@ use native.Mathlib.Omega.{arith}
 use lib.ListN.{length, take, drop, length-drop, drop-of-length-le}
 use lib.Seq.{take-all, take-length, drop-drop}
 use borrow.Rule.Slice.PartMut.{midOf, postOf, putMid}
-use Rattle.layout.specs.Layout.{little, big, le, digits}
+use Rattle.sizes.specs.Basics.{le}
+use Rattle.grammar.specs.Layout.{little, big, digits}
 use Rattle.store.specs.Put.{stored}
 
 pub put-rest : (b : List ℕ) (at : ℕ) (xs ys : List ℕ) → at + length xs ≤ length b

@@ -6,7 +6,8 @@ use lib.ListN.{length}
 use lib.Dec.{eqb}
 use Rattle.layout.specs.declared.Step.{Step}
 use Rattle.layout.specs.declared.Step.the-variants.{Next, Refused}
-use Rattle.layout.specs.Layout.{Fill, exact, optional, open-ended, Layout, empty, number, string, _▸_, times, leading, region, nothing, pick}
+use Rattle.sizes.specs.Basics.{pick}
+use Rattle.grammar.specs.Layout.{Fill, exact, optional, open-ended, Layout, empty, number, string, _▸_, times, leading, region, nothing}
 use Rattle.layout.specs.Reads.{chain, verdict}
 use Rattle.store.specs.Fields.{FieldsIn, Fields, textOf}
 use Rattle.store.specs.Put.{textVerdict, freeVerdict, runVerdict}

@@ -3,7 +3,7 @@ use mathlib.Core.Option.{Option, none, some}
 use mathlib.Core.List.{List, [], _∷_}
 use Prim.Native.Nat.{ℕ, _+_}
 use lib.ListN.{length, take, drop}
-use Rattle.layout.specs.Layout.{Fill, exact, optional, open-ended, Filled, Layout, empty, number, string, _▸_, times, leading, region, nothing, Tree, spellFill, spell}
+use Rattle.grammar.specs.Layout.{Fill, exact, optional, open-ended, Filled, Layout, empty, number, string, _▸_, times, leading, region, nothing, Tree, spellFill, spell}
 use Rattle.store.specs.declared.Name.{Name}
 
 -- the bytes of a string: by their place and their length in the bytes that are lent for names; or a writer's own letters

@@ -5,7 +5,7 @@ use mathlib.Core.Option.{none, some}
 use mathlib.Core.List.{List}
 use Prim.Native.Nat.{ℕ, _^_, _<_}
 use lib.ListN.{length}
-use Rattle.layout.specs.Layout.{Fill, exact, optional, open-ended, Layout, empty, number, string, _▸_, times, leading, region, nothing, Bytes, All, Leads}
+use Rattle.grammar.specs.Layout.{Fill, exact, optional, open-ended, Layout, empty, number, string, _▸_, times, leading, region, nothing, Bytes, All, Leads}
 use Rattle.store.specs.Fields.{Text, lent, letters, FieldsIn, Fields, bytesIn, contentIn}
 
 abbrev pub FitText : Text → Type 0

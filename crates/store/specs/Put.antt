@@ -9,8 +9,9 @@ use lib.ListN.{length, take, drop, replicate}
 use lib.Dec.{eqb, leb, ltb}
 use Rattle.layout.specs.declared.Step.{Step}
 use Rattle.layout.specs.declared.Step.the-variants.{Next, Refused}
-use Rattle.layout.specs.Layout.{Order, Content, suits, Fill, exact, optional, open-ended, Layout, empty, number, string, _▸_, times, leading, region, nothing, digits, pick}
-use Rattle.layout.specs.Numbers.{too-short, zero-byte, differs, limit-passed}
+use Rattle.sizes.specs.Basics.{pick}
+use Rattle.grammar.specs.Layout.{Order, Content, suits, Fill, exact, optional, open-ended, Layout, empty, number, string, _▸_, times, leading, region, nothing, digits}
+use Rattle.grammar.specs.Numbers.{too-short, zero-byte, differs, limit-passed}
 use Rattle.layout.specs.Reads.{verdict}
 use Rattle.store.specs.Fields.{Text, lent, letters, FieldsIn, Fields, bytesOf, textOf}
 

@@ -5,7 +5,8 @@ use Prim.Native.Nat.{ℕ}
 use lib.ListN.{length, drop}
 use lib.Dec.{leb}
 use Rattle.layout.specs.declared.Step.{Step}
-use Rattle.layout.specs.Layout.{Order, Layout, pick}
+use Rattle.sizes.specs.Basics.{pick}
+use Rattle.grammar.specs.Layout.{Order, Layout}
 use Rattle.store.specs.Fields.{Fields}
 use Rattle.store.specs.Put.{State, putField, closed, put, putWords}
 use Rattle.store.specs.Fit.{Fit}

@@ -6,8 +6,8 @@ use mathlib.Core.Option.{none, some}
 use mathlib.Core.List.{List, _∷_}
 use Prim.Native.Nat.{ℕ, _+_, _^_, _≤_, _<_}
 use lib.ListN.{length}
-use Rattle.layout.specs.Layout.{Order, Test, passes, Content, suits, Fill, exact, optional, open-ended, Layout, empty, number, string, _▸_, times, leading, region, nothing, All}
-use Rattle.layout.specs.Numbers.{refusal, too-short, zero-byte, differs, limit-passed}
+use Rattle.grammar.specs.Layout.{Order, Test, passes, Content, suits, Fill, exact, optional, open-ended, Layout, empty, number, string, _▸_, times, leading, region, nothing, All}
+use Rattle.grammar.specs.Numbers.{refusal, too-short, zero-byte, differs, limit-passed}
 use Rattle.store.specs.Fields.{Text, lent, letters, FieldsIn, Fields, textOf, bytesIn}
 
 -- how long a text is

@@ -1,7 +1,7 @@
 // The refusal that a number gets by a test, or 0.
 ghost use mathlib.Core.Path.{_≡_};
 ghost use mathlib.Core.List.{[], _∷_};
-ghost use Rattle.layout.specs.Layout.{a-color, a-version};
+ghost use Rattle.grammar.specs.Layout.{a-color, a-version};
 ghost use Rattle.layout.specs.Reads.{verdict};
 use layout::number::unless_either;
 

@@ -8,11 +8,12 @@ use lib.Dec.{eqb, leb, ltb}
 use lib.IntN.{pos}
 use lib.Ieee.{Float, binary64, ofInt}
 use Rattle.sizes.specs.Sizes.{leaf-total-words}
-use Rattle.layout.specs.Layout.{pick, Tree}
-use Rattle.layout.specs.Read.{Got, got, no}
-use Rattle.member.specs.Member.{Member, dimensions, nodes, cells, ns}
+use Rattle.sizes.specs.Basics.{pick}
+use Rattle.grammar.specs.Layout.{Tree}
+use Rattle.grammar.specs.Laws.Layout.Read.{Got, got, no}
+use Rattle.grammar.specs.Member.{Member, dimensions, nodes, cells, ns}
 use Rattle.member.specs.Answer.{wide, long, nodesAfter, cellsAfter}
-use Rattle.member.specs.Checked.{checked}
+use Rattle.grammar.specs.Laws.Member.Checked.{checked}
 use Rattle.member.specs.declared.Answer.{Answer}
 use Rattle.member.specs.Demand3.{Demand3, Accepted}
 use Rattle.total.specs.declared.sums.Sums.{Sums}

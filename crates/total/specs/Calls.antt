@@ -8,7 +8,7 @@ use lib.ListN.{length}
 use lib.Dec.{leb}
 use Rattle.sizes.specs.Sizes.{total-answer-words, totals-answer-words}
 use Rattle.store.specs.Puts.{AtFront}
-use Rattle.member.specs.Checked.{checked}
+use Rattle.grammar.specs.Laws.Member.Checked.{checked}
 use Rattle.total.specs.Words.{answerWords, dimensionWords}
 use Rattle.total.specs.Answers.{totalAnswer, Totalled, totalsAnswer, AllTotalled}
 

@@ -3,11 +3,12 @@ use mathlib.Core.Bool.{Bool, true, false}
 use mathlib.Core.List.{List, [], _∷_}
 use Prim.Native.Nat.{ℕ, _+_, min, max}
 use lib.Dec.{eqb}
-use Rattle.layout.specs.Layout.{pick, Tree, size}
-use Rattle.index.specs.Index.{coordinate}
-use Rattle.table.specs.Table.{Cell}
-use Rattle.table.specs.Records.{cellIndex, cellValue}
-use Rattle.member.specs.Member.{Member, version, cells, cellsStart, ns}
+use Rattle.sizes.specs.Basics.{pick}
+use Rattle.grammar.specs.Layout.{Tree, size}
+use Rattle.grammar.specs.Index.{coordinate}
+use Rattle.grammar.specs.Table.{Cell}
+use Rattle.grammar.specs.Records.{cellIndex, cellValue}
+use Rattle.grammar.specs.Member.{Member, version, cells, cellsStart, ns}
 use Rattle.contents.specs.declared.Contents.{Contents}
 use Rattle.contents.specs.Contents.{contents}
 use Rattle.counts.specs.declared.Kind.{Kind}

@@ -2,7 +2,7 @@
 ghost use mathlib.Core.Path.{_≡_};
 ghost use Prim.Native.Nat.{_+_, _≤_, _<_, _^_, min, max};
 ghost use lib.Dec.{eqb};
-ghost use Rattle.layout.specs.Layout.{pick};
+ghost use Rattle.sizes.specs.Basics.{pick};
 ghost use Rattle.total.specs.Total as spec;
 use counts::Kind;
 

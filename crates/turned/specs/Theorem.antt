@@ -8,9 +8,10 @@ use native.Mathlib.Omega.{arith}
 use borrow.Author.Tests.{ltb-true}
 use lib.Dec.{ltb}
 use lib.ListN.{length, getD}
-use Rattle.layout.specs.Layout.{Tree, All, pick}
-use Rattle.layout.specs.Laws.Tests.{and-is-true}
-use Rattle.member.specs.Member.{Member, dimensions, nodes, cells, ns, AsDemanded}
+use Rattle.sizes.specs.Basics.{pick}
+use Rattle.grammar.specs.Layout.{Tree, All}
+use Rattle.grammar.specs.Laws.Layout.Tests.{and-is-true}
+use Rattle.grammar.specs.Member.{Member, dimensions, nodes, cells, ns, AsDemanded}
 use Rattle.total.specs.Total.{CellSays, memberCells, leafSums}
 use Rattle.total.specs.Answers.{answered, there, leafAnswer}
 use Rattle.position.specs.Answers.{position}

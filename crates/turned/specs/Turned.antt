@@ -4,10 +4,11 @@ use mathlib.Core.Bool.{Bool, true}
 use mathlib.Core.List.{List, [], _∷_, map}
 use Prim.Native.Nat.{ℕ}
 use lib.Dec.{eqb}
-use Rattle.layout.specs.Layout.{pick, Tree}
-use Rattle.once.specs.Once.{word}
-use Rattle.member.specs.Member as member
-use Rattle.member.specs.Member.{Member}
+use Rattle.sizes.specs.Basics.{pick}
+use Rattle.grammar.specs.Layout.{Tree}
+use Rattle.grammar.specs.RecordWords.{word}
+use Rattle.grammar.specs.Member as member
+use Rattle.grammar.specs.Member.{Member}
 use Rattle.contents.specs.declared.Contents.{Contents}
 use Rattle.total.specs.declared.sums.Sums.{Sums}
 use Rattle.total.specs.Total.{CellSays, sums}

@@ -1,10 +1,10 @@
 // The readers of a Value. Those of a value, of a template and of its arguments call each other: the depth that is left falls, and each
 // loop stops at the first refusal, so a count costs no more than the bytes that are there.
 ghost use mathlib.Core.Path.{_≡_};
-ghost use Rattle.layout.specs.Layout.{times};
+ghost use Rattle.grammar.specs.Layout.{times};
 ghost use Rattle.layout.specs.declared.Step.the-variants.{Next};
 ghost use Rattle.layout.specs.Reads.{Reads};
-ghost use Rattle.value.specs.Value as grammar;
+ghost use Rattle.grammar.specs.Value as grammar;
 use layout::LITTLE;
 use layout::Step;
 use layout::number::any;

@@ -1,9 +1,9 @@
 // ValueMod: modifications of a value.
-ghost use Rattle.layout.specs.Layout.{empty, _▸_};
-ghost use Rattle.layout.specs.Conventions as grammar;
+ghost use Rattle.grammar.specs.Layout.{empty, _▸_};
+ghost use Rattle.grammar.specs.Conventions as grammar;
 ghost use Rattle.layout.specs.Reads.{Reads};
 ghost use Rattle.layout.specs.declared.Step.the-variants.{Next};
-ghost use Rattle.value.specs.Value as value;
+ghost use Rattle.grammar.specs.Value as value;
 use layout::LITTLE;
 use layout::Step;
 use layout::number::any;

@@ -8,7 +8,7 @@ use lib.Dec.{leb}
 use Rattle.sizes.specs.Sizes.{write-answer-words}
 use Rattle.layout.specs.declared.Step.{Step}
 use Rattle.layout.specs.declared.Step.the-variants.{Next}
-use Rattle.layout.specs.Layout.{pick}
+use Rattle.sizes.specs.Basics.{pick}
 use Rattle.layout.specs.Words.{word32}
 use Rattle.store.specs.Puts.{PutsWords}
 use Rattle.store.specs.Laws.Puts.{with-room, without-room}

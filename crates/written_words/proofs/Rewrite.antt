@@ -9,10 +9,11 @@ use lib.Dec.{leb}
 use Rattle.sizes.specs.Sizes.{longest-look, write-answer-words}
 use Rattle.layout.specs.declared.Step.{Step}
 use Rattle.layout.specs.declared.Step.the-variants.{Next, Refused}
-use Rattle.layout.specs.Layout.{Bytes, pick}
+use Rattle.sizes.specs.Basics.{pick}
+use Rattle.grammar.specs.Layout.{Bytes}
 use Rattle.layout.specs.Words.{word32}
 use Rattle.layout.specs.Laws.Words.{word-same}
-use Rattle.layout.specs.Read.{read}
+use Rattle.grammar.specs.Laws.Layout.Read.{read}
 use Rattle.store.specs.Puts.{PutsWords}
 use Rattle.store.specs.Laws.Puts.{with-room, without-room}
 use Rattle.look.specs.declared.Look.{Look}

@@ -5,7 +5,7 @@ use Prim.Native.Nat.{ℕ}
 use lib.ListN.{length}
 use lib.Dec.{leb}
 use Rattle.sizes.specs.Sizes.{write-answer-words}
-use Rattle.layout.specs.Layout.{pick}
+use Rattle.sizes.specs.Basics.{pick}
 use Rattle.layout.specs.Words.{word32}
 use Rattle.store.specs.Puts.{AtFront}
 use Rattle.codepages.specs.Convert.{Outcome, refused, written, after}

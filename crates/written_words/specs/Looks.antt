@@ -7,8 +7,8 @@ use lib.Dec.{leb}
 use Rattle.sizes.specs.Sizes.{write-answer-words}
 use Rattle.layout.specs.declared.Step.{Step}
 use Rattle.layout.specs.declared.Step.the-variants.{Next, Refused}
-use Rattle.layout.specs.Layout.{pick}
-use Rattle.layout.specs.Read.{read}
+use Rattle.sizes.specs.Basics.{pick}
+use Rattle.grammar.specs.Laws.Layout.Read.{read}
 use Rattle.store.specs.Puts.{AtFront}
 use Rattle.look.specs.declared.Answer.{Answer as LookAnswer}
 use Rattle.look.specs.declared.Answer.the-variants as look

@@ -6,7 +6,7 @@ use native.Mathlib.Nat.{mod-add-mod, mod-lt, mod-le, mod-eq-of-lt, div-add-mod, 
 use native.Mathlib.Omega.{arith}
 use lib.Dec.{leb}
 use borrow.Author.Tests.{leb-true, le-leb}
-use Rattle.layout.specs.Layout.{pick}
+use Rattle.sizes.specs.Basics.{pick}
 use Rattle.case_state.specs.Cursor.{Counts}
 use Rattle.case_state.specs.Tests.{blocks-of, fewest, counts-ok}
 use Rattle.case_state.specs.Laws.Tests.{both}

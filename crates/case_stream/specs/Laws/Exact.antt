@@ -13,7 +13,7 @@ use lib.Ieee.Exact.{HasValue}
 use lib.Ieee.Fits.{down-pos}
 use lib.Ieee.Back.{round-whole}
 use lib.Ieee.Scale.{round-same}
-use Rattle.layout.specs.Layout.{le}
+use Rattle.sizes.specs.Basics.{le}
 use Rattle.case_stream.specs.Stream.{Element, difference, double, zeros}
 
 module _ (f : Format) where

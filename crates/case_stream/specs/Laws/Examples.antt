@@ -3,7 +3,7 @@ use mathlib.Core.Path.{_≡_, refl}
 use mathlib.Core.List.{List, [], _∷_, _++_}
 use Prim.Native.Nat.{ℕ}
 use lib.Ieee.{sub, ofInt, toBits}
-use Rattle.layout.specs.Layout.{le, pick}
+use Rattle.sizes.specs.Basics.{le, pick}
 use Rattle.case_stream.specs.Stream.{double, numeric, string, value, says, with-element, codes, groups, within, meaning, means, stop, ended, bad, in-group, in-block, missing, spaces, zeros}
 
 pub one : double 101 100 ≡ 0 ∷ 0 ∷ 0 ∷ 0 ∷ 0 ∷ 0 ∷ 240 ∷ 63 ∷ []

@@ -8,7 +8,7 @@ use native.Mathlib.Omega.{arith}
 use lib.Dec.{leb, ltb}
 use borrow.Author.Tests.{leb-true, leb-false, le-ltb}
 use lib.ListN.{length, take, drop, getD, length-take, length-drop, take-append-drop}
-use Rattle.layout.specs.Layout.{pick}
+use Rattle.sizes.specs.Basics.{pick}
 use Rattle.case_stream.specs.Stream.{Element, limit, Stop, ended, bad, full, Says, skip, finish, block, wrong, gives, says, Why, in-group, in-block, stop, Meaning, means, with-element, kind-of, codes, groups, too-many, within, meaning}
 use Rattle.case_stream.specs.Machine.{State, gather, acting, stopped, endless, has, less, Step, halts, goes, after, takes, next, blocked, acts, moves, out, put, run, start}
 use Rattle.case_stream.specs.Cuts.{out-of}

@@ -7,7 +7,7 @@ use native.Mathlib.Omega.{arith}
 use lib.Dec.{ltb}
 use borrow.Author.Tests.{lt-ltb, le-ltb}
 use lib.ListN.{length, take, drop, getD, length-append}
-use Rattle.layout.specs.Layout.{pick}
+use Rattle.sizes.specs.Basics.{pick}
 use Rattle.case_stream.specs.Stream.{Element, limit, Stop, Says, block, says}
 use Rattle.case_stream.specs.Machine.{State, gather, acting, stopped, Room, has, less, Step, halts, goes, after, gathered, takes, next, blocked, acts, moves, step, Out, out, put, feed}
 use Rattle.case_stream.specs.Laws.Steps.{feed-halts, feed-goes, put-nil}

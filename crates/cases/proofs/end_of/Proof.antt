@@ -1,4 +1,4 @@
-use Rattle.layout.specs.Layout.{pick}
+use Rattle.sizes.specs.Basics.{pick}
 use Rattle.cases.specs.Answers.{end-at}
 use Rattle.cases.proofs.end_of.Statement.{statement}
 use Rattle.cases.proofs.end_of.Tie as tie

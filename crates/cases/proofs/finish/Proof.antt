@@ -1,5 +1,5 @@
 use mathlib.Core.Path.{sym, _∙_}
-use Rattle.layout.specs.Layout.{pick}
+use Rattle.sizes.specs.Basics.{pick}
 use Rattle.cases.specs.Answers.{finish-of}
 use Rattle.case_state.specs.Laws.Valid.{state-sound}
 use Rattle.cases.specs.Laws.Answering.{end-is}

@@ -2,7 +2,7 @@ use mathlib.Core.Path.{sym, _∙_}
 use borrow.Author.Needs.{needs}
 use borrow.Author.Tests.{leb-true}
 use native.Mathlib.Omega.{arith}
-use Rattle.layout.specs.Layout.{pick}
+use Rattle.sizes.specs.Basics.{pick}
 use Rattle.case_state.specs.Laws.Valid.{kinds-few}
 use Rattle.cases.specs.Answers.{start-ok, start-of}
 use Rattle.cases.proofs.start.Statement.{statement}

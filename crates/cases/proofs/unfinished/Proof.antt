@@ -1,4 +1,4 @@
-use Rattle.layout.specs.Layout.{pick}
+use Rattle.sizes.specs.Basics.{pick}
 use Rattle.cases.specs.Answers.{unfinished-at}
 use Rattle.cases.proofs.unfinished.Statement.{statement}
 use Rattle.cases.proofs.unfinished.Tie as tie

@@ -9,8 +9,8 @@ use native.Mathlib.Omega.{arith}
 use lib.Dec.{eqb, ltb}
 use lib.ListN.{length, drop, getD}
 use borrow.Author.Tests.{eqb-true, eqb-false, ltb-true, ltb-false, lt-ltb, le-ltb}
-use Rattle.layout.specs.Layout.{le, pick}
-use Rattle.layout.specs.Laws.Digits.{length-le}
+use Rattle.sizes.specs.Basics.{le, pick}
+use Rattle.grammar.specs.Laws.Layout.Digits.{length-le}
 use Rattle.case_stream.specs.Stream.{limit, block-code, Says, skip, finish, block, wrong, gives, says, value, numeric, string}
 use Rattle.case_stream.specs.Machine.{State, gather, acting, stopped, Step, halts, goes, after, takes, next, blocked, acts, moves}
 use Rattle.case_state.specs.declared.Cursor.{Cursor}

@@ -9,8 +9,8 @@ use lib.Dec.{eqb}
 use lib.ListN.{length, take, drop, set, getD, replicate, length-drop}
 use lib.Seq.{sets, length-take-le, set-at, take-suc, append-snoc}
 use borrow.Author.Tests.{eqb-true, eqb-false, ne-eqb}
-use Rattle.layout.specs.Layout.{le, pick}
-use Rattle.layout.specs.Laws.Digits.{length-le}
+use Rattle.sizes.specs.Basics.{le, pick}
+use Rattle.grammar.specs.Laws.Layout.Digits.{length-le}
 use Rattle.case_stream.specs.Stream.{Element, limit, ended, bad, full}
 use Rattle.case_stream.specs.Machine.{gather, acting, stopped, fits, out}
 use Rattle.case_stream.specs.Laws.Taken.{taken as taken-of, held, feed-keeps, feed-spends}

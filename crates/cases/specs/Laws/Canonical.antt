@@ -8,8 +8,9 @@ use native.Mathlib.Omega.{arith}
 use lib.Dec.{eqb}
 use lib.ListN.{length}
 use borrow.Author.Tests.{eqb-true, eqb-false}
-use Rattle.layout.specs.Layout.{little, le, undigit, undigits, digits, pick}
-use Rattle.layout.specs.Laws.Digits.{length-le, undigits-digits}
+use Rattle.sizes.specs.Basics.{le, undigit, pick}
+use Rattle.grammar.specs.Layout.{little, undigits, digits}
+use Rattle.grammar.specs.Laws.Layout.Digits.{length-le, undigits-digits}
 use Rattle.case_stream.specs.Stream.{Stop, ended, bad, full}
 use Rattle.case_stream.specs.Machine.{State, gather, acting, stopped}
 use Rattle.case_state.specs.declared.Cursor.{Cursor}

@@ -5,7 +5,7 @@ use Prim.Native.Nat.{ℕ, zero, suc, _+_, _*_, _/_, _%_, _^_, _≤_, _<_, min}
 use native.Mathlib.Nat.{pow-suc, mul-le-mul-right, pow-le-pow-right}
 use native.Mathlib.Numerals.{add-one}
 use native.Mathlib.Omega.{arith}
-use Rattle.layout.specs.Layout.{le}
+use Rattle.sizes.specs.Basics.{le}
 
 pub le-snoc : (w x b : ℕ) → x < 256 ^ w → b < 256 → le (suc w) (x + b * 256 ^ w) ≡ le w x ++ b ∷ []
 unfolding le

@@ -8,8 +8,8 @@ use native.Mathlib.Numerals.{add-one}
 use native.Mathlib.Omega.{arith}
 use lib.Dec.{eqb, ltb}
 use borrow.Author.Tests.{eqb-true, ltb-true, ltb-false, lt-ltb}
-use Rattle.layout.specs.Layout.{le, pick}
-use Rattle.layout.specs.Laws.Digits.{length-le}
+use Rattle.sizes.specs.Basics.{le, pick}
+use Rattle.grammar.specs.Laws.Layout.Digits.{length-le}
 use Rattle.case_stream.specs.Stream.{limit, block-code}
 use Rattle.case_stream.specs.Machine.{State, gather, acting, stopped, after, gathered}
 use Rattle.case_state.specs.declared.Cursor.{Cursor}

@@ -8,8 +8,8 @@ use lib.Dec.{ltb}
 use lib.ListN.{length, take, drop, getD, set, length-append, length-drop}
 use lib.Seq.{sets, drop-drop, length-sets, getD-drop}
 use borrow.Author.Tests.{ltb-true, ltb-false, lt-ltb, le-ltb}
-use Rattle.layout.specs.Layout.{le, pick}
-use Rattle.layout.specs.Laws.Digits.{length-le}
+use Rattle.sizes.specs.Basics.{le, pick}
+use Rattle.grammar.specs.Laws.Layout.Digits.{length-le}
 use Rattle.case_stream.specs.Stream.{Element}
 use Rattle.case_stream.specs.Machine.{State, Room, fits, has, less, Step, halts, moves, step, Out, out, put, feed}
 use Rattle.case_stream.specs.Laws.Steps.{μ, put-nil, put-put, feed-halts}

@@ -8,9 +8,10 @@ use lib.Dec.{eqb, leb, ltb}
 use lib.ListN.{length, take, drop, getD, length-drop, length-take, drop-of-length-le}
 use lib.Seq.{drop-cons}
 use borrow.Author.Tests.{eqb-true, leb-true, ltb-true, ltb-false}
-use Rattle.layout.specs.Layout.{little, le, undigit, undigits, digits, Bytes, pick}
+use Rattle.sizes.specs.Basics.{le, undigit, pick}
+use Rattle.grammar.specs.Layout.{little, undigits, digits, Bytes}
 use Rattle.layout.specs.Steps.Slices.{drop-bytes, take-bytes}
-use Rattle.layout.specs.Laws.Digits.{length-le, digits-undigits, undigits-lt}
+use Rattle.grammar.specs.Laws.Layout.Digits.{length-le, digits-undigits, undigits-lt}
 use Rattle.case_stream.specs.Stream.{Element, limit, block-code, block, says}
 use Rattle.case_stream.specs.Machine.{State, gather, acting, Room, fits, endless, has, less, Step, halts, goes, after, next, moves, step, Out, put, feed, weight}
 use Rattle.case_stream.specs.Laws.Steps.{μ, after-weight, put-nil, falls-goes, step-falls}

@@ -1,6 +1,6 @@
 use borrow.Author.Tests.{le-leb, lt-leb}
 use native.Mathlib.Omega.{arith}
-use Rattle.layout.specs.Layout.{pick}
+use Rattle.sizes.specs.Basics.{pick}
 use Rattle.cases_words.specs.Calls.{roomy}
 use Rattle.cases_words.proofs.roomy.Statement.{statement}
 use Rattle.cases_words.proofs.roomy.Tie as tie

@@ -13,24 +13,26 @@ use borrow.Author.Tests.{eqb-true}
 use Rattle.sizes.specs.Sizes.{most-dimensions}
 use Rattle.layout.specs.declared.Step.{Step}
 use Rattle.layout.specs.declared.Step.the-variants.{Next, Refused}
-use Rattle.layout.specs.Layout.{little, any-number, passes, Layout, _▸_, times, Tree, spell, Bytes, pick, size}
-use Rattle.layout.specs.Conventions.{int32}
-use Rattle.layout.specs.Rule.{Rule, plain, items, tested, onto}
-use Rattle.layout.specs.Read.{Got, got, no, bind, read}
-use Rattle.layout.specs.Check.{checkTimes, judge, check}
+use Rattle.sizes.specs.Basics.{pick}
+use Rattle.grammar.specs.Layout.{little, any-number, passes, Layout, _▸_, times, Tree, spell, Bytes, size}
+use Rattle.grammar.specs.Conventions.{int32}
+use Rattle.grammar.specs.Rule.{Rule, plain, items, tested, onto}
+use Rattle.grammar.specs.Laws.Layout.Read.{Got, got, no, bind, read}
+use Rattle.grammar.specs.Laws.Layout.Check.{checkTimes, judge, check}
 use Rattle.layout.specs.Reads.{Reads, peek}
 use Rattle.layout.specs.Keeps.{Out, on, off, Keeps, keeps-on, keeps-off, Each}
-use Rattle.layout.specs.Laws.{digits-length}
+use Rattle.grammar.specs.Laws.Layout.{digits-length}
 use Rattle.layout.specs.Steps.Chain.{_◂_}
 use Rattle.layout.specs.Steps.Keeping.{kept-on}
-use Rattle.layout.specs.Laws.Binds.{bind-ext, times-from, times-add, onto-append, bind-assoc, bind-pick}
+use Rattle.grammar.specs.Laws.Layout.Binds.{bind-ext, times-from, times-add, onto-append, bind-assoc, bind-pick}
 use Rattle.layout.specs.Steps.Spelt.{found-first, Read, read-on, read-off, number-at, peeked, read-number, ReadNumber}
 use Rattle.layout.specs.Words.{word32}
 use Rattle.layout.specs.Laws.Words.{word-same}
-use Rattle.once.specs.Once.{fresh, firsts}
-use Rattle.table.specs.Table.{Axes}
-use Rattle.table.specs.Records.{entryIndex, rowsWords, sum, axisLayers, axisRows, axisColumns, axisEntries}
-use Rattle.table.specs.Rules.{entryRule, threeRule, countsRule}
+use Rattle.grammar.specs.RecordWords.{firsts}
+use Rattle.grammar.specs.Once.{fresh}
+use Rattle.grammar.specs.Table.{Axes}
+use Rattle.grammar.specs.Records.{entryIndex, rowsWords, sum, axisLayers, axisRows, axisColumns, axisEntries}
+use Rattle.grammar.specs.Rules.{entryRule, threeRule, countsRule}
 use Rattle.cells.specs.declared.AxisCounts.{AxisCounts}
 use Rattle.cells.specs.declared.AxisCounts.the-variants as counts
 use Rattle.cells.specs.Laws.Rows.{Kind, Row, Rows, all-rows, after}

@@ -14,26 +14,28 @@ use lib.Seq.{sets, length-sets}
 use Rattle.sizes.specs.Sizes.{member-bytes, most-cells, cell-words}
 use Rattle.layout.specs.declared.Step.{Step}
 use Rattle.layout.specs.declared.Step.the-variants.{Next, Refused}
-use Rattle.layout.specs.Layout.{among, any-number, little, Tree, spell, Bytes, pick, size}
-use Rattle.layout.specs.Conventions.{int64}
-use Rattle.layout.specs.Rule.{Rule, plain, _▸▸_, items, tested}
-use Rattle.layout.specs.Read.{bind}
-use Rattle.layout.specs.Check.{judge, check}
+use Rattle.sizes.specs.Basics.{among, pick}
+use Rattle.grammar.specs.Layout.{any-number, little, Tree, spell, Bytes, size}
+use Rattle.grammar.specs.Conventions.{int64}
+use Rattle.grammar.specs.Rule.{Rule, plain, _▸▸_, items, tested}
+use Rattle.grammar.specs.Laws.Layout.Read.{bind}
+use Rattle.grammar.specs.Laws.Layout.Check.{judge, check}
 use Rattle.layout.specs.Reads.{Reads, peek}
-use Rattle.layout.specs.Laws.{digits-length}
+use Rattle.grammar.specs.Laws.Layout.{digits-length}
 use Rattle.layout.specs.Keeps.{Out, on, off, Keeps, keeps-on, keeps-off, Each}
 use Rattle.layout.specs.Steps.Keeping.{kept-on}
 use Rattle.layout.specs.Steps.Spelt.{found-by, Read, read-on, read-off, ends-inside, stays-inside, read-number, ReadNumber}
 use Rattle.layout.specs.Words.{word32}
 use Rattle.layout.specs.Laws.Words.{word-same}
-use Rattle.value.specs.Value.{CellValue}
-use Rattle.once.specs.Once.{word, fresh, firsts}
-use Rattle.once.specs.Laws.{is-fresh}
+use Rattle.grammar.specs.Value.{CellValue}
+use Rattle.grammar.specs.RecordWords.{word, firsts}
+use Rattle.grammar.specs.Once.{fresh}
+use Rattle.grammar.specs.Laws.Once.{is-fresh}
 use Rattle.table.specs.declared.Walk.{Walk}
 use Rattle.table.specs.declared.Walk.the-variants as walk
-use Rattle.table.specs.Table.{Cell, Cells}
-use Rattle.table.specs.Records.{cellIndex, cellWords, rowsWords, cellValue, cellsOf, cellRecord}
-use Rattle.table.specs.Laws.LeastBytes.{cell-bytes, least-cell}
+use Rattle.grammar.specs.Table.{Cell, Cells}
+use Rattle.grammar.specs.Records.{cellIndex, cellWords, rowsWords, cellValue, cellsOf, cellRecord}
+use Rattle.grammar.specs.Laws.Table.LeastBytes.{cell-bytes, least-cell}
 use Rattle.table.specs.Laws.Within.{RecordSizes, needed, Room}
 use Rattle.cells.specs.declared.CellRead.{CellRead}
 use Rattle.cells.specs.declared.CellRead.the-variants.{Whole, BadIndex, BadValue}

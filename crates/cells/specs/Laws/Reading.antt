@@ -10,12 +10,12 @@ use lib.ListN.{length}
 use Rattle.sizes.specs.Sizes.{cell-words}
 use Rattle.layout.specs.declared.Step.{Step}
 use Rattle.layout.specs.declared.Step.the-variants.{Next, Refused}
-use Rattle.layout.specs.Layout.{among}
+use Rattle.sizes.specs.Basics.{among}
 use Rattle.layout.specs.Keeps.{Out, on, off}
-use Rattle.once.specs.Once.{word, firsts}
-use Rattle.once.specs.Repeat.{strided, Before, FirstRepeat}
+use Rattle.grammar.specs.RecordWords.{word, firsts}
+use Rattle.grammar.specs.Repeat.{strided, Before, FirstRepeat}
 use Rattle.once.specs.Laws.Repeats.{AllNew, before-among, none-among}
-use Rattle.table.specs.Laws.LeastBytes.{least-cell}
+use Rattle.grammar.specs.Laws.Table.LeastBytes.{least-cell}
 use Rattle.cells.specs.declared.CellRead.the-variants.{Whole, BadIndex, BadValue}
 use Rattle.cells.specs.Laws.Rows.{Storing, storing, stores-on, stores-off, stores-to}
 use Rattle.cells.specs.Laws.Cells.{cell-kind, cellOf, OneCell, Stored, CellDone, bad-index, bad-value, whole, AllRead}

@@ -10,14 +10,14 @@ use lib.ListN.{length, drop, set, getD, length-set}
 use lib.Seq.{sets, getD-set-same, getD-set-other}
 use Rattle.layout.specs.declared.Step.{Step}
 use Rattle.layout.specs.declared.Step.the-variants.{Next, Refused}
-use Rattle.layout.specs.Layout.{Layout, Tree}
-use Rattle.layout.specs.Rule.{Rule, items}
-use Rattle.layout.specs.Check.{check}
+use Rattle.grammar.specs.Layout.{Layout, Tree}
+use Rattle.grammar.specs.Rule.{Rule, items}
+use Rattle.grammar.specs.Laws.Layout.Check.{check}
 use Rattle.layout.specs.Keeps.{Out, on, off, Keeps, Each, each-none, each-more}
 use Rattle.layout.specs.Steps.Keeping.{kept-on, kept-off, Going, going, goes-on, goes-no, goes-to}
-use Rattle.once.specs.Once.{word, firsts}
-use Rattle.table.specs.Records.{sum, rowsWords}
-use Rattle.table.specs.Laws.Words.{sets-append}
+use Rattle.grammar.specs.RecordWords.{word, firsts}
+use Rattle.grammar.specs.Records.{sum, rowsWords}
+use Rattle.grammar.specs.Laws.Table.Words.{sets-append}
 
 -- an answer of the code, once there are j, and the words with it
 abbrev pub rowOf : ℕ → Step → List ℕ → Out (ℕ × List ℕ)

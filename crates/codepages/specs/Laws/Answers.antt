@@ -5,7 +5,7 @@ use Prim.Native.Nat.{ℕ, _-_, _≤_, _<_}
 use native.Mathlib.Omega.{arith}
 use lib.ListN.{length, drop}
 use borrow.Author.Tests.{lt-ltb, le-ltb}
-use Rattle.layout.specs.Layout.{pick}
+use Rattle.sizes.specs.Basics.{pick}
 use Rattle.codepages.specs.declared.Answer.{Answer}
 use Rattle.codepages.specs.Pages.{first-page, page-count}
 use Rattle.codepages.specs.Convert.{Step, valid-up-to, output, unknown-page, no-character, output-short, Outcome, refused, written, outcome, converted, answer, after}

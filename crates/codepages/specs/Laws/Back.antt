@@ -7,7 +7,7 @@ use native.Mathlib.Omega.{arith}
 use lib.Dec.{eqb}
 use lib.ListN.{length, getD, drop, set}
 use borrow.Author.Tests.{ne-eqb}
-use Rattle.layout.specs.Layout.{pick}
+use Rattle.sizes.specs.Basics.{pick}
 use Rattle.codepages.specs.Pages.{page-count, ascii, no-byte, byte}
 use Rattle.codepages.specs.Utf8.{row-two, row-three, row, decode}
 use Rattle.codepages.specs.Laws.Pages.{side, byte-most, byte-below}

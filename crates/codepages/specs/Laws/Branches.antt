@@ -11,7 +11,7 @@ use lib.Dec.{ltb}
 use lib.ListN.{length, getD, take, drop, set, length-drop, List·getD-eq-default}
 use lib.Seq.{getD-drop, sets, sets-eq, length-sets, length-take-le}
 use borrow.Author.Tests.{lt-ltb, le-ltb, ne-eqb}
-use Rattle.layout.specs.Layout.{pick}
+use Rattle.sizes.specs.Basics.{pick}
 use Rattle.codepages.specs.Pages.{page-count, ascii, no-code-point, no-byte, page, listed, code-point, byte}
 use Rattle.codepages.specs.Utf8.{two-bytes, three-bytes, four-bytes, surrogates, encode, row-two, row-three, decode}
 use Rattle.codepages.specs.Convert.{invalid, converts, to, from, way, valid-up-to, output}

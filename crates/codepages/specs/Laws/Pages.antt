@@ -9,7 +9,7 @@ use native.Mathlib.Omega.{arith}
 use lib.Dec.{T, eqb, leb, ltb}
 use lib.ListN.{length, getD, List·getD-eq-default}
 use borrow.Author.Tests.{ltb-true, ltb-false, leb-true, eqb-true, eqb-false, lt-ltb, le-ltb, ne-eqb}
-use Rattle.layout.specs.Layout.{pick}
+use Rattle.sizes.specs.Basics.{pick}
 use Rattle.codepages.specs.Table.{entries}
 use Rattle.codepages.specs.Pages.{page-count, page-entries, ascii, no-code-point, no-byte, page, listed, code-point, position, byte}
 use Rattle.codepages.specs.Utf8.{surrogates}

@@ -9,7 +9,7 @@ use lib.Dec.{ltb}
 use lib.ListN.{length, getD, drop, set, length-set}
 use lib.Seq.{sets}
 use borrow.Author.Tests.{lt-ltb, le-ltb}
-use Rattle.layout.specs.Layout.{pick}
+use Rattle.sizes.specs.Basics.{pick}
 use Rattle.codepages.specs.Pages.{page-count, ascii, no-byte, page, code-point}
 use Rattle.codepages.specs.Utf8.{two-bytes, three-bytes, four-bytes, encode}
 use Rattle.codepages.specs.Convert.{to, output}

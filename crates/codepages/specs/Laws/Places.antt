@@ -11,7 +11,7 @@ use lib.Dec.{T, eqb, leb, ltb}
 use lib.ListN.{length, getD, take, drop, length-drop, List·getD-eq-default}
 use lib.Seq.{getD-take, getD-drop, length-take-le}
 use borrow.Author.Tests.{ltb-true, leb-true, eqb-true, lt-ltb, le-ltb, ne-eqb}
-use Rattle.layout.specs.Layout.{pick}
+use Rattle.sizes.specs.Basics.{pick}
 use Rattle.codepages.specs.Table.{entries}
 use Rattle.codepages.specs.Pages.{page-count, page-entries, ascii, no-byte, page, position, byte}
 use Rattle.codepages.specs.Utf8.{three-bytes}

@@ -9,7 +9,7 @@ use lib.Dec.{ltb}
 use lib.ListN.{length, getD, drop, length-append, length-drop}
 use lib.Seq.{drop-append-seam}
 use borrow.Author.Tests.{ltb-true, ltb-false, lt-ltb, le-ltb}
-use Rattle.layout.specs.Layout.{pick}
+use Rattle.sizes.specs.Basics.{pick}
 use Rattle.codepages.specs.Pages.{first-page, page-count, no-code-point, no-byte, code-point, byte}
 use Rattle.codepages.specs.Utf8.{encode, decode}
 use Rattle.codepages.specs.Convert.{SameText, empty, more, Step, invalid, converts, to, from, valid-up-to, output, unknown-page, no-character, output-short, Outcome, refused, written, outcome, converted}

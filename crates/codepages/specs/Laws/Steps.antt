@@ -5,7 +5,7 @@ use Prim.Native.Nat.{ℕ, zero, suc, _+_, _-_, _≤_, _<_}
 use native.Mathlib.Omega.{arith}
 use lib.ListN.{length, getD, drop}
 use borrow.Author.Tests.{lt-ltb, le-ltb}
-use Rattle.layout.specs.Layout.{pick}
+use Rattle.sizes.specs.Basics.{pick}
 use Rattle.codepages.specs.Pages.{no-code-point, no-byte, code-point, byte}
 use Rattle.codepages.specs.Utf8.{encode, decode}
 use Rattle.codepages.specs.Convert.{Step, invalid, converts, encoded, decoded, to, from, valid-up-to, output}

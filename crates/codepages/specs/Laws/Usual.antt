@@ -9,7 +9,7 @@ use lib.Dec.{T, eqb, leb, ltb}
 use lib.ListN.{length, getD}
 use lib.Bits.{bitOr, or-add-and, and-le-l, and-le-r}
 use borrow.Author.Tests.{leb-true, ltb-true, eqb-false, ne-eqb, le-ltb}
-use Rattle.layout.specs.Layout.{pick}
+use Rattle.sizes.specs.Basics.{pick}
 use Rattle.codepages.specs.Table.{entries}
 use Rattle.codepages.specs.Pages.{page-count, ascii, no-code-point, no-byte, page, listed, code-point}
 use Rattle.codepages.specs.Utf8.{two-bytes, three-bytes, encode}

@@ -8,7 +8,7 @@ use native.Mathlib.Omega.{arith}
 use lib.Dec.{ltb}
 use lib.ListN.{length, getD, drop}
 use borrow.Author.Tests.{ltb-true, ltb-false, lt-ltb, le-ltb}
-use Rattle.layout.specs.Layout.{pick}
+use Rattle.sizes.specs.Basics.{pick}
 use Rattle.codepages.specs.Pages.{ascii, no-code-point}
 use Rattle.codepages.specs.Utf8.{two-bytes, three-bytes, four-bytes, surrogates, after-surrogates, scalar, encode, continuation, shortest, row-two, row-three, row-four, row, decode}
 use Rattle.codepages.specs.Laws.Pages.{side}

@@ -1,4 +1,4 @@
-use Rattle.layout.specs.Layout.{pick}
+use Rattle.sizes.specs.Basics.{pick}
 use Rattle.contents.proofs.argument_of.Statement.{statement}
 use Rattle.contents.proofs.argument_of.Tie as tie
 

@@ -1,6 +1,6 @@
 use mathlib.Core.Path.{sym, _∙_}
 use borrow.Author.Needs.{needs}
-use Rattle.layout.specs.Layout.{little}
+use Rattle.grammar.specs.Layout.{little}
 use Rattle.layout.specs.Steps.Slices.{bytes-of}
 use Rattle.fields.specs.Laws.Slices.{peek-fits}
 use Rattle.contents.specs.Laws.Answers.{answers-unread, argument-answers}

@@ -1,5 +1,5 @@
-use Rattle.layout.specs.Layout.{pick, among}
-use Rattle.layout.specs.Numbers.{refusal}
+use Rattle.sizes.specs.Basics.{pick, among}
+use Rattle.grammar.specs.Numbers.{refusal}
 use Rattle.contents.specs.Answers.{unread}
 use Rattle.contents.proofs.unread.Statement.{statement}
 use Rattle.contents.proofs.unread.Tie as tie

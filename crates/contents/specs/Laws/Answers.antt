@@ -12,17 +12,18 @@ use borrow.Author.Tests.{eqb-true, eqb-false}
 use Rattle.layout.specs.declared.Step.{Step}
 use Rattle.layout.specs.declared.Step.the-variants.{Next, Refused}
 use Rattle.sizes.specs.Sizes.{below-value}
-use Rattle.layout.specs.Layout.{little, Layout, leading, Tree, spell, size, Bytes, pick}
-use Rattle.layout.specs.Fails.{Spells, Fails}
-use Rattle.layout.specs.Read.{Got, got, no, bind, lead, readLeading, read, differs}
+use Rattle.sizes.specs.Basics.{pick}
+use Rattle.grammar.specs.Layout.{little, Layout, leading, Tree, spell, size, Bytes}
+use Rattle.grammar.specs.Fails.{Spells, Fails}
+use Rattle.grammar.specs.Laws.Layout.Read.{Got, got, no, bind, lead, readLeading, read, differs}
 use Rattle.layout.specs.Reads.{forget, step, chain, Reads, peek, skip}
-use Rattle.layout.specs.Laws as laws
+use Rattle.grammar.specs.Laws.Layout as laws
 use Rattle.layout.specs.Steps.Runs.{begins, leading-of}
 use Rattle.fields.specs.Gives.{Found, Shows}
 use Rattle.fields.specs.Laws.Shows.{Read, tree-of, number-shows}
 use Rattle.store.specs.Fields.{placed}
-use Rattle.value.specs.Value.{cell-zeros, CellValue, RawValueOf, ValueIn}
-use Rattle.value.specs.Value as grammar
+use Rattle.grammar.specs.Value.{cell-zeros, CellValue, RawValueOf, ValueIn}
+use Rattle.grammar.specs.Value as grammar
 use Rattle.contents.specs.declared.RawValue.{RawValue}
 use Rattle.contents.specs.declared.Contents.{Contents}
 use Rattle.contents.specs.declared.Argument.{Argument}

@@ -8,16 +8,17 @@ use borrow.Author.Tests.{ne-eqb}
 use Rattle.sizes.specs.Sizes.{below-value}
 use Rattle.layout.specs.declared.Step.{Step}
 use Rattle.layout.specs.declared.Step.the-variants.{Next, Refused}
-use Rattle.layout.specs.Layout.{little, among, Layout, Tree, pick, Bytes}
-use Rattle.layout.specs.Conventions.{choose}
-use Rattle.layout.specs.Laws as laws
-use Rattle.layout.specs.Read.{Got, got, no, read}
+use Rattle.sizes.specs.Basics.{among, pick}
+use Rattle.grammar.specs.Layout.{little, Layout, Tree, Bytes}
+use Rattle.grammar.specs.Conventions.{choose}
+use Rattle.grammar.specs.Laws.Layout as laws
+use Rattle.grammar.specs.Laws.Layout.Read.{Got, got, no, read}
 use Rattle.layout.specs.Reads.{Reads, chain, step, peek, skip}
 use Rattle.fields.specs.Gives.{Shows}
 use Rattle.fields.specs.Laws.Shows.{number-shows}
 use Rattle.store.specs.Fields.{Fields, placed}
 use Rattle.layout.specs.Steps.Runs.{begins}
-use Rattle.value.specs.Value.{cell-zeros, CellValue, RawValueOf, ValueIn, Form01, Form02}
+use Rattle.grammar.specs.Value.{cell-zeros, CellValue, RawValueOf, ValueIn, Form01, Form02}
 use Rattle.contents.specs.declared.RawValue.{RawValue}
 use Rattle.contents.specs.declared.Contents.{Contents}
 use Rattle.contents.specs.declared.figure.Figure.{Figure}

@@ -9,18 +9,19 @@ use lib.ListN.{length, length-append}
 use Rattle.sizes.specs.Sizes.{below-value}
 use Rattle.layout.specs.declared.Step.{Step}
 use Rattle.layout.specs.declared.Step.the-variants.{Next, Refused}
-use Rattle.layout.specs.Layout.{little, any-number, among, passes, Layout, empty, number, _▸_, times, Tree, spell}
-use Rattle.layout.specs.Conventions.{byte, int32, lestring, choose, keys}
+use Rattle.sizes.specs.Basics.{among}
+use Rattle.grammar.specs.Layout.{little, any-number, passes, Layout, empty, number, _▸_, times, Tree, spell}
+use Rattle.grammar.specs.Conventions.{byte, int32, lestring, choose, keys}
 use Rattle.layout.specs.Reads.{Reads, peek, field}
 use Rattle.layout.specs.Steps.Chain.{Refuses, refuses, empty-of}
 use Rattle.layout.specs.Steps.Numbers.{arm-of, broken-refuses}
-use Rattle.layout.specs.Laws.{digits-length}
+use Rattle.grammar.specs.Laws.Layout.{digits-length}
 use Rattle.store.specs.declared.Name.{Name}
 use Rattle.store.specs.Fields.{Text, lent, placed}
 use Rattle.fields.specs.Gives.{Gives, Shows}
 use Rattle.fields.specs.Laws.Shows.{_&_, shows-nothing, shows-at, shows-of, refused-shows, switch-shows, peeked}
 use Rattle.fields.specs.Laws.Gives.{to-shows}
-use Rattle.value.specs.Value.{Modifiers, ArgumentOf, TemplateOf, without-long-form, forms, RawValueOf}
+use Rattle.grammar.specs.Value.{Modifiers, ArgumentOf, TemplateOf, without-long-form, forms, RawValueOf}
 use Rattle.value.specs.Laws.Forms.{first-byte, form-passes, long-passes}
 use Rattle.contents.specs.declared.RawValue.{RawValue}
 use Rattle.contents.specs.Contents.{none, bytes-of, raw, template-form, templateSays, positionOf, said, says-31, says-58, chosen, each-form, rawSays}

@@ -10,8 +10,9 @@ use borrow.Author.Tests.{eqb-true, ne-eqb, leb-true, le-leb}
 use Rattle.sizes.specs.Sizes.{below-value}
 use Rattle.layout.specs.declared.Step.{Step}
 use Rattle.layout.specs.declared.Step.the-variants.{Next}
-use Rattle.layout.specs.Layout.{little, one-of-but, passes, among, Layout, empty, pick, undigits, Bytes}
-use Rattle.layout.specs.Read.{readNumber, lead}
+use Rattle.sizes.specs.Basics.{among, pick}
+use Rattle.grammar.specs.Layout.{little, one-of-but, passes, Layout, empty, undigits, Bytes}
+use Rattle.grammar.specs.Laws.Layout.Read.{readNumber, lead}
 use Rattle.layout.specs.Reads.{Reads, peek, field, skip}
 use Rattle.layout.specs.Steps.Chain.{empty-of}
 use Rattle.layout.specs.Steps.Numbers.{free-of, arm-of}
@@ -19,7 +20,7 @@ use Rattle.fields.specs.Gives.{Shows}
 use Rattle.fields.specs.Laws.Shows.{_&_, shows-nothing, shows-of}
 use Rattle.fields.specs.Laws.Gives.{to-shows, number-gives}
 use Rattle.store.specs.Fields.{placed}
-use Rattle.value.specs.Value.{Modifiers, without-long-form, left-out, ValueMod, Form01, RawValueOf, ValueIn, cell-zeros}
+use Rattle.grammar.specs.Value.{Modifiers, without-long-form, left-out, ValueMod, Form01, RawValueOf, ValueIn, cell-zeros}
 use Rattle.contents.specs.declared.RawValue.{RawValue}
 use Rattle.contents.specs.declared.Contents.{Contents}
 use Rattle.contents.specs.Contents.{none, raw, said, says-01, chosen, either, rawSays}

@@ -6,9 +6,10 @@ use mathlib.Core.List.{List, [], _∷_, _++_, map}
 use Prim.Native.Nat.{ℕ, zero, suc}
 use lib.ListN.{length}
 use lib.Dec.{eqb}
-use Rattle.layout.specs.Layout.{Order, Test, Layout, number, _▸_, times, leading, nothing, pick, Tree, spellAll, spell, All, all-none, all-more, Valid}
-use Rattle.layout.specs.Conventions.{choose}
-use Rattle.value.specs.Value.{ArgumentOf, TemplateOf, forms, RawValueOf, ValueIn}
+use Rattle.sizes.specs.Basics.{pick}
+use Rattle.grammar.specs.Layout.{Order, Test, Layout, number, _▸_, times, leading, nothing, Tree, spellAll, spell, All, all-none, all-more, Valid}
+use Rattle.grammar.specs.Conventions.{choose}
+use Rattle.grammar.specs.Value.{ArgumentOf, TemplateOf, forms, RawValueOf, ValueIn}
 
 pub data Wider : Layout → Layout → Type 0 where
   same : {g : Layout} → Wider g g

@@ -1,5 +1,5 @@
 use borrow.Author.Tests.{ltb-true}
-use Rattle.layout.specs.Layout.{pick}
+use Rattle.sizes.specs.Basics.{pick}
 use Rattle.counts.proofs.double_kind.Statement.{statement}
 use Rattle.counts.proofs.double_kind.Tie as tie
 

@@ -1,4 +1,4 @@
-use Rattle.layout.specs.Layout.{pick, among}
+use Rattle.sizes.specs.Basics.{pick, among}
 use Rattle.counts.specs.Count.{kind}
 use Rattle.counts.proofs.kind_of.Statement.{statement}
 use Rattle.counts.proofs.kind_of.Tie as tie

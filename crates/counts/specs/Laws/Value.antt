@@ -13,7 +13,7 @@ use lib.Ieee.Fits.{ofInt-fits}
 use lib.Ieee.Bits.{ofBits-fits}
 use lib.Ieee.Back.{round-whole, whole-unique}
 use lib.Ieee.Exact.{HasValue, odd-sign}
-use Rattle.layout.specs.Layout.{pick}
+use Rattle.sizes.specs.Basics.{pick}
 use Rattle.counts.specs.Count.{no-count, exponent, significand, divisor, count}
 
 -- a fraction that is a whole number

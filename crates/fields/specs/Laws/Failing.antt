@@ -6,10 +6,11 @@ use Prim.Native.Nat.{ℕ, _+_, _*_, _≤_}
 use native.Mathlib.Nat.{suc-mul, mul-le-mul-right}
 use native.Mathlib.Omega.{arith}
 use lib.ListN.{length, length-append}
-use Rattle.layout.specs.Layout.{Test, any-number, the-number, a-version, a-bool, at-most, one-of, one-of-but, a-color, among, passes, suits, pick, Layout, empty, number, string, _▸_, times, Tree, spellAll, spell, All, all-none, all-more, Valid}
-use Rattle.layout.specs.Numbers.{refusal}
-use Rattle.layout.specs.Fails.{Fails, number-short, number-wrong, number-then, string-short, string-wrong, first, second, item, after-run, run-alone, region-short, content, bytes-left, too-deep}
-use Rattle.layout.specs.Laws as laws
+use Rattle.sizes.specs.Basics.{among, pick}
+use Rattle.grammar.specs.Layout.{Test, any-number, the-number, a-version, a-bool, at-most, one-of, one-of-but, a-color, passes, suits, Layout, empty, number, string, _▸_, times, Tree, spellAll, spell, All, all-none, all-more, Valid}
+use Rattle.grammar.specs.Numbers.{refusal}
+use Rattle.grammar.specs.Fails.{Fails, number-short, number-wrong, number-then, string-short, string-wrong, first, second, item, after-run, run-alone, region-short, content, bytes-left, too-deep}
+use Rattle.grammar.specs.Laws.Layout as laws
 use Rattle.store.specs.Laws.Bounds.{most, Bounded}
 
 -- ---- how many bytes a derivation has at most

@@ -16,12 +16,13 @@ use Rattle.layout.specs.declared.Span.the-variants.{Of}
 use Rattle.layout.specs.declared.Span.the-variants as span
 use Rattle.layout.specs.declared.Step.{Step}
 use Rattle.layout.specs.declared.Step.the-variants.{Next, Refused}
-use Rattle.layout.specs.Layout.{Order, Test, any-number, the-number, a-bool, one-of, among, passes, Content, suits, Layout, empty, number, string, _▸_, times, Tree, spell, Bytes, pick, undigits}
+use Rattle.sizes.specs.Basics.{among, pick}
+use Rattle.grammar.specs.Layout.{Order, Test, any-number, the-number, a-bool, one-of, passes, Content, suits, Layout, empty, number, string, _▸_, times, Tree, spell, Bytes, undigits}
 use Rattle.layout.specs.Steps.Slices.{drop-bytes}
-use Rattle.layout.specs.Read.{Got, got, no, bind, readNumber, readTimes, read, zero-byte}
-use Rattle.layout.specs.Laws as laws
-use Rattle.layout.specs.Laws.Places.{Announced, announced, too-few, counted-view, announced-length}
-use Rattle.layout.specs.Laws.IfGot.{IfGot, is-got, is-no, bind-got, pick-got, of-got}
+use Rattle.grammar.specs.Laws.Layout.Read.{Got, got, no, bind, readNumber, readTimes, read, zero-byte}
+use Rattle.grammar.specs.Laws.Layout as laws
+use Rattle.grammar.specs.Laws.Layout.Places.{Announced, announced, too-few, counted-view, announced-length}
+use Rattle.grammar.specs.Laws.Layout.IfGot.{IfGot, is-got, is-no, bind-got, pick-got, of-got}
 use Rattle.layout.specs.Reads.{forget, step, chain, Reads, peek, spanOf, part, bytes, past}
 use Rattle.layout.specs.Steps.Chain.{then, empty-of, times-none, times-more}
 use Rattle.layout.specs.Steps.Numbers.{switch-of}

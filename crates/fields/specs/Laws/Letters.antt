@@ -9,10 +9,11 @@ use lib.Seq.{ext-getD, length-take-le, getD-take, getD-drop}
 use lib.Dec.{eqb}
 use borrow.Author.Tests.{le-leb, lt-leb, eq-eqb, ne-eqb}
 use Rattle.layout.specs.declared.Step.the-variants.{Next, Refused}
-use Rattle.layout.specs.Layout.{Order, Test, passes, empty, number, Bytes, pick, undigits}
-use Rattle.layout.specs.Read.{bind, readNumber, read, refusal}
+use Rattle.sizes.specs.Basics.{pick}
+use Rattle.grammar.specs.Layout.{Order, Test, passes, empty, number, Bytes, undigits}
+use Rattle.grammar.specs.Laws.Layout.Read.{bind, readNumber, read, refusal}
 use Rattle.layout.specs.Reads.{step, chain, Reads}
-use Rattle.layout.specs.Laws.Spelt.{same-letters}
+use Rattle.grammar.specs.Laws.Layout.Spelt.{same-letters}
 use Rattle.layout.specs.Steps.Slices.{drop-bytes, take-bytes}
 
 -- ---- comparing letters one by one

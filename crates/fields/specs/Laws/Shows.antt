@@ -9,11 +9,12 @@ use lib.Seq.{drop-drop}
 use lib.Dec.{leb}
 use Rattle.layout.specs.declared.Step.{Step}
 use Rattle.layout.specs.declared.Step.the-variants.{Next, Refused}
-use Rattle.layout.specs.Layout.{Order, Test, any-number, passes, Layout, empty, number, _▸_, Tree, spell, Bytes, pick, undigits}
+use Rattle.sizes.specs.Basics.{pick}
+use Rattle.grammar.specs.Layout.{Order, Test, any-number, passes, Layout, empty, number, _▸_, Tree, spell, Bytes, undigits}
 use Rattle.layout.specs.Steps.Slices.{drop-bytes}
-use Rattle.layout.specs.Read.{Got, got, no, bind, readNumber, read, too-short}
-use Rattle.layout.specs.Laws as laws
-use Rattle.layout.specs.Laws.IfGot.{IfGot, is-got, is-no, bind-got, pick-got, of-got}
+use Rattle.grammar.specs.Laws.Layout.Read.{Got, got, no, bind, readNumber, read, too-short}
+use Rattle.grammar.specs.Laws.Layout as laws
+use Rattle.grammar.specs.Laws.Layout.IfGot.{IfGot, is-got, is-no, bind-got, pick-got, of-got}
 use Rattle.layout.specs.Reads.{forget, step, chain, Reads, peek}
 use Rattle.layout.specs.Steps.Chain.{then}
 use Rattle.layout.specs.Steps.Numbers.{switch-of}

@@ -7,13 +7,13 @@ use mir.Syntax.{w8}
 use mir.Val.{Fits}
 use Rattle.layout.specs.declared.Step.{Step}
 use Rattle.layout.specs.declared.Step.the-variants.{Next, Refused}
-use Rattle.layout.specs.Layout.{Order, any-number, empty, number, Bytes}
-use Rattle.layout.specs.Read.{Got, got, no, readNumber}
-use Rattle.layout.specs.Laws as laws
+use Rattle.grammar.specs.Layout.{Order, any-number, empty, number, Bytes}
+use Rattle.grammar.specs.Laws.Layout.Read.{Got, got, no, readNumber}
+use Rattle.grammar.specs.Laws.Layout as laws
 use Rattle.layout.specs.Reads.{numberOf, peek}
 use Rattle.layout.specs.Steps.Slices.{bytes-of, drop-bytes}
-use Rattle.layout.specs.Laws.Digits.{pow-pos}
-use Rattle.layout.specs.Laws.Spelt.{whole}
+use Rattle.grammar.specs.Laws.Layout.Digits.{pow-pos}
+use Rattle.grammar.specs.Laws.Layout.Spelt.{whole}
 
 -- a number that was read has its bytes
 pub peek-lt : (o : Order) (w : ℕ) (s : List ℕ) → Bytes s → (st : Step) → peek o w s st < 256 ^ w

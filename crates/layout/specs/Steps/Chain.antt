@@ -9,9 +9,10 @@ use native.Mathlib.Omega.{arith}
 use lib.ListN.{drop}
 use Rattle.layout.specs.declared.Step.{Step}
 use Rattle.layout.specs.declared.Step.the-variants.{Next, Refused}
-use Rattle.layout.specs.Layout.{Layout, empty, _▸_, times, nothing, pick}
-use Rattle.layout.specs.Read.{Got, got, no, bind, readTimes, read}
-use Rattle.layout.specs.Laws.Places.{Within, w-got, w-no, within, tail}
+use Rattle.sizes.specs.Basics.{pick}
+use Rattle.grammar.specs.Layout.{Layout, empty, _▸_, times, nothing}
+use Rattle.grammar.specs.Laws.Layout.Read.{Got, got, no, bind, readTimes, read}
+use Rattle.grammar.specs.Laws.Layout.Places.{Within, w-got, w-no, within, tail}
 use Rattle.layout.specs.Reads.{forget, step, chain, Reads, refused}
 
 -- the tree does not matter

@@ -14,9 +14,10 @@ use Rattle.layout.specs.declared.Step.the-variants.{Next, Refused}
 use Rattle.layout.specs.declared.Span.{Span}
 use Rattle.layout.specs.declared.Span.the-variants.{Of}
 use Rattle.layout.specs.declared.Span.the-variants as span
-use Rattle.layout.specs.Layout.{Order, Content, suits, Fill, exact, optional, open-ended, Layout, string, region, pick}
-use Rattle.layout.specs.Read.{Got, got, no, too-short, zero-byte, bind, readCounted, ends, readFill, read}
-use Rattle.layout.specs.Laws.Places.{took-length, Within, w-got, w-no, within, Announced, announced, too-few, counted-view, announced-length, shift, read-shifts}
+use Rattle.sizes.specs.Basics.{pick}
+use Rattle.grammar.specs.Layout.{Order, Content, suits, Fill, exact, optional, open-ended, Layout, string, region}
+use Rattle.grammar.specs.Laws.Layout.Read.{Got, got, no, too-short, zero-byte, bind, readCounted, ends, readFill, read}
+use Rattle.grammar.specs.Laws.Layout.Places.{took-length, Within, w-got, w-no, within, Announced, announced, too-few, counted-view, announced-length, shift, read-shifts}
 use Rattle.layout.specs.Reads.{forget, step, chain, Reads, spanOf, part, bytes, past, filled, close}
 use Rattle.layout.specs.Steps.Chain.{forget-map, forget-rest, forget-pick}
 

@@ -10,8 +10,9 @@ use borrow.Author.Tests.{leb-true}
 use Rattle.layout.specs.declared.Step.the-variants.{Next, Refused}
 use Rattle.layout.specs.declared.Span.the-variants.{Of}
 use Rattle.layout.specs.declared.Span.the-variants as span
-use Rattle.layout.specs.Layout.{Order, pick, undigits}
-use Rattle.layout.specs.Read.{got, no, too-short, bind, readNumber, readCounted}
+use Rattle.sizes.specs.Basics.{pick}
+use Rattle.grammar.specs.Layout.{Order, undigits}
+use Rattle.grammar.specs.Laws.Layout.Read.{got, no, too-short, bind, readNumber, readCounted}
 use Rattle.layout.specs.Reads.{numberOf, peek, judged, field, spanOf, part}
 
 pub peek-at : (o : Order) (w : ℕ) (s : List ℕ) (at : ℕ) → peek o w s (Next at) ≡ pick (leb w (length s - at)) (undigits o (take w (drop at s))) 0

@@ -8,8 +8,9 @@ use lib.ListN.{length, take, drop, length-drop}
 use lib.Seq.{take-take, drop-drop, length-take-le}
 use borrow.Author.Tests.{le-leb}
 use Rattle.layout.specs.declared.Step.the-variants.{Next}
-use Rattle.layout.specs.Layout.{Order, Test, pick, undigits}
-use Rattle.layout.specs.Conventions as notation
+use Rattle.sizes.specs.Basics.{pick}
+use Rattle.grammar.specs.Layout.{Order, Test, undigits}
+use Rattle.grammar.specs.Conventions as notation
 use Rattle.layout.specs.Reads.{peek, verdict, field, Reads}
 use Rattle.layout.specs.Steps.Fields.{peek-at, field-at}
 use Rattle.layout.specs.Steps.Numbers.{tested-of}

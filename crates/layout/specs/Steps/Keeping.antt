@@ -5,10 +5,10 @@ use Prim.Native.Nat.{ℕ, suc, _+_, _-_, _≤_, _<_}
 use native.Mathlib.Nat.{sub-zero}
 use native.Mathlib.Omega.{arith}
 use lib.ListN.{drop}
-use Rattle.layout.specs.Layout.{Layout, Tree}
-use Rattle.layout.specs.Read.{Got, got, no, bind}
-use Rattle.layout.specs.Rule.{Rule, items}
-use Rattle.layout.specs.Check.{checkTimes, check}
+use Rattle.grammar.specs.Layout.{Layout, Tree}
+use Rattle.grammar.specs.Laws.Layout.Read.{Got, got, no, bind}
+use Rattle.grammar.specs.Rule.{Rule, items}
+use Rattle.grammar.specs.Laws.Layout.Check.{checkTimes, check}
 use Rattle.layout.specs.Keeps.{Out, on, off, Keeps, keeps-on, keeps-off, Each, each-none, each-more}
 
 -- ---- what an answer says of the reading

@@ -6,11 +6,11 @@ use lib.ListN.{drop}
 use borrow.Author.Tests.{leb-true}
 use Rattle.layout.specs.declared.Step.{Step}
 use Rattle.layout.specs.declared.Step.the-variants.{Next, Refused}
-use Rattle.layout.specs.Layout.{little, at-most, Layout, times, Tree, passes, Bytes}
-use Rattle.layout.specs.Conventions.{field, at-most-many}
-use Rattle.layout.specs.Rule.{Rule, numbered, items}
-use Rattle.layout.specs.Read.{got, no, bind}
-use Rattle.layout.specs.Check.{check}
+use Rattle.grammar.specs.Layout.{little, at-most, Layout, times, Tree, passes, Bytes}
+use Rattle.grammar.specs.Conventions.{field, at-most-many}
+use Rattle.grammar.specs.Rule.{Rule, numbered, items}
+use Rattle.grammar.specs.Laws.Layout.Read.{got, no, bind}
+use Rattle.grammar.specs.Laws.Layout.Check.{check}
 use Rattle.layout.specs.Reads.{Reads, peek}
 use Rattle.layout.specs.Keeps.{Out, on, off, Keeps, keeps-on, keeps-off}
 use Rattle.layout.specs.Steps.Spelt.{read-off, number-check, read-number, ReadNumber}

@@ -8,9 +8,10 @@ use lib.Seq.{drop-drop}
 use lib.Dec.{eqb, leb}
 use Rattle.layout.specs.declared.Step.{Step}
 use Rattle.layout.specs.declared.Step.the-variants.{Next, Refused}
-use Rattle.layout.specs.Layout.{Order, little, Test, any-number, the-number, a-version, a-bool, at-most, one-of, one-of-but, a-color, among, passes, Layout, empty, number, Tree, pick, undigits}
+use Rattle.sizes.specs.Basics.{among, pick}
+use Rattle.grammar.specs.Layout.{Order, little, Test, any-number, the-number, a-version, a-bool, at-most, one-of, one-of-but, a-color, passes, Layout, empty, number, Tree, undigits}
 use borrow.Author.Tests.{ne-eqb}
-use Rattle.layout.specs.Read.{Got, got, no, refusal, too-short, bind, readNumber, read}
+use Rattle.grammar.specs.Laws.Layout.Read.{Got, got, no, refusal, too-short, bind, readNumber, read}
 use Rattle.layout.specs.Reads.{forget, step, chain, Reads, numberOf, peek, verdict, judged, field}
 use Rattle.layout.specs.Steps.Chain.{forget-map, Refuses, refuses, kept}
 

@@ -10,8 +10,9 @@ use lib.Dec.{eqb, leb}
 use borrow.Author.Tests.{leb-true, leb-false, le-leb, lt-leb, eqb-true, eqb-false}
 use Rattle.layout.specs.declared.Step.{Step}
 use Rattle.layout.specs.declared.Step.the-variants.{Next, Refused}
-use Rattle.layout.specs.Layout.{Order, little, any-number, passes, Layout, empty, number, _▸_, times, pick, undigits}
-use Rattle.layout.specs.Read.{got, no, too-short, readNumber, readTimes, read}
+use Rattle.sizes.specs.Basics.{pick}
+use Rattle.grammar.specs.Layout.{Order, little, any-number, passes, Layout, empty, number, _▸_, times, undigits}
+use Rattle.grammar.specs.Laws.Layout.Read.{got, no, too-short, readNumber, readTimes, read}
 use Rattle.layout.specs.Reads.{step, chain, Reads, verdict, judged, field, fitting, rows}
 use Rattle.layout.specs.Steps.Chain.{step-then, step-times, Refuses, refuses, chain-refuses}
 use Rattle.layout.specs.Steps.Numbers.{step-tested}

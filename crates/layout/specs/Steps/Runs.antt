@@ -10,9 +10,10 @@ use lib.Dec.{leb, ltb}
 use borrow.Author.Tests.{ltb-true, lt-ltb}
 use Rattle.layout.specs.declared.Step.{Step}
 use Rattle.layout.specs.declared.Step.the-variants.{Next, Refused}
-use Rattle.layout.specs.Layout.{passes, Layout, empty, number, string, _▸_, times, leading, region, nothing, Tree, pick}
-use Rattle.layout.specs.Read.{Got, got, no, bind, readNumber, lead, readLeading, read, differs}
-use Rattle.layout.specs.Laws.Places.{Within, w-got, w-no, within}
+use Rattle.sizes.specs.Basics.{pick}
+use Rattle.grammar.specs.Layout.{passes, Layout, empty, number, string, _▸_, times, leading, region, nothing, Tree}
+use Rattle.grammar.specs.Laws.Layout.Read.{Got, got, no, bind, readNumber, lead, readLeading, read, differs}
+use Rattle.grammar.specs.Laws.Layout.Places.{Within, w-got, w-no, within}
 use Rattle.layout.specs.Reads.{forget, step, chain, Reads, skip}
 
 -- a number or a run comes first, so every tree of the layout spells at least one byte

@@ -4,7 +4,7 @@ use Prim.Native.Nat.{ℕ, zero, suc}
 use lib.ListN.{take, drop, getD}
 use mir.Syntax.{w8}
 use mir.Val.{Fits}
-use Rattle.layout.specs.Layout.{Bytes, no-bytes, byte}
+use Rattle.grammar.specs.Layout.{Bytes, no-bytes, byte}
 
 -- what is known of each element of a slice
 pub bytes-of : (s : List ℕ) → ((i : ℕ) → Fits w8 (getD s i 0)) → Bytes s

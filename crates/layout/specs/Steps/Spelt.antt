@@ -10,19 +10,17 @@ use lib.Dec.{leb}
 use borrow.Author.Tests.{le-leb}
 use Rattle.layout.specs.declared.Step.{Step}
 use Rattle.layout.specs.declared.Step.the-variants.{Next, Refused}
-use Rattle.layout.specs.Layout.{Order, little, Test, passes, digits, Layout, _▸_, Tree, spell, size, Bytes, Valid, pick}
-use Rattle.layout.specs.Conventions.{field}
-use Rattle.layout.specs.Rule.{Rule, numbered}
-use Rattle.layout.specs.Read.{Got, got, no, bind, readNumber, read}
-use Rattle.layout.specs.Check.{check}
+use Rattle.sizes.specs.Basics.{pick}
+use Rattle.grammar.specs.Layout.{Order, little, Test, passes, digits, Layout, _▸_, Tree, spell, size, Bytes, Valid}
+use Rattle.grammar.specs.Conventions.{field}
+use Rattle.grammar.specs.Rule.{Rule, numbered}
+use Rattle.grammar.specs.Laws.Layout.Read.{Got, got, no, bind, readNumber, read}
+use Rattle.grammar.specs.Laws.Layout.Check.{check}
 use Rattle.layout.specs.Reads.{forget, step, chain, peek, Reads}
-use Rattle.layout.specs.Laws.{number-spelt, complete, sound, digits-length, passes-exactly}
+use Rattle.grammar.specs.Laws.Layout.{number-spelt, complete, sound, digits-length, passes-exactly}
+use Rattle.grammar.specs.Laws.Layout.Spelt.{after}
 use Rattle.layout.specs.Steps.Slices.{drop-bytes}
-use Rattle.layout.specs.Laws.Binds.{bind-assoc, bind-pick}
-
--- what is left after the bytes xs at a place
-pub after : (s : List ℕ) (at : ℕ) (xs r : List ℕ) → drop at s ≡ xs ++ r → drop (at + length xs) s ≡ r
-after s at xs r e = sym (drop-drop (length xs) at s) ∙ rw e (drop-at xs r (length xs) refl)
+use Rattle.grammar.specs.Laws.Layout.Binds.{bind-assoc, bind-pick}
 
 pub step-spelt : (g : Layout) (t : Tree g) → Valid g t → (s : List ℕ) (at : ℕ) (r : List ℕ) → drop at s ≡ spell g t ++ r → step g s at ≡ Next (at + size g t)
 unfolding step size

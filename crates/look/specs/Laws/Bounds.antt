@@ -6,7 +6,7 @@ use Prim.Native.Nat.{ℕ, _≤_, max}
 use native.Mathlib.Omega.{arith}
 use lib.Dec.{eqb}
 use Rattle.sizes.specs.Sizes.{longest-look}
-use Rattle.layout.specs.Layout.{Layout, _▸_}
+use Rattle.grammar.specs.Layout.{Layout, _▸_}
 use Rattle.store.specs.Laws.Bounds.{AtMost, most, Bounded, at-most}
 use Rattle.look.specs.Look as grammar
 use Rattle.look.specs.Look.{TableLook}

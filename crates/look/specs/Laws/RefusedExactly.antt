@@ -1,4 +1,4 @@
--- `read_look` refuses exactly the bytes that are refused (Refused.antt), by that number and at that place.
+-- `read_look` refuses exactly the bytes that are refused (grammar's Look/Refused.antt), by that number and at that place.
 use mathlib.Core.Path.{_≡_, refl, sym, ap, _∙_}
 use mathlib.Core.Logic.{_↔_, _⊎_, inl, inr}
 use mathlib.Core.Bool.{Bool, true, false, _||_}
@@ -9,10 +9,11 @@ use native.Mathlib.Omega.{arith}
 use lib.ListN.{length, length-append}
 use lib.Dec.{eqb}
 use Rattle.sizes.specs.Sizes.{longest-look}
-use Rattle.layout.specs.Layout.{Tree, spell, Bytes, among, Derivation}
-use Rattle.layout.specs.Fails.{Spells, Fails}
-use Rattle.layout.specs.Read.{Got, got, no, read}
-use Rattle.layout.specs.Laws as laws
+use Rattle.sizes.specs.Basics.{among}
+use Rattle.grammar.specs.Layout.{Tree, spell, Bytes, Derivation}
+use Rattle.grammar.specs.Fails.{Spells, Fails}
+use Rattle.grammar.specs.Laws.Layout.Read.{Got, got, no, read}
+use Rattle.grammar.specs.Laws.Layout as laws
 use Rattle.fields.specs.Laws.Failing.{spell-most, fails-within, field-numbers, fails-numbers}
 use Rattle.look.specs.declared.Answer.{Answer}
 use Rattle.look.specs.declared.Answer.the-variants as answer

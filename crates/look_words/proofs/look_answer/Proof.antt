@@ -1,6 +1,6 @@
 use borrow.Author.Needs.{needs}
 use Rattle.sizes.specs.Sizes.{look-answer-words}
-use Rattle.layout.specs.Read.{read}
+use Rattle.grammar.specs.Laws.Layout.Read.{read}
 use Rattle.look.specs.Look.{TableLook}
 use Rattle.look.specs.Answers.{expected}
 use Rattle.look_words.specs.FieldWords.{answerWords}

@@ -7,11 +7,11 @@ use native.Mathlib.Omega.{arith}
 use lib.ListN.{length, length-append}
 use lib.Dec.{eqb}
 use Rattle.sizes.specs.Sizes.{longest-look}
-use Rattle.layout.specs.Layout.{Layout, empty, number, string, _▸_, times, leading, region, nothing, Tree, spellAll, spell, Bytes, All, all-none, all-more, Valid}
+use Rattle.grammar.specs.Layout.{Layout, empty, number, string, _▸_, times, leading, region, nothing, Tree, spellAll, spell, Bytes, All, all-none, all-more, Valid}
 use Rattle.layout.specs.Words.{word32}
 use Rattle.layout.specs.Laws.Words.{word-same}
-use Rattle.layout.specs.Read.{Got, got, no, read}
-use Rattle.layout.specs.Laws as laws
+use Rattle.grammar.specs.Laws.Layout.Read.{Got, got, no, read}
+use Rattle.grammar.specs.Laws.Layout as laws
 use Rattle.store.specs.Fields.{Text, lent, letters, Fields, placedAll, placed}
 use Rattle.fields.specs.Laws.Failing.{spell-most}
 use Rattle.look.specs.Look as grammar

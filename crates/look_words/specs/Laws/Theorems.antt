@@ -5,10 +5,10 @@ use Prim.Native.Nat.{ℕ}
 use native.Mathlib.Omega.{arith}
 use lib.ListN.{length, replicate, length-append}
 use Rattle.sizes.specs.Sizes.{look-words, look-answer-words}
-use Rattle.layout.specs.Layout.{Layout, _▸_, spellAll, Bytes}
+use Rattle.grammar.specs.Layout.{Layout, _▸_, spellAll, Bytes}
 use Rattle.layout.specs.Words.{word32}
 use Rattle.layout.specs.Laws.Words.{word-same}
-use Rattle.layout.specs.Read.{read}
+use Rattle.grammar.specs.Laws.Layout.Read.{read}
 use Rattle.store.specs.Fields.{Fields}
 use Rattle.look.specs.declared.Separator.{Separator}
 use Rattle.look.specs.declared.Separator.the-variants.{NotDrawn, Drawn}

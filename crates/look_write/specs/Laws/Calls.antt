@@ -9,7 +9,7 @@ use lib.Seq.{take-at, drop-at}
 use Rattle.sizes.specs.Sizes.{longest-look}
 use Rattle.layout.specs.declared.Step.{Step}
 use Rattle.layout.specs.declared.Step.the-variants.{Next, Refused}
-use Rattle.layout.specs.Read.{read}
+use Rattle.grammar.specs.Laws.Layout.Read.{read}
 use Rattle.store.specs.Check.{placeOf}
 use Rattle.look.specs.declared.Look.{Look}
 use Rattle.look.specs.declared.Answer.{Answer}

@@ -13,7 +13,8 @@ use Rattle.sizes.specs.Sizes.{longest-look}
 use Rattle.layout.specs.declared.Step.{Step}
 use Rattle.layout.specs.declared.Step.the-variants as step
 use Rattle.layout.specs.declared.Step.the-variants.{Next}
-use Rattle.layout.specs.Layout.{a-version, among, passes, pick}
+use Rattle.sizes.specs.Basics.{among, pick}
+use Rattle.grammar.specs.Layout.{a-version, passes}
 use Rattle.layout.specs.Reads.{chain}
 use Rattle.store.specs.Check.{check}
 use Rattle.store.specs.Check.{placeOf}

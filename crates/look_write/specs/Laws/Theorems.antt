@@ -12,10 +12,11 @@ use lib.Dec.{eqb, leb}
 use borrow.Author.Tests.{eqb-true, leb-true}
 use Rattle.layout.specs.declared.Step.{Step}
 use Rattle.layout.specs.declared.Step.the-variants.{Next, Refused}
-use Rattle.layout.specs.Layout.{Tree, spell, Bytes, Derivation, pick}
-use Rattle.layout.specs.Read.{Got, got, no, read}
-use Rattle.layout.specs.Laws as laws
-use Rattle.layout.specs.Laws.Tests.{and-is-true}
+use Rattle.sizes.specs.Basics.{pick}
+use Rattle.grammar.specs.Layout.{Tree, spell, Bytes, Derivation}
+use Rattle.grammar.specs.Laws.Layout.Read.{Got, got, no, read}
+use Rattle.grammar.specs.Laws.Layout as laws
+use Rattle.grammar.specs.Laws.Layout.Tests.{and-is-true}
 use Rattle.layout.specs.Reads.{chain}
 use Rattle.store.specs.Fields.{Fields, placed, bytesOf, textOf, resolve}
 use Rattle.store.specs.Check.{check}

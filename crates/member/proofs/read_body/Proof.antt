@@ -2,7 +2,7 @@ use mathlib.Core.Path.{refl}
 use native.Mathlib.Omega.{arith}
 use borrow.Author.Needs.{needs}
 use Rattle.layout.specs.Steps.Slices.{bytes-of}
-use Rattle.member.specs.Checked.{checked}
+use Rattle.grammar.specs.Laws.Member.Checked.{checked}
 use Rattle.member.specs.Laws.Whole.{no-dims, dims-later, no-tail, with-tail, none-stored}
 use Rattle.member.proofs.read_body.Statement.{statement}
 use Rattle.member.proofs.read_body.Tie as tie

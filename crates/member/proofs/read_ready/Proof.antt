@@ -1,7 +1,7 @@
 use mathlib.Core.Path.{refl}
 use borrow.Author.Needs.{needs}
 use Rattle.member.specs.Laws.Whole.{none-stored, enough-later}
-use Rattle.member.specs.Checked.{checked}
+use Rattle.grammar.specs.Laws.Member.Checked.{checked}
 use Rattle.member.proofs.read_ready.Statement.{statement}
 use Rattle.member.proofs.read_ready.Tie as tie
 

@@ -7,19 +7,20 @@ use native.Mathlib.Omega.{arith}
 use lib.ListN.{drop, length, length-append}
 use Rattle.layout.specs.declared.Step.{Step}
 use Rattle.layout.specs.declared.Step.the-variants.{Next, Refused}
-use Rattle.layout.specs.Layout.{little, Test, a-version, Tree, Bytes, passes, spell, pick, size}
-use Rattle.layout.specs.Conventions.{field}
-use Rattle.layout.specs.Read.{Got, got, no, refusal, bind, readNumber, read}
-use Rattle.layout.specs.Check.{check}
+use Rattle.sizes.specs.Basics.{pick}
+use Rattle.grammar.specs.Layout.{little, Test, a-version, Tree, Bytes, passes, spell, size}
+use Rattle.grammar.specs.Conventions.{field}
+use Rattle.grammar.specs.Laws.Layout.Read.{Got, got, no, refusal, bind, readNumber, read}
+use Rattle.grammar.specs.Laws.Layout.Check.{check}
 use Rattle.layout.specs.Reads.{Reads, chain, peek, numberOf}
-use Rattle.layout.specs.Laws.{digits-length}
-use Rattle.layout.specs.Laws.Binds.{bind-assoc}
+use Rattle.grammar.specs.Laws.Layout.{digits-length}
+use Rattle.grammar.specs.Laws.Layout.Binds.{bind-assoc}
 use Rattle.layout.specs.Steps.Spelt.{Read, read-on, read-off, stays-inside}
-use Rattle.sections.specs.Sections.{HeaderStart, versions}
+use Rattle.grammar.specs.Sections.{HeaderStart, versions}
 use Rattle.member.specs.declared.Head.{Head}
 use Rattle.member.specs.declared.Head.the-variants as head
-use Rattle.member.specs.Member.{Body, body-at}
-use Rattle.member.specs.Refused.{bodyRule, memberRule}
+use Rattle.grammar.specs.Member.{Body, body-at}
+use Rattle.grammar.specs.Refused.{bodyRule, memberRule}
 
 abbrev numberIn : Got (ℕ × Unit {0}) → ℕ
 numberIn (got t r p) = t .0

@@ -9,15 +9,16 @@ use lib.ListN.{length}
 use lib.Dec.{leb}
 use borrow.Author.Tests.{leb-true, leb-false}
 use Rattle.sizes.specs.Sizes.{member-bytes, node-words, cell-words, node-area, cell-area}
-use Rattle.layout.specs.Layout.{Tree, among, Bytes, pick}
-use Rattle.layout.specs.Read.{Got, got, no}
+use Rattle.sizes.specs.Basics.{among, pick}
+use Rattle.grammar.specs.Layout.{Tree, Bytes}
+use Rattle.grammar.specs.Laws.Layout.Read.{Got, got, no}
 use Rattle.member.specs.declared.Answer.{Answer}
-use Rattle.member.specs.Member.{Member, cells, nodes, MemberDerivation, AsDemanded, LargeEnough}
-use Rattle.member.specs.Refused.{Refused, too-long, inside, left, RefusedWith, by-bytes, few-node-words, few-cell-words}
-use Rattle.member.specs.Laws.RefusedBounds.{memberNumbers, number-among, place-inside}
-use Rattle.member.specs.Laws.RefusedExactly.{checked-exactly}
-use Rattle.member.specs.Checked.{checked}
-use Rattle.member.specs.Laws.Demanded.{accepted, derivation-checked, one-derivation}
+use Rattle.grammar.specs.Member.{Member, cells, nodes, MemberDerivation, AsDemanded, LargeEnough}
+use Rattle.grammar.specs.Refused.{Refused, too-long, inside, left, RefusedWith, by-bytes, few-node-words, few-cell-words}
+use Rattle.grammar.specs.Laws.Member.RefusedBounds.{memberNumbers, number-among, place-inside}
+use Rattle.grammar.specs.Laws.Member.RefusedExactly.{checked-exactly}
+use Rattle.grammar.specs.Laws.Member.Checked.{checked}
+use Rattle.grammar.specs.Laws.Member.Demanded.{accepted, derivation-checked, one-derivation}
 use Rattle.member.specs.Answer.{refusal, answerOf, nodesAfter, cellsAfter, Delivered}
 use Rattle.member.specs.Answer as answers
 use Rattle.member.specs.Demand3.{Accepted, Yields, NoRecords, Demand3}

@@ -6,14 +6,14 @@ use Prim.Native.Nat.{ℕ, zero, suc, _-_, _*_, _≤_}
 use lib.ListN.{length, drop}
 use lib.Dec.{leb}
 use Rattle.sizes.specs.Sizes.{node-words, cell-words}
-use Rattle.layout.specs.Layout.{Tree}
-use Rattle.layout.specs.Read.{Got, got, no}
+use Rattle.grammar.specs.Layout.{Tree}
+use Rattle.grammar.specs.Laws.Layout.Read.{Got, got, no}
 use Rattle.table.specs.Laws.Within.{needed, within, Scratch}
 use Rattle.table.specs.Laws.Dims.{node-records}
 use Rattle.cells.specs.Laws.Cells.{cell-records}
 use Rattle.member.specs.declared.Answer.{Answer}
-use Rattle.member.specs.Member.{Member, cells, nodes, nodeRecords, cellRecords}
-use Rattle.member.specs.Checked.{checked}
+use Rattle.grammar.specs.Member.{Member, cells, nodes, nodeRecords, cellRecords}
+use Rattle.grammar.specs.Laws.Member.Checked.{checked}
 use Rattle.member.specs.Answer.{refusal, accepted}
 
 -- lists of those lengths have room for the records of all that the bytes from the place `at` on can hold

@@ -12,27 +12,29 @@ use borrow.Author.Tests.{leb-true, leb-false, le-leb, lt-leb, eq-eqb, ne-eqb}
 use Rattle.sizes.specs.Sizes.{member-bytes, most-dimensions, most-cells, most-places, node-words, cell-words, dimension-words, node-area, cell-area, dimension-area, dimension-n}
 use Rattle.layout.specs.declared.Step.{Step}
 use Rattle.layout.specs.declared.Step.the-variants.{Next, Refused}
-use Rattle.layout.specs.Layout.{Tree, spell, passes, Bytes, Valid, pick, size}
-use Rattle.layout.specs.Read.{Got, got, no, bind, lead, read}
-use Rattle.layout.specs.Check.{check}
+use Rattle.sizes.specs.Basics.{pick}
+use Rattle.grammar.specs.Layout.{Tree, spell, passes, Bytes, Valid, size}
+use Rattle.grammar.specs.Laws.Layout.Read.{Got, got, no, bind, lead, read}
+use Rattle.grammar.specs.Laws.Layout.Check.{check}
 use Rattle.layout.specs.Reads.{Reads}
 use Rattle.layout.specs.Keeps.{Out, on, off, Keeps, keeps-on, keeps-off}
 use Rattle.layout.specs.Steps.Keeping.{Reached, kept-on, kept-off}
 use Rattle.layout.specs.Steps.Spelt.{Found, found-by, Read, read-on, read-off, stays-inside}
-use Rattle.layout.specs.Laws.Binds.{bind-assoc}
+use Rattle.grammar.specs.Laws.Layout.Binds.{bind-assoc}
 use Rattle.layout.specs.Words.{word32}
 use Rattle.layout.specs.Laws.Words.{word-same}
-use Rattle.sections.specs.Sections.{Front}
-use Rattle.once.specs.Once.{word}
-use Rattle.index.specs.Index.{sizes, product}
-use Rattle.table.specs.Table.{Dimension, Dimensions, Axes, Cell, Cells}
-use Rattle.table.specs.Records.{dimNodes, dimLeaves, dimEntry, dimsWords, dimsEntries, entryIndex, cellWords, rowsWords, axisEntries, dimsOf, axisLayers, axisRows, axisColumns, cellsOf}
-use Rattle.table.specs.Rules.{dimensionsRule, placesOf, countsRule, axesRule, cellsRule}
-use Rattle.table.specs.Laws.Lengths.{size-all}
-use Rattle.table.specs.Laws.LeastBytes.{cells-bytes, least-cell}
-use Rattle.table.specs.Laws.Words.{width-rows}
+use Rattle.grammar.specs.Sections.{Front}
+use Rattle.grammar.specs.RecordWords.{word, sizes}
+use Rattle.grammar.specs.Index.{product}
+use Rattle.grammar.specs.Table.{Dimension, Dimensions, Axes, Cell, Cells}
+use Rattle.grammar.specs.Records.{dimNodes, dimLeaves, dimEntry, dimsWords, dimsEntries, entryIndex, cellWords, rowsWords, axisEntries, dimsOf, axisLayers, axisRows, axisColumns, cellsOf}
+use Rattle.grammar.specs.Rules.{dimensionsRule, placesOf, countsRule, axesRule, cellsRule}
+use Rattle.grammar.specs.Laws.Table.Lengths.{size-all}
+use Rattle.grammar.specs.Laws.Table.LeastBytes.{cells-bytes, least-cell}
+use Rattle.grammar.specs.Laws.Table.Words.{width-rows}
 use Rattle.table.specs.Laws.Within.{needed, within, is-within, Scratch}
-use Rattle.table.specs.Laws.Dims.{Kept, kept, AllDims, width-dims, node-records, node-room, width-entries}
+use Rattle.table.specs.Laws.Dims.{Kept, kept, AllDims, node-records, node-room}
+use Rattle.grammar.specs.Laws.Table.Words.{width-dims, width-entries}
 use Rattle.cells.specs.declared.AxisCounts.the-variants as counts
 use Rattle.cells.specs.Laws.Axes.{Order, AllAxes}
 use Rattle.cells.specs.Laws.Cells.{AllCells, cell-records, cell-room}
@@ -40,12 +42,12 @@ use Rattle.member.specs.declared.Answer.{Answer}
 use Rattle.member.specs.declared.Head.{Head}
 use Rattle.member.specs.declared.Head.the-variants as head
 use Rattle.member.specs.declared.Tail.{Tail}
-use Rattle.member.specs.Member.{Member, version as memberVersion, body-at, dimensions, dimensionsAt, order, cells, nodes, cellsStart, nodeRecords, dimensionEntries, cellRecords, frontSection, dimensionsSection, axesSection}
-use Rattle.member.specs.Refused.{bodyRule, memberRule}
-use Rattle.member.specs.Checked.{ended, checked}
+use Rattle.grammar.specs.Member.{Member, version as memberVersion, body-at, dimensions, dimensionsAt, order, cells, nodes, cellsStart, nodeRecords, dimensionEntries, cellRecords, frontSection, dimensionsSection, axesSection}
+use Rattle.grammar.specs.Refused.{bodyRule, memberRule}
+use Rattle.grammar.specs.Laws.Member.Checked.{ended, checked}
 use Rattle.member.specs.Answer.{zeros, refusal, accepted, answerOf, nodesAfter, cellsAfter, Delivered}
 use Rattle.member.specs.Laws.IntoLists.{has-room, LongEnough, intoLists, Stored, all-stored, not-stored}
-use Rattle.member.specs.Laws.Demanded.{ended-got}
+use Rattle.grammar.specs.Laws.Member.Demanded.{ended-got}
 use Rattle.member.specs.Laws.Header.{Bound}
 
 -- ---- the end

@@ -1,5 +1,5 @@
 use borrow.Author.Needs.{needs}
-use Rattle.layout.specs.Layout.{pick}
+use Rattle.sizes.specs.Basics.{pick}
 use Rattle.members.specs.Members.{listRefusal}
 use Rattle.members.proofs.list_refusal.Statement.{statement}
 use Rattle.members.proofs.list_refusal.Tie as tie

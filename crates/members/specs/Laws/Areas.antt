@@ -5,7 +5,7 @@ use mathlib.Core.List.{List}
 use Prim.Native.Nat.{ℕ, _*_, _/_, _<_}
 use lib.ListN.{length, drop}
 use lib.Dec.{eqb}
-use Rattle.layout.specs.Layout.{pick}
+use Rattle.sizes.specs.Basics.{pick}
 use Rattle.members.specs.Members.{members, listRefusal, memberAt, shareOf, nodeShare, cellShare, cut, nodesThen, cellsThen}
 use Rattle.members.specs.Laws.Shares.{cut-share, cut-rest}
 use Rattle.members.specs.Laws.Reading.{node-share-length, cell-share-length}

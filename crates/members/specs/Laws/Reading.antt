@@ -8,18 +8,19 @@ use lib.ListN.{length, take, drop, length-append, length-drop, List·getD-eq-def
 use lib.Dec.{leb, eqb}
 use borrow.Author.Tests.{leb-true}
 use Rattle.sizes.specs.Sizes.{most-members, node-words, cell-words}
-use Rattle.layout.specs.Layout.{Tree, pick, size, spell, digits, le, spellAll, spellFill, passes, suits, among}
-use Rattle.layout.specs.Read.{Got, got, no, lead, read, refusal}
-use Rattle.layout.specs.Check.{check}
-use Rattle.layout.specs.Part.{partOf}
-use Rattle.sections.specs.Sections.{HeaderStart}
-use Rattle.table.specs.Records.{cellWords}
-use Rattle.table.specs.Table.{Cell}
-use Rattle.table.specs.Laws.Dims.{width-dims}
-use Rattle.table.specs.Laws.Words.{width-rows}
-use Rattle.member.specs.Member.{Member, version, dimensions, dimensionsAt, cells, cellsStart, nodes, nodeRecords, cellRecords}
-use Rattle.member.specs.Refused.{memberRule, bodyRule}
-use Rattle.member.specs.Checked.{ended, checked}
+use Rattle.sizes.specs.Basics.{pick, le, among}
+use Rattle.grammar.specs.Layout.{Tree, size, spell, digits, spellAll, spellFill, passes, suits}
+use Rattle.grammar.specs.Laws.Layout.Read.{Got, got, no, lead, read, refusal}
+use Rattle.grammar.specs.Laws.Layout.Check.{check}
+use Rattle.grammar.specs.Part.{partOf}
+use Rattle.grammar.specs.Sections.{HeaderStart}
+use Rattle.grammar.specs.Records.{cellWords}
+use Rattle.grammar.specs.Table.{Cell}
+use Rattle.grammar.specs.Laws.Table.Words.{width-dims}
+use Rattle.grammar.specs.Laws.Table.Words.{width-rows}
+use Rattle.grammar.specs.Member.{Member, version, dimensions, dimensionsAt, cells, cellsStart, nodes, nodeRecords, cellRecords}
+use Rattle.grammar.specs.Refused.{memberRule, bodyRule}
+use Rattle.grammar.specs.Laws.Member.Checked.{ended, checked}
 use Rattle.member.specs.Answer.{wide, long, nodesAfter, cellsAfter}
 use Rattle.members.specs.Members.{members, listRefusal, start, size as lengthOf, memberAt, shareOf, nodeShare, cellShare}
 use Rattle.members.specs.Laws.Shares.{share-inside, share-length}

@@ -7,7 +7,7 @@ use lib.ListN.{length, drop}
 use lib.Seq.{drop-drop}
 use lib.Dec.{leb}
 use Rattle.sizes.specs.Sizes.{answer-words, members-answer-words}
-use Rattle.layout.specs.Layout.{pick}
+use Rattle.sizes.specs.Basics.{pick}
 use Rattle.members.specs.Members.{members, listRefusal, shareOf, cut}
 use Rattle.members.specs.Laws.Shares.{cut-share}
 use Rattle.members.specs.Isolation.{SameOf, same-answer, same-nodes, same-cells}

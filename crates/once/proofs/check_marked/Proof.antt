@@ -4,9 +4,9 @@ use mathlib.Core.Path.{sym, ap, _∙_}
 use borrow.Author.Needs.{needs}
 use native.Mathlib.Omega.{arith}
 use Rattle.sizes.specs.Sizes.{most-nodes}
-use Rattle.once.specs.Once as spec
+use Rattle.grammar.specs.RecordWords as spec
+use mathlib.Core.Option.{some}
 use mathlib.Core.Logic.{⊎-elim}
-use Rattle.once.specs.declared.Verdict.the-variants.{Bad}
 use Rattle.once.proofs.Walk.{at-end, past-group}
 use Rattle.once.proofs.Marks.{Marking, unmarked, past-leaf, too-big, met-before}
 use Rattle.once.proofs.check_marked.Statement.{statement}
@@ -27,13 +27,13 @@ check-marked-spec =
     let l = a .before .before in
     let end = l .before .before .before .at-most .ensures in
     let z = sym (a .word .ensures) ∙ c .before .before .before .if1 .taken in
-    ap Bad (c .index-place .ensures) ∙ too-big (l .loop .inv .1) (omega arith) z _ (c .before .before .word2 .ensures) (omega (arith, end)))
+    ap some (c .index-place .ensures) ∙ too-big (l .loop .inv .1) (omega arith) z _ (c .before .before .word2 .ensures) (omega (arith, end)))
     (λ c. omega arith) (λ c κs. omega arith)
     (λ c.
     let a = c .before .before .before .before .before in
     let l = a .before .before in
     let z = sym (a .word .ensures) ∙ c .before .before .before .before .if1 .taken in
-    ap Bad (c .index-place2 .ensures)
+    ap some (c .index-place2 .ensures)
     ∙ met-before (l .loop .inv .1) (omega arith) z _ (c .before .before .before .word2 .ensures) (omega arith) (c .before .if3 .taken))
     (λ c. omega arith) (λ c. omega arith) (λ c. omega arith) (λ c. omega arith)
     (λ c.

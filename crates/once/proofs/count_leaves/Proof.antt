@@ -4,7 +4,7 @@ use mathlib.Core.Path.{_≡_, sym, ap, _∙_}
 use native.Mathlib.Omega.{arith}
 use lib.ListN.{length}
 use Rattle.sizes.specs.Sizes.{most-nodes}
-use Rattle.once.specs.Once as spec
+use Rattle.grammar.specs.RecordWords as spec
 use mathlib.Core.Logic.{⊎-elim}
 use native.Mathlib.Nat.{zero-add}
 use Rattle.once.proofs.Walk.{at-leaf, at-group}

@@ -9,7 +9,7 @@ use native.Mathlib.Nat.{zero-add}
 use native.Mathlib.Omega.{arith}
 use lib.ListN.{length}
 use Rattle.sizes.specs.Sizes.{most-nodes, node-words}
-use Rattle.once.specs.Once as spec
+use Rattle.grammar.specs.RecordWords as spec
 use Rattle.once.proofs.Walk.{at-leaf, at-group, at-end, past-group}
 use Rattle.once.proofs.Ordered.{Ordered, none-seen, past-leaf}
 use Rattle.once.proofs.in_order.Statement.{statement}

@@ -1,7 +1,7 @@
 -- Two words and what stands between.
 use borrow.Author.Needs.{needs}
 use native.Mathlib.Omega.{arith}
-use Rattle.once.specs.Once as spec
+use Rattle.grammar.specs.RecordWords as spec
 use Rattle.once.proofs.index_place.Statement.{statement}
 use Rattle.once.proofs.index_place.Tie as tie
 

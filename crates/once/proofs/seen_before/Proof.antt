@@ -4,8 +4,8 @@ use mathlib.Core.Path.{_≡_, sym, _∙_}
 use borrow.Author.Needs.{needs}
 use native.Mathlib.Omega.{arith}
 use Rattle.sizes.specs.Sizes.{most-cells, node-words}
-use Rattle.layout.specs.Layout.{among}
-use Rattle.once.specs.Once as spec
+use Rattle.sizes.specs.Basics.{among}
+use Rattle.grammar.specs.RecordWords as spec
 use native.Mathlib.Nat.{mul-le-mul}
 use mir.Facts.{fits-le, fits-lit}
 use Rattle.once.proofs.Walk.{at-first, found, passed}

@@ -2,7 +2,7 @@
 use mathlib.Core.Path.{refl, sym}
 use borrow.Author.Needs.{needs}
 use lib.ListN.{List·getD-eq-default}
-use Rattle.once.specs.Once as spec
+use Rattle.grammar.specs.RecordWords as spec
 use Rattle.once.proofs.word.Statement.{statement}
 use Rattle.once.proofs.word.Tie as tie
 

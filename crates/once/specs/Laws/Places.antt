@@ -15,8 +15,8 @@ use lib.Dec.{eqb, ltb}
 use lib.ListN.{length, getD, set, replicate, length-replicate}
 use lib.Seq.{getD-set-same, getD-set-other}
 use Rattle.sizes.specs.Sizes.{most-cells}
-use Rattle.layout.specs.Layout.{pick}
-use Rattle.once.specs.Repeat.{Before}
+use Rattle.sizes.specs.Basics.{pick}
+use Rattle.grammar.specs.Repeat.{Before}
 
 -- ---- slots
 

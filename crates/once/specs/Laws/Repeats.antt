@@ -1,32 +1,20 @@
--- The laws of the first repeat: there is only one, and what stands before a place is among the first words before it.
+-- The laws by which the first repeat is found: what stands before a place is among the first words before it. There is one (`grammar`).
 use mathlib.Core.Path.{_≡_, refl, sym, _∙_}
 use mathlib.Core.Bool.{Bool, true, false, false≢true, not, _||_}
 use mathlib.Core.List.{List, [], _∷_}
 use Prim.Native.Nat.{ℕ, zero, suc, _+_, _*_, _≤_, _<_}
 use native.Mathlib.Omega.{arith}
 use native.Mathlib.Numerals.{add-one}
-use borrow.Author.Tests.{eqb-true, eqb-false, eq-eqb, ne-eqb, ltb-true, ltb-false, not-true}
+use borrow.Author.Tests.{eqb-true, eqb-false, eq-eqb, ne-eqb, not-true}
 use borrow.Author.Count.{below-more}
-use lib.Dec.{eqb, ltb}
+use lib.Dec.{eqb}
 use lib.ListN.{getD, set}
-use Rattle.layout.specs.Layout.{among}
-use Rattle.once.specs.Once.{word, firsts}
+use Rattle.sizes.specs.Basics.{among}
+use Rattle.grammar.specs.RecordWords.{word, firsts}
 use Rattle.once.specs.Laws.Marks.{Marks, marked}
-use Rattle.once.specs.Repeat.{strided, Before, FirstRepeat, Answered}
+use Rattle.grammar.specs.Repeat.{strided, Before, FirstRepeat, Answered}
 
 -- ---- one answer
-
-not-later : {w : ℕ → ℕ} {m a b : ℕ} → FirstRepeat w m a → FirstRepeat w m b → a < b → ⊥
-not-later {w} {m} {a} {b} f g h = g .new a h (f .there (omega (arith, g .within)))
-
-by-order : {w : ℕ → ℕ} {m a b : ℕ} → FirstRepeat w m a → FirstRepeat w m b → (s t : Bool) → ltb a b ≡ s → ltb b a ≡ t → a ≡ b
-by-order {w} {m} {a} {b} f g true t e e′ = absurd (not-later f g (ltb-true a b e))
-by-order {w} {m} {a} {b} f g false true e e′ = absurd (not-later g f (ltb-true b a e′))
-by-order {w} {m} {a} {b} f g false false e e′ = omega (arith, ltb-false a b e, ltb-false b a e′)
-
--- One: two answers are the same
-pub one-first : {w : ℕ → ℕ} {m a b : ℕ} → FirstRepeat w m a → FirstRepeat w m b → a ≡ b
-one-first {w} {m} {a} {b} f g = by-order f g (ltb a b) (ltb b a) refl refl
 
 -- More: an answer stays one where more steps were taken, and more are allowed
 pub allowed : {w : ℕ → ℕ} {m limit limit′ at steps steps′ : ℕ}

@@ -3,7 +3,7 @@ use Prim.Native.Nat.{_+_, _-_, _≤_}
 use mathlib.Core.Path.{_≡_, _∙_}
 use native.Mathlib.Omega.{arith}
 use lib.ListN.{length}
-use Rattle.once.specs.Once.{word}
+use Rattle.grammar.specs.RecordWords.{word}
 use Rattle.position.specs.Axes.{positionOn, coordinateOn, part}
 use Rattle.position.specs.Answers.{along}
 use Rattle.position.specs.Laws.Table.{down}

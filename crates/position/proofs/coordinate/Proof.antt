@@ -6,7 +6,7 @@ use native.Mathlib.Omega.{arith}
 use lib.Dec.{lit≤}
 use lib.ListN.{length}
 use Rattle.sizes.specs.Sizes.{most-places}
-use Rattle.once.specs.Once.{word}
+use Rattle.grammar.specs.RecordWords.{word}
 use Rattle.position.specs.Axes.{coordinateOn}
 use Rattle.position.specs.Laws.Table.{down}
 use Rattle.position.proofs.Fronts.{down-front}

@@ -5,7 +5,7 @@ use mathlib.Core.List.{[], _∷_}
 use native.Mathlib.Omega.{arith}
 use lib.ListN.{length, getD-replicate}
 use Rattle.sizes.specs.Sizes.{most-dimensions}
-use Rattle.once.specs.Once.{word}
+use Rattle.grammar.specs.RecordWords.{word}
 use Rattle.position.specs.Axes.{positionOn, coordinateAt, axesOf}
 use Rattle.position.specs.Laws.Table.{down, index-down}
 use Rattle.position.specs.Laws.Accepted.{first-small, layers, rows, columns}

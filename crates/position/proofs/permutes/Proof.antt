@@ -6,7 +6,7 @@ use native.Mathlib.Nat.{sub-zero}
 use native.Mathlib.Omega.{arith}
 use borrow.Author.Needs.{needs}
 use Rattle.sizes.specs.Sizes.{most-dimensions}
-use Rattle.once.specs.Once.{word}
+use Rattle.grammar.specs.RecordWords.{word}
 use Rattle.once.specs.Laws.Marks.{Marks, no-marks, marked}
 use Rattle.position.specs.Axes.{part}
 use Rattle.position.specs.Answers.{onceEach}

@@ -6,7 +6,7 @@ use native.Mathlib.Nat.{one-mul}
 use lib.Dec.{lit≤}
 use lib.ListN.{length, drop, drop-of-length-le}
 use Rattle.sizes.specs.Sizes.{most-places}
-use Rattle.index.specs.Index.{product}
+use Rattle.grammar.specs.Index.{product}
 use Rattle.position.proofs.Fronts.{n-front}
 use Rattle.position.proofs.Steps.{one-factor, no-factor}
 use Rattle.position.proofs.places.Statement.{statement}

@@ -1,6 +1,6 @@
 -- Each way out gives the number that the specification gives there.
 use native.Mathlib.Omega.{arith}
-use Rattle.layout.specs.Layout.{pick}
+use Rattle.sizes.specs.Basics.{pick}
 use Rattle.position.proofs.Answering.{many, large, uneven, unlike, settled}
 use Rattle.position.proofs.refusal.Statement.{statement}
 use Rattle.position.proofs.refusal.Tie as tie

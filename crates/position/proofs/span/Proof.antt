@@ -6,8 +6,8 @@ use native.Mathlib.Omega.{arith}
 use native.Mathlib.Nat.{one-mul}
 use lib.Dec.{lit≤}
 use Rattle.sizes.specs.Sizes.{most-dimensions, most-places}
-use Rattle.once.specs.Once.{word}
-use Rattle.index.specs.Index.{product}
+use Rattle.grammar.specs.RecordWords.{word}
+use Rattle.grammar.specs.Index.{product}
 use Rattle.position.specs.Axes.{part}
 use Rattle.position.specs.Answers.{spanOf}
 use Rattle.position.proofs.Fronts.{part-front}

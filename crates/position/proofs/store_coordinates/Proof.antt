@@ -5,8 +5,8 @@ use mathlib.Core.List.{List, [], _∷_}
 use native.Mathlib.Omega.{arith}
 use lib.ListN.{length, getD, length-set}
 use Rattle.sizes.specs.Sizes.{most-dimensions}
-use Rattle.layout.specs.Layout.{among, pick}
-use Rattle.once.specs.Once.{word}
+use Rattle.sizes.specs.Basics.{among, pick}
+use Rattle.grammar.specs.RecordWords.{word}
 use Rattle.position.specs.Axes.{part}
 use Rattle.position.specs.Laws.Turned.{placed}
 use Rattle.position.specs.Laws.Accepted.{Axis, axis-later}

@@ -10,11 +10,13 @@ use borrow.Author.Tests.{eqb-true, eq-eqb, ltb-false, le-ltb}
 use lib.Dec.{eqb, ltb}
 use lib.ListN.{length, getD}
 use Rattle.sizes.specs.Sizes.{most-dimensions, most-places}
-use Rattle.layout.specs.Layout.{among, pick, all-none}
-use Rattle.layout.specs.Laws.Tests.{and-is-true}
-use Rattle.once.specs.Once.{word, fresh, Distinct, OnceEach}
-use Rattle.once.specs.Laws.{one-more}
-use Rattle.index.specs.Index.{product, coordinate}
+use Rattle.sizes.specs.Basics.{among, pick}
+use Rattle.grammar.specs.Layout.{all-none}
+use Rattle.grammar.specs.Laws.Layout.Tests.{and-is-true}
+use Rattle.grammar.specs.RecordWords.{word}
+use Rattle.grammar.specs.Once.{fresh, Distinct, OnceEach}
+use Rattle.grammar.specs.Laws.Once.{one-more}
+use Rattle.grammar.specs.Index.{product, coordinate}
 use Rattle.position.specs.Axes.{positionOn, coordinateOn, coordinateAt, part, axesOf}
 use Rattle.position.specs.Answers.{onceEach, tooLarge, axesMatch, refusal}
 use Rattle.position.specs.Laws.Among.{on-first, on-later, parted}

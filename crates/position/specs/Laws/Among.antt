@@ -5,9 +5,10 @@ use mathlib.Core.List.{List, [], _∷_, _++_}
 use Prim.Native.Nat.{ℕ}
 use borrow.Author.Tests.{eqb-true, eq-eqb, ne-eqb}
 use lib.Dec.{eqb}
-use Rattle.layout.specs.Layout.{among, All, all-none, all-more}
-use Rattle.layout.specs.Laws.Tests.{or-is-false}
-use Rattle.once.specs.Once.{Distinct}
+use Rattle.sizes.specs.Basics.{among}
+use Rattle.grammar.specs.Layout.{All, all-none, all-more}
+use Rattle.grammar.specs.Laws.Layout.Tests.{or-is-false}
+use Rattle.grammar.specs.Once.{Distinct}
 
 -- ---- one list
 

@@ -7,9 +7,9 @@ use native.Mathlib.Nat.{zero-mul, mul-comm, mul-le-mul-left, mul-suc, mod-lt, di
 use native.Mathlib.Omega.{arith}
 use borrow.Author.Tests.{eq-eqb}
 use lib.Dec.{eqb}
-use Rattle.layout.specs.Layout.{among, pick}
-use Rattle.once.specs.Once.{Distinct}
-use Rattle.index.specs.Index.{product}
+use Rattle.sizes.specs.Basics.{among, pick}
+use Rattle.grammar.specs.Once.{Distinct}
+use Rattle.grammar.specs.Index.{product}
 use Rattle.position.specs.Axes.{positionOn, span, coordinateOn}
 use Rattle.position.specs.Laws.Among.{none-among, first-among, later-among, first-or-later, apart}
 

@@ -7,9 +7,9 @@ use native.Mathlib.Nat.{one-mul, mul-comm, mul-assoc, mul-le-mul}
 use native.Mathlib.Omega.{arith}
 use borrow.Author.Tests.{eqb-true, eqb-false, ne-eqb}
 use lib.Dec.{eqb}
-use Rattle.layout.specs.Layout.{among, pick}
-use Rattle.once.specs.Once.{Distinct}
-use Rattle.index.specs.Index.{product}
+use Rattle.sizes.specs.Basics.{among, pick}
+use Rattle.grammar.specs.Once.{Distinct}
+use Rattle.grammar.specs.Index.{product}
 use Rattle.position.specs.Axes.{span}
 use Rattle.position.specs.Laws.Among.{first-among, later-among}
 use Rattle.position.specs.Laws.Axis.{coordinate-inside}

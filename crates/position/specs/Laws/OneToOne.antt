@@ -9,10 +9,10 @@ use native.Mathlib.Omega.{arith}
 use borrow.Author.Tests.{eqb-true, eqb-false, ltb-true, lt-ltb, le-ltb}
 use lib.Dec.{eqb, ltb}
 use lib.ListN.{length, getD}
-use Rattle.layout.specs.Layout.{pick}
-use Rattle.layout.specs.Laws.Tests.{and-is-true}
-use Rattle.once.specs.Once.{word}
-use Rattle.index.specs.Index.{product, coordinate}
+use Rattle.sizes.specs.Basics.{pick}
+use Rattle.grammar.specs.Laws.Layout.Tests.{and-is-true}
+use Rattle.grammar.specs.RecordWords.{word}
+use Rattle.grammar.specs.Index.{product, coordinate}
 use Rattle.position.specs.declared.Position.{Position}
 use Rattle.position.specs.declared.CellIndex.{CellIndex}
 use Rattle.position.specs.Axes.{positions, coordinateAt, axesOf, indexAt}

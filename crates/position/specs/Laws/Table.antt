@@ -9,10 +9,12 @@ use native.Mathlib.Omega.{arith}
 use borrow.Author.Tests.{eqb-false}
 use lib.Dec.{eqb}
 use lib.ListN.{length, getD, List·getD-map}
-use Rattle.layout.specs.Layout.{among, All, all-none, all-more}
-use Rattle.once.specs.Once.{word, Distinct}
-use Rattle.index.specs.Index.{product, index-from, index, coordinates, coordinate}
-use Rattle.index.specs.Laws.Coordinates.{coordinates-shape, index-of-coordinates, coordinate-of, coordinate-below}
+use Rattle.sizes.specs.Basics.{among}
+use Rattle.grammar.specs.Layout.{All, all-none, all-more}
+use Rattle.grammar.specs.RecordWords.{word}
+use Rattle.grammar.specs.Once.{Distinct}
+use Rattle.grammar.specs.Index.{product, index-from, index, coordinates, coordinate}
+use Rattle.grammar.specs.Laws.Index.Coordinates.{coordinates-shape, index-of-coordinates, coordinate-of, coordinate-below}
 use Rattle.position.specs.Axes.{positionOn, span, coordinateOn, positions, coordinateAt, turned, pairs, indexAt}
 use Rattle.position.specs.Laws.Among.{none-among, first-or-later}
 use Rattle.position.specs.Laws.Axis.{Inside, Same, coordinate-position}

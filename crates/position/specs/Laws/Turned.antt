@@ -4,9 +4,9 @@ use mathlib.Core.Bool.{true, false}
 use mathlib.Core.List.{List, [], _∷_, _++_}
 use Prim.Native.Nat.{ℕ, _<_}
 use lib.ListN.{length, getD}
-use Rattle.layout.specs.Layout.{among, pick}
-use Rattle.once.specs.Once.{Distinct, OnceEach}
-use Rattle.once.specs.Laws.{each-there}
+use Rattle.sizes.specs.Basics.{among, pick}
+use Rattle.grammar.specs.Once.{Distinct, OnceEach}
+use Rattle.grammar.specs.Laws.Once.{each-there}
 use Rattle.position.specs.Axes.{positionOn, span, coordinateOn, positions, coordinateAt, turned}
 use Rattle.position.specs.Laws.Among.{none-among, all-at, on-first, on-later, on-one, parted}
 use Rattle.position.specs.Laws.Axis.{Inside, Same, position-below, position-same, coordinate-inside, position-coordinate, coordinate-position}

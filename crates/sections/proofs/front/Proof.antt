@@ -1,4 +1,4 @@
-use Rattle.sections.specs.Sections.{Front}
+use Rattle.grammar.specs.Sections.{Front}
 use Rattle.layout.specs.Steps.{reads}
 use Rattle.sections.proofs.front.Statement.{statement}
 use Rattle.sections.proofs.front.Tie as tie

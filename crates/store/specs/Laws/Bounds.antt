@@ -8,7 +8,8 @@ use lib.ListN.{length}
 use lib.Dec.{eqb}
 use Rattle.layout.specs.declared.Step.{Step}
 use Rattle.layout.specs.declared.Step.the-variants.{Next, Refused}
-use Rattle.layout.specs.Layout.{Order, Test, Content, any-bytes, Layout, empty, number, string, _▸_, times, leading, region, nothing, All, all-none, all-more, pick}
+use Rattle.sizes.specs.Basics.{pick}
+use Rattle.grammar.specs.Layout.{Order, Test, Content, any-bytes, Layout, empty, number, string, _▸_, times, leading, region, nothing, All, all-none, all-more}
 use Rattle.layout.specs.Reads.{chain, verdict}
 use Rattle.store.specs.Fields.{Text, Fields, textOf}
 use Rattle.store.specs.Check.{placeOf, judged, checkAll, check}

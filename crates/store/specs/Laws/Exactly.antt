@@ -10,8 +10,9 @@ use lib.ListN.{length, length-append, length-replicate}
 use lib.Dec.{eqb}
 use Rattle.layout.specs.declared.Step.{Step}
 use Rattle.layout.specs.declared.Step.the-variants.{Next, Refused}
-use Rattle.layout.specs.Layout.{Order, Test, passes, Content, Fill, exact, optional, open-ended, Layout, empty, number, string, _▸_, times, leading, region, nothing, spellAll, spellFill, spell, all-none, all-more, pick}
-use Rattle.layout.specs.Laws as laws
+use Rattle.sizes.specs.Basics.{pick}
+use Rattle.grammar.specs.Layout.{Order, Test, passes, Content, Fill, exact, optional, open-ended, Layout, empty, number, string, _▸_, times, leading, region, nothing, spellAll, spellFill, spell, all-none, all-more}
+use Rattle.grammar.specs.Laws.Layout as laws
 use Rattle.layout.specs.Reads.{chain, verdict}
 use Rattle.layout.specs.Steps.Numbers.{broken}
 use Rattle.store.specs.Fields.{Text, FieldsIn, Fields, textOf, resolveAll, resolveIn, resolve, bytesIn, contentIn}

@@ -11,9 +11,10 @@ use lib.Dec.{eqb, leb}
 use borrow.Author.Tests.{leb-true, le-leb}
 use Rattle.layout.specs.declared.Step.{Step}
 use Rattle.layout.specs.declared.Step.the-variants.{Next, Refused}
-use Rattle.layout.specs.Layout.{Order, Fill, exact, optional, open-ended, Layout, empty, number, string, _▸_, times, leading, region, nothing, digits, spellAll, spellFill, spell, pick}
-use Rattle.layout.specs.Numbers.{too-short}
-use Rattle.layout.specs.Laws as laws
+use Rattle.sizes.specs.Basics.{pick}
+use Rattle.grammar.specs.Layout.{Order, Fill, exact, optional, open-ended, Layout, empty, number, string, _▸_, times, leading, region, nothing, digits, spellAll, spellFill, spell}
+use Rattle.grammar.specs.Numbers.{too-short}
+use Rattle.grammar.specs.Laws.Layout as laws
 use Rattle.layout.specs.Reads.{chain, verdict}
 use Rattle.store.specs.Fields.{FieldsIn, Fields, textOf, resolveAll, resolveIn, resolve, bytesIn, contentIn}
 use Rattle.store.specs.Put.{State, stored, fitted, putField, textVerdict, freeVerdict, runVerdict, opened, closed, putAll, putIn, put}

@@ -12,11 +12,12 @@ use lib.Dec.{eqb, leb}
 use borrow.Author.Tests.{eq-eqb, eqb-true, le-leb, lt-leb, leb-true}
 use Rattle.layout.specs.declared.Step.{Step}
 use Rattle.layout.specs.declared.Step.the-variants.{Next, Refused}
-use Rattle.layout.specs.Layout.{Order, big, Bytes, Content, Test, any-number, the-number, a-bool, passes, exact, Layout, empty, number, string, _▸_, times, region, digits, spellFill, all-none, all-more, pick, undigits}
-use Rattle.layout.specs.Numbers.{too-short}
+use Rattle.sizes.specs.Basics.{pick}
+use Rattle.grammar.specs.Layout.{Order, big, Bytes, Content, Test, any-number, the-number, a-bool, passes, exact, Layout, empty, number, string, _▸_, times, region, digits, spellFill, all-none, all-more, undigits}
+use Rattle.grammar.specs.Numbers.{too-short}
 use Rattle.layout.specs.Reads.{verdict}
-use Rattle.layout.specs.Laws.{digits-length}
-use Rattle.layout.specs.Laws.Spelt.{digits-of, letters-lt}
+use Rattle.grammar.specs.Laws.Layout.{digits-length}
+use Rattle.grammar.specs.Laws.Layout.Spelt.{digits-of, letters-lt}
 use Rattle.store.specs.Values.{bit}
 use Rattle.store.specs.Fields.{Text, Fields, textOf, resolveIn, bytesIn, contentIn}
 use Rattle.store.specs.Put.{State, stored, fitted, putField, textVerdict, opened, closed, putAll, putIn, put, putWords}

@@ -8,8 +8,8 @@ use native.Mathlib.Omega.{arith}
 use lib.ListN.{length, drop, replicate, length-append, length-drop, length-replicate}
 use lib.Seq.{take-at, drop-at, drop-drop}
 use Rattle.layout.specs.declared.Step.the-variants.{Next}
-use Rattle.layout.specs.Layout.{Order, Fill, exact, optional, open-ended, Filled, Layout, empty, number, string, _▸_, times, leading, region, nothing, Tree, digits, spellAll, spellFill, spell, Bytes, All, all-none, all-more, ValidFill, Valid}
-use Rattle.layout.specs.Laws as laws
+use Rattle.grammar.specs.Layout.{Order, Fill, exact, optional, open-ended, Filled, Layout, empty, number, string, _▸_, times, leading, region, nothing, Tree, digits, spellAll, spellFill, spell, Bytes, All, all-none, all-more, ValidFill, Valid}
+use Rattle.grammar.specs.Laws.Layout as laws
 use Rattle.layout.specs.Steps.Slices.{drop-bytes, take-bytes}
 use Rattle.store.specs.Fields.{Text, lent, letters, FieldsIn, Fields, placedAll, placedIn, placed, bytesOf, textOf, resolveAll, resolveIn, resolve, bytesIn, contentIn}
 use Rattle.store.specs.Unwritable.{WritableIn, Writable}

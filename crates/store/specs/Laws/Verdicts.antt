@@ -8,8 +8,9 @@ use lib.ListN.{length, drop, length-drop}
 use lib.Seq.{length-take-le}
 use lib.Dec.{eqb, leb, ltb}
 use borrow.Author.Tests.{leb-true, leb-false, ltb-true, ltb-false}
-use Rattle.layout.specs.Layout.{Test, passes, Content, suits, pick}
-use Rattle.layout.specs.Numbers.{refusal, too-short, zero-byte, differs, limit-passed}
+use Rattle.sizes.specs.Basics.{pick}
+use Rattle.grammar.specs.Layout.{Test, passes, Content, suits}
+use Rattle.grammar.specs.Numbers.{refusal, too-short, zero-byte, differs, limit-passed}
 use Rattle.layout.specs.Reads.{verdict}
 use Rattle.layout.specs.Steps.Numbers.{broken}
 use Rattle.store.specs.Fields.{Text, lent, letters, bytesOf, textOf}

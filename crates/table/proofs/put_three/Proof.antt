@@ -3,7 +3,7 @@ use mathlib.Core.List.{[], _∷_}
 use native.Mathlib.Omega.{arith}
 use lib.ListN.{length-set}
 use borrow.Author.Needs.{needs}
-use Rattle.table.specs.Laws.Words.{three-sets, sets-past}
+use Rattle.grammar.specs.Laws.Table.Words.{three-sets, sets-past}
 use Rattle.table.proofs.put_three.Statement.{statement}
 use Rattle.table.proofs.put_three.Tie as tie
 

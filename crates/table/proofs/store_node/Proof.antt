@@ -4,7 +4,7 @@ use native.Mathlib.Omega.{arith}
 use lib.ListN.{length-set}
 use borrow.Author.Needs.{needs}
 use Rattle.sizes.specs.Sizes.{node-words}
-use Rattle.table.specs.Laws.Words.{seven-sets, sets-then}
+use Rattle.grammar.specs.Laws.Table.Words.{seven-sets, sets-then}
 use Rattle.table.proofs.store_node.Statement.{statement}
 use Rattle.table.proofs.store_node.Tie as tie
 

@@ -1,5 +1,6 @@
 -- What the readers of dimensions keep: the number of dimensions and of nodes so far, their node words and their entries.
 use mathlib.Core.Path.{_≡_, refl, sym, ap, _∙_, subst}
+use mathlib.Core.Option.{Option, none, some}
 use mathlib.Core.List.{List, [], _∷_, append-assoc}
 use Prim.Native.Nat.{ℕ, _+_, _-_, _*_, _≤_, _<_, min}
 use native.Mathlib.Omega.{arith}
@@ -8,38 +9,38 @@ use lib.Seq.{sets}
 use Rattle.sizes.specs.Sizes.{member-bytes, most-nodes, category-depth, node-words, dimension-words, no-parent}
 use Rattle.layout.specs.declared.Step.{Step}
 use Rattle.layout.specs.declared.Step.the-variants.{Next, Refused}
-use Rattle.layout.specs.Layout.{little, Layout, _▸_, times, Tree, spell, passes, Bytes, pick, size}
-use Rattle.layout.specs.Conventions.{int32}
-use Rattle.layout.specs.Read.{Got, got, no, bind, read}
-use Rattle.layout.specs.Rule.{Rule, items}
-use Rattle.layout.specs.Check.{judge, check}
+use Rattle.sizes.specs.Basics.{pick}
+use Rattle.grammar.specs.Layout.{little, Layout, _▸_, times, Tree, spell, passes, Bytes, size}
+use Rattle.grammar.specs.Conventions.{int32}
+use Rattle.grammar.specs.Laws.Layout.Read.{Got, got, no, bind, read}
+use Rattle.grammar.specs.Rule.{Rule, items}
+use Rattle.grammar.specs.Laws.Layout.Check.{judge, check}
 use Rattle.layout.specs.Reads.{Reads, chain, peek}
 use Rattle.layout.specs.Keeps.{Out, on, off, Keeps, keeps-on, keeps-off, Each, each-none, each-more}
-use Rattle.layout.specs.Laws.{digits-length}
+use Rattle.grammar.specs.Laws.Layout.{digits-length}
 use Rattle.layout.specs.Steps.Chain.{_◂_}
 use Rattle.layout.specs.Steps.Keeping.{kept-on, kept-off, Going, going, goes-on, goes-no, goes-to}
 use Rattle.layout.specs.Steps.Spelt.{step-spelt, Found, found-by, Read, read-on, read-off, ends-inside, stays-inside, peeked}
-use Rattle.layout.specs.Laws.Binds.{bind-assoc}
+use Rattle.grammar.specs.Laws.Layout.Binds.{bind-assoc}
 use Rattle.layout.specs.Words.{word32}
 use Rattle.layout.specs.Laws.Words.{word-same}
-use Rattle.value.specs.Value.{Value}
-use Rattle.once.specs.declared.Verdict.{Verdict}
-use Rattle.once.specs.declared.Verdict.the-variants.{Fine, Bad}
-use Rattle.once.specs.Once.{Leaf, leaves, firstBad}
+use Rattle.grammar.specs.Value.{Value}
+use Rattle.grammar.specs.RecordWords.{leaves}
+use Rattle.grammar.specs.Once.{Leaf, firstBad}
 use Rattle.table.specs.declared.Walk.{Walk}
 use Rattle.table.specs.declared.Walk.the-variants as walk
 use Rattle.table.specs.declared.Section.{Section}
 use Rattle.table.specs.declared.Section.the-variants as section
-use Rattle.table.specs.Table.{DimProperties, Dimension, Dimensions, Category}
-use Rattle.table.specs.Records.{sum, nodes, treeWords, dimNodes, dimWords, dimEntry, dimsWords, dimsEntries, dimOwn, dimCategories, dimsOf, dimRecord}
-use Rattle.table.specs.Rules.{categoriesRule, leavesOf, placeOf, dimensionRule}
+use Rattle.grammar.specs.Table.{DimProperties, Dimension, Dimensions, Category}
+use Rattle.grammar.specs.Records.{sum, dimNodes, dimWords, dimEntry, dimsWords, dimsEntries, dimsOf, dimRecord}
+use Rattle.grammar.specs.Rules.{categoriesRule, leavesOf, dimensionRule}
 use Rattle.table.specs.Laws.Within.{needed, Room, RecordSizes}
-use Rattle.table.specs.Laws.Words.{sets-append, width-all, width-tree}
-use Rattle.table.specs.Laws.Lengths.{size-dimension}
-use Rattle.table.specs.Laws.LeastBytes.{categories-bytes, least-category}
-use Rattle.table.specs.Laws.KeptTable.{leaf-count}
+use Rattle.grammar.specs.Laws.Table.Words.{sets-append, width-dim}
+use Rattle.grammar.specs.Laws.Table.Lengths.{size-dimension}
+use Rattle.grammar.specs.Laws.Table.LeastBytes.{categories-bytes, least-category}
+use Rattle.grammar.specs.Laws.Table.KeptTable.{leaf-count}
 use Rattle.table.specs.Laws.Nodes.{Node, Nodes, all-nodes}
-use Rattle.table.specs.Laws.Leaves.{leaves-same, few-leaves, further, further-leaves, further-length, later, further-bad}
+use Rattle.grammar.specs.Laws.Table.Leaves.{leaves-same, few-leaves, further, further-leaves, further-length, later, further-bad}
 
 -- ---- what is kept
 
@@ -72,14 +73,14 @@ nameLength at (Refused r p) = 0
 abbrev pub leavesFrom : List ℕ → ℕ → ℕ → List Leaf
 leavesFrom ns used u = leaves ns (min used most-nodes) (min (u - used) most-nodes)
 
-abbrev verdictOf : List Leaf → Verdict
+abbrev verdictOf : List Leaf → Option ℕ
 verdictOf ls = firstBad (min (length ls) most-nodes) [] ls
 
 -- dimension i, whose name has the place `at` and the length n, ends at p, with u nodes in all
 pub data Closed (i at n used p u : ℕ) (ns ds : List ℕ) : Walk → List ℕ → Type 0 where
-  closed : {es : List ℕ} → verdictOf (leavesFrom ns used u) ≡ Fine
+  closed : {es : List ℕ} → verdictOf (leavesFrom ns used u) ≡ none
       → es ≡ sets ds (dimension-words * i) (dimRecord (word32 at) n (word32 (length (leavesFrom ns used u))) (word32 used)) → Closed i at n used p u ns ds (walk.On p u) es
-  bad-leaf : {q : ℕ} {es : List ℕ} → verdictOf (leavesFrom ns used u) ≡ Bad q → Closed i at n used p u ns ds (walk.Refused 8 q) es
+  bad-leaf : {q : ℕ} {es : List ℕ} → verdictOf (leavesFrom ns used u) ≡ some q → Closed i at n used p u ns ds (walk.Refused 8 q) es
 
 -- ---- the section
 
@@ -108,7 +109,7 @@ module _ (version : ℕ) where
   abbrev pub Start : Layout
   Start = (Value version) ▸ DimProperties ▸ int32
 
-  abbrev verdict : Tree (Dimension version) → Verdict
+  abbrev verdict : Tree (Dimension version) → Option ℕ
   verdict t = firstBad (length (leavesOf version t)) [] (leavesOf version t)
 
   abbrev whole : Tree Start → List (Tree (Category version)) → Tree (Dimension version)
@@ -117,7 +118,7 @@ module _ (version : ℕ) where
   check-parts : (used : ℕ) (s : List ℕ) (at : ℕ)
       → check (dimensionRule version used) s at
       ≡ bind (read Start s at) (λ h s₁ at₁. bind (check (categoriesRule version category-depth used (h .1 .0)) s₁ at₁) (λ ts s₂ at₂.
-      judge 8 at (placeOf (verdict (whole h ts))) (whole h ts) s₂ at₂))
+      judge 8 at (verdict (whole h ts)) (whole h ts) s₂ at₂))
   unfolding dimensionRule check read bind passes pick
   check-parts used s at = simp bind-assoc
 
@@ -227,9 +228,9 @@ module _ (version : ℕ) where
             let c′ : check (categoriesRule version category-depth (x .used) (start .tree .1 .0)) (drop f s) f ≡ got ts (drop q s) q = rw n-is c in
             rw (check-parts (x .used) (drop at s) at, start .is, c′) (go (verdict tree) judged h)
           where
-            go : (v : Verdict) → verdictOf ls ≡ later at v → {w : Walk} {es : List ℕ} → Closed (x .number) at (nameLength at name) (x .used) q u ms (x .entries) w es
-                → Keeps s One (judge 8 at (placeOf v) tree (drop q s) q) (dimsOut (x .number + 1) w ms es)
-            go Fine e (closed g es) =
+            go : (v : Option ℕ) → verdictOf ls ≡ later at v → {w : Walk} {es : List ℕ} → Closed (x .number) at (nameLength at name) (x .used) q u ms (x .entries) w es
+                → Keeps s One (judge 8 at v tree (drop q s) q) (dimsOut (x .number + 1) w ms es)
+            go none e (closed g es) =
                 let f-is′ : f ≡ at + size ((Value version) ▸ DimProperties) (start .tree .0) + 4 = omega (arith, f-is) in
                 let end : q ≡ at + size (Dimension version) tree = omega (arith, (size-dimension version) tree, size-start (start .tree), all .place, start .there .place) in
                 keeps-on {t = tree} {p = q} refl record {
@@ -241,9 +242,9 @@ module _ (version : ℕ) where
                   words = rw f-is′ at (all .words);
                   entries = es ∙ ap (sets (x .entries) (dimension-words * x .number)) entry-is;
                 }
-            go Fine e (bad-leaf f) = absurd (let z : _≡_ {A = ℕ} 0 1 = cc in omega arith)
-            go (Bad m) e (closed f es) = absurd (let z : _≡_ {A = ℕ} 0 1 = cc in omega arith)
-            go (Bad m) e (bad-leaf {q = a} g) = let z : a ≡ at + m = cc in rw z keeps-off
+            go none e (bad-leaf f) = absurd (let z : _≡_ {A = ℕ} 0 1 = cc in omega arith)
+            go (some m) e (closed f es) = absurd (let z : _≡_ {A = ℕ} 0 1 = cc in omega arith)
+            go (some m) e (bad-leaf {q = a} g) = let z : a ≡ at + m = cc in rw z keeps-off
 
   -- ---- dimensions that follow each other
 
@@ -256,28 +257,12 @@ module _ (version : ℕ) where
     pub words : y .words ≡ sets (x .words) (node-words * x .used) (dimsWords version (x .number) (x .used) at ts)
     pub entries : y .entries ≡ sets (x .entries) (dimension-words * x .number) (dimsEntries version (x .used) at ts)
 
-  pub width-dim : (i used at : ℕ) (t : Tree (Dimension version)) → length (dimWords version i used at t) ≡ node-words * (dimNodes version) t
-  unfolding dimWords dimNodes
-  width-dim i used at t =
-      width-all (nodes version category-depth) (size (Category version)) (treeWords version category-depth i no-parent) (width-tree version category-depth i no-parent) used (at + size ((Value version) ▸ DimProperties) (dimOwn version t) + 4) (dimCategories version t)
-
-  pub width-dims : (i used at : ℕ) (ts : List (Tree (Dimension version))) → length (dimsWords version i used at ts) ≡ node-words * sum (dimNodes version) ts
-  unfolding dimsWords sum
-  width-dims i used at [] = refl
-  width-dims i used at (t ∷ ts) =
-      rw (length-append, width-dim i used at t, width-dims (i + 1) (used + (dimNodes version) t) (at + size (Dimension version) t) ts) (omega arith)
-
-  pub width-entries : (used at : ℕ) (ts : List (Tree (Dimension version))) → length (dimsEntries version used at ts) ≡ dimension-words * length ts
-  unfolding dimsEntries dimEntry
-  width-entries used at [] = refl
-  width-entries used at (t ∷ ts) = rw (length-append (dimEntry version used at t), width-entries (used + (dimNodes version) t) (at + size (Dimension version) t) ts) (omega arith)
-
   pub all-dims : {at : ℕ} {x : Kept} {ts : List (Tree (Dimension version))} {p : ℕ} {y : Kept} → Each Dim at x ts p y → Dims at x ts p y
   unfolding sum dimsWords dimsEntries dimEntry
   all-dims each-none = record { place = omega arith; number = omega arith; count = omega arith; few = λ h. h; bytes = omega arith; words = refl; entries = refl }
   all-dims {at} {x} {y = y} (each-more {t = t} {p = m} {y = z} {ts = ts} {q = e} q r) =
       let n : Dims m z ts e y = all-dims r in
-      let i : node-words * x .used + length (dimWords version (x .number) (x .used) at t) ≡ node-words * z .used = omega (arith, width-dim (x .number) (x .used) at t, q .count) in
+      let i : node-words * x .used + length (dimWords version (x .number) (x .used) at t) ≡ node-words * z .used = omega (arith, width-dim version (x .number) (x .used) at t, q .count) in
       let j : dimension-words * x .number + length (dimEntry version (x .used) at t) ≡ dimension-words * z .number = omega (arith, q .number) in
       record {
         place = omega (arith, n .place, q .place);

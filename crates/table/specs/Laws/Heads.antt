@@ -9,20 +9,21 @@ use lib.Dec.{eqb}
 use borrow.Author.Tests.{eqb-true, eqb-false}
 use Rattle.layout.specs.declared.Step.{Step}
 use Rattle.layout.specs.declared.Step.the-variants.{Next, Refused}
-use Rattle.layout.specs.Layout.{little, one-of, Layout, empty, _▸_, Tree, digits, spell, Bytes, Valid, size}
-use Rattle.layout.specs.Conventions.{field, i, int32}
-use Rattle.layout.specs.Read.{Got, got, no, read}
+use Rattle.grammar.specs.Layout.{little, one-of, Layout, empty, _▸_, Tree, digits, spell, Bytes, Valid, size}
+use Rattle.grammar.specs.Conventions.{field, i, int32}
+use Rattle.grammar.specs.Laws.Layout.Read.{Got, got, no, read}
 use Rattle.layout.specs.Reads.{step, chain, peek, Reads}
 use Rattle.layout.specs.Steps.Chain.{then}
 use Rattle.layout.specs.Steps.Numbers.{switch-of}
-use Rattle.layout.specs.Steps.Spelt.{after, step-spelt, peek-spelt, field-spelt, Found, Read, read-on, read-off}
+use Rattle.layout.specs.Steps.Spelt.{step-spelt, peek-spelt, field-spelt, Found, Read, read-on, read-off}
+use Rattle.grammar.specs.Laws.Layout.Spelt.{after}
 use Rattle.layout.specs.Words.{word32}
 use Rattle.layout.specs.Laws.Words.{word-same}
-use Rattle.value.specs.Value.{Value}
+use Rattle.grammar.specs.Value.{Value}
 use Rattle.table.specs.declared.NodeStart.{NodeStart}
 use Rattle.table.specs.declared.NodeStart.the-variants as start
-use Rattle.table.specs.Table.{kinds, Leaf, GroupOf, KindOf, minus-one}
-use Rattle.table.specs.Records.{Head, kindOf, wordOf, belowOf}
+use Rattle.grammar.specs.Table.{kinds, Leaf, GroupOf, KindOf, minus-one}
+use Rattle.grammar.specs.Records.{Head, kindOf, wordOf, belowOf}
 
 -- a node at the place `at`, once its name ends at `name` and its own part at `end`
 unfoldable pub nodeOf : ℕ → ℕ → Step → ℕ → ℕ → Step → NodeStart

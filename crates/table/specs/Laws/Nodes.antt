@@ -8,27 +8,28 @@ use lib.ListN.{length, drop, length-append, length-drop}
 use lib.Seq.{sets}
 use borrow.Author.Tests.{lt-ltb, le-ltb}
 use Rattle.sizes.specs.Sizes.{most-nodes, node-words}
-use Rattle.layout.specs.Layout.{empty, Tree, passes, spell, pick, size}
-use Rattle.layout.specs.Conventions.{i}
-use Rattle.layout.specs.Read.{Got, got, no, bind, read}
-use Rattle.layout.specs.Rule.{Rule, items}
-use Rattle.layout.specs.Check.{checkTimes, check}
+use Rattle.sizes.specs.Basics.{pick}
+use Rattle.grammar.specs.Layout.{empty, Tree, passes, spell, size}
+use Rattle.grammar.specs.Conventions.{i}
+use Rattle.grammar.specs.Laws.Layout.Read.{Got, got, no, bind, read}
+use Rattle.grammar.specs.Rule.{Rule, items}
+use Rattle.grammar.specs.Laws.Layout.Check.{checkTimes, check}
 use Rattle.layout.specs.Keeps.{Out, on, off, Keeps, keeps-on, keeps-off, Each, each-none, each-more}
-use Rattle.layout.specs.Laws.{digits-length}
+use Rattle.grammar.specs.Laws.Layout.{digits-length}
 use Rattle.layout.specs.Steps.Keeping.{kept-on, kept-off, Going, going, goes-on, goes-no, goes-to}
 use Rattle.layout.specs.Steps.Spelt.{Found}
-use Rattle.layout.specs.Laws.Binds.{bind-assoc, bind-pick}
+use Rattle.grammar.specs.Laws.Layout.Binds.{bind-assoc, bind-pick}
 use Rattle.layout.specs.Words.{word32}
 use Rattle.layout.specs.Laws.Words.{word-same}
-use Rattle.value.specs.Value.{Value}
+use Rattle.grammar.specs.Value.{Value}
 use Rattle.table.specs.declared.Walk.{Walk}
 use Rattle.table.specs.declared.Walk.the-variants.{On, Refused}
 use Rattle.table.specs.declared.NodeStart.the-variants as start
-use Rattle.table.specs.Table.{KindOf, CategoryIn}
-use Rattle.table.specs.Records.{Head, belowOf, sum, nodes, wordsAll, nodeWords, treeWords, nodeRecord}
-use Rattle.table.specs.Rules.{kindRule, nodeRule, categoryRule, categoriesRule}
-use Rattle.table.specs.Laws.Lengths.{size-category}
-use Rattle.table.specs.Laws.Words.{sets-append, sets-before, width-tree}
+use Rattle.grammar.specs.Table.{KindOf, CategoryIn}
+use Rattle.grammar.specs.Records.{Head, belowOf, sum, nodes, wordsAll, nodeWords, treeWords, nodeRecord}
+use Rattle.grammar.specs.Rules.{kindRule, nodeRule, categoryRule, categoriesRule}
+use Rattle.grammar.specs.Laws.Table.Lengths.{size-category}
+use Rattle.grammar.specs.Laws.Table.Words.{sets-append, sets-before, width-tree}
 use Rattle.table.specs.Laws.Heads.{HeadRead, head-there}
 
 -- an answer of the code, and the node words with it

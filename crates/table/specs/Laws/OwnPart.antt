@@ -6,14 +6,15 @@ use native.Mathlib.Omega.{arith}
 use lib.ListN.{length, take, drop}
 use borrow.Author.Tests.{eq-eqb, ne-eqb}
 use Rattle.layout.specs.declared.Step.the-variants.{Next}
-use Rattle.layout.specs.Layout.{little, any-number, the-number, one-of, passes, among, pick, Bytes}
-use Rattle.layout.specs.Read.{read}
+use Rattle.sizes.specs.Basics.{among, pick}
+use Rattle.grammar.specs.Layout.{little, any-number, the-number, one-of, passes, Bytes}
+use Rattle.grammar.specs.Laws.Layout.Read.{read}
 use Rattle.layout.specs.Reads.{peek, verdict, Reads}
 use Rattle.layout.specs.Steps.Chain.{_◂_}
 use Rattle.layout.specs.Steps.Fixed.{passed, peek-in-part}
-use Rattle.value.specs.Value.{Value}
-use Rattle.table.specs.Table.{kinds, minus-one}
-use Rattle.table.specs.Records.{Head}
+use Rattle.grammar.specs.Value.{Value}
+use Rattle.grammar.specs.Table.{kinds, minus-one}
+use Rattle.grammar.specs.Records.{Head}
 use Rattle.table.specs.Laws.Heads.{HeadRead, nodeOf, leaf-head, group-head}
 
 -- how many there are, for a leaf as for a group

@@ -8,8 +8,8 @@ use lib.Dec.{leb}
 use native.Mathlib.Omega.{arith}
 use borrow.Author.Tests.{le-leb, lt-leb}
 use Rattle.sizes.specs.Sizes.{member-bytes}
-use Rattle.layout.specs.Layout.{pick}
-use Rattle.layout.specs.Read.{Got, no}
+use Rattle.sizes.specs.Basics.{pick}
+use Rattle.grammar.specs.Laws.Layout.Read.{Got, no}
 
 -- records of so many words, of which each takes so many bytes or more and a member has at most so many, and the refusal of a list that is
 -- too short

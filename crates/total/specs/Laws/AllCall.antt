@@ -8,14 +8,15 @@ use lib.ListN.{length, drop}
 use lib.Dec.{eqb, leb, ltb}
 use borrow.Author.Tests.{ltb-true, leb-true}
 use Rattle.sizes.specs.Sizes.{node-words, cell-words, dimension-words, dimension-n, leaf-total-words}
-use Rattle.layout.specs.Layout.{Bytes, Tree, pick}
-use Rattle.layout.specs.Read.{no}
-use Rattle.once.specs.Once.{word}
+use Rattle.sizes.specs.Basics.{pick}
+use Rattle.grammar.specs.Layout.{Bytes, Tree}
+use Rattle.grammar.specs.Laws.Layout.Read.{no}
+use Rattle.grammar.specs.RecordWords.{word}
 use Rattle.member.specs.declared.Answer.{Answer}
-use Rattle.member.specs.Member.{Member, dimensions, nodes, cells, cellRecords, MemberDerivation, AsDemanded}
-use Rattle.member.specs.Checked.{checked}
+use Rattle.grammar.specs.Member.{Member, dimensions, nodes, cells, cellRecords, MemberDerivation, AsDemanded}
+use Rattle.grammar.specs.Laws.Member.Checked.{checked}
 use Rattle.member.specs.Answer.{accepted}
-use Rattle.member.specs.Laws.Demanded.{derivation-checked}
+use Rattle.grammar.specs.Laws.Member.Demanded.{derivation-checked}
 use Rattle.total.specs.declared.DimensionTotals.{DimensionTotals}
 use Rattle.total.specs.Words.{leafWords, rows}
 use Rattle.total.specs.Answers.{memberFirst, answered, leafAnswer, refusedAll, leaves, dimensionAnswer, totalsAnswer, totalsAfter, AllTotalled}

@@ -11,19 +11,20 @@ use lib.Dec.{eqb, leb}
 use Rattle.sizes.specs.Sizes.{node-words, cell-words}
 use Rattle.layout.specs.declared.Step.{Step}
 use Rattle.layout.specs.declared.Step.the-variants.{Next}
-use Rattle.layout.specs.Layout.{Bytes, Tree, pick, size}
-use Rattle.layout.specs.Read.{no}
+use Rattle.sizes.specs.Basics.{pick}
+use Rattle.grammar.specs.Layout.{Bytes, Tree, size}
+use Rattle.grammar.specs.Laws.Layout.Read.{no}
 use Rattle.store.specs.Puts.{PutsWords}
 use Rattle.store.specs.Laws.Puts.{with-room}
-use Rattle.table.specs.Table.{Cell}
-use Rattle.table.specs.Records.{cellWords}
-use Rattle.table.specs.Laws.Words.{width-rows}
-use Rattle.table.specs.Laws.Dims.{width-dims}
+use Rattle.grammar.specs.Table.{Cell}
+use Rattle.grammar.specs.Records.{cellWords}
+use Rattle.grammar.specs.Laws.Table.Words.{width-rows}
+use Rattle.grammar.specs.Laws.Table.Words.{width-dims}
 use Rattle.member.specs.declared.Answer.{Answer}
-use Rattle.member.specs.Member.{Member, version, dimensions, dimensionsAt, cellsStart, nodes, cells, nodeRecords, cellRecords, MemberDerivation, AsDemanded}
-use Rattle.member.specs.Checked.{checked}
+use Rattle.grammar.specs.Member.{Member, version, dimensions, dimensionsAt, cellsStart, nodes, cells, nodeRecords, cellRecords, MemberDerivation, AsDemanded}
+use Rattle.grammar.specs.Laws.Member.Checked.{checked}
 use Rattle.member.specs.Answer.{accepted, wide, long, nodesAfter, cellsAfter}
-use Rattle.member.specs.Laws.Demanded.{derivation-checked}
+use Rattle.grammar.specs.Laws.Member.Demanded.{derivation-checked}
 use Rattle.total.specs.Laws.Reading.{Taken}
 
 -- the first n words of a list over those of an area, where both have so many

@@ -5,9 +5,10 @@ use mathlib.Core.List.{List, [], _∷_}
 use Prim.Native.Nat.{ℕ, suc, _+_, _^_, _<_}
 use native.Mathlib.Omega.{arith}
 use lib.ListN.{length}
-use Rattle.layout.specs.Layout.{pick, Tree, size}
-use Rattle.table.specs.Table.{Cell}
-use Rattle.member.specs.Member.{version, cells, nodes, cellsStart, MemberDerivation}
+use Rattle.sizes.specs.Basics.{pick}
+use Rattle.grammar.specs.Layout.{Tree, size}
+use Rattle.grammar.specs.Table.{Cell}
+use Rattle.grammar.specs.Member.{version, cells, nodes, cellsStart, MemberDerivation}
 use Rattle.total.specs.declared.LeafTotal.{LeafTotal}
 use Rattle.total.specs.Total.{cellsSay, memberCells, under, leafSums}
 use Rattle.total.specs.Answers.{refused, totalled, answered, there, leafAnswer}

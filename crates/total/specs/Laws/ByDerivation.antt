@@ -7,15 +7,16 @@ use lib.ListN.{length}
 use lib.Dec.{eqb}
 use borrow.Author.Tests.{le-leb, eq-eqb, ne-eqb}
 use Rattle.sizes.specs.Sizes.{node-words, cell-words}
-use Rattle.layout.specs.Layout.{Bytes, Tree, pick}
-use Rattle.layout.specs.Read.{Got, got, no}
+use Rattle.sizes.specs.Basics.{pick}
+use Rattle.grammar.specs.Layout.{Bytes, Tree}
+use Rattle.grammar.specs.Laws.Layout.Read.{Got, got, no}
 use Rattle.member.specs.declared.Answer.{Answer}
-use Rattle.member.specs.Member.{Member, nodes, cells}
-use Rattle.member.specs.Checked.{checked}
+use Rattle.grammar.specs.Member.{Member, nodes, cells}
+use Rattle.grammar.specs.Laws.Member.Checked.{checked}
 use Rattle.member.specs.Answer.{wide, long, refusal, accepted, answerOf, nodesAfter, cellsAfter}
 use Rattle.member.specs.Demand3.{Demand3, Accepted}
 use Rattle.member.specs.Laws.Holds.{demand3}
-use Rattle.member.specs.Laws.Demanded.{derivation-checked}
+use Rattle.grammar.specs.Laws.Member.Demanded.{derivation-checked}
 use Rattle.total.specs.declared.LeafTotal.{LeafTotal}
 use Rattle.total.specs.declared.DimensionTotals.{DimensionTotals}
 use Rattle.total.specs.Answers.{memberFirst, refused, leafAnswer, totalAnswer, Totalled, ByDerivation, refusedAll, dimensionAnswer, totalsAnswer, totalsAfter, AllTotalled, AllByDerivation}

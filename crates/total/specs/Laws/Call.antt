@@ -5,13 +5,14 @@ use Prim.Native.Nat.{ℕ, _*_}
 use lib.ListN.{length}
 use lib.Dec.{leb}
 use Rattle.sizes.specs.Sizes.{node-words, cell-words}
-use Rattle.layout.specs.Layout.{Bytes, pick}
-use Rattle.layout.specs.Read.{no}
+use Rattle.sizes.specs.Basics.{pick}
+use Rattle.grammar.specs.Layout.{Bytes}
+use Rattle.grammar.specs.Laws.Layout.Read.{no}
 use Rattle.member.specs.declared.Answer.{Answer}
-use Rattle.member.specs.Member.{cellRecords, MemberDerivation, AsDemanded}
-use Rattle.member.specs.Checked.{checked}
+use Rattle.grammar.specs.Member.{cellRecords, MemberDerivation, AsDemanded}
+use Rattle.grammar.specs.Laws.Member.Checked.{checked}
 use Rattle.member.specs.Answer.{accepted}
-use Rattle.member.specs.Laws.Demanded.{derivation-checked}
+use Rattle.grammar.specs.Laws.Member.Demanded.{derivation-checked}
 use Rattle.total.specs.declared.LeafTotal.{LeafTotal}
 use Rattle.total.specs.Answers.{memberFirst, refused, totalAnswer, Totalled}
 use Rattle.total.specs.Laws.Leaf.{wordAnswer}

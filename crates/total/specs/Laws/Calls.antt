@@ -11,7 +11,7 @@ use Rattle.layout.specs.declared.Step.{Step}
 use Rattle.layout.specs.declared.Step.the-variants.{Next}
 use Rattle.store.specs.Puts.{PutsWords}
 use Rattle.store.specs.Laws.Puts.{with-room, without-room}
-use Rattle.member.specs.Checked.{checked}
+use Rattle.grammar.specs.Laws.Member.Checked.{checked}
 use Rattle.total.specs.declared.LeafTotal.{LeafTotal}
 use Rattle.total.specs.declared.DimensionTotals.{DimensionTotals}
 use Rattle.total.specs.Words.{answerWords, dimensionWords}

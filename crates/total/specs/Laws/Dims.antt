@@ -9,16 +9,16 @@ use lib.Seq.{take-at, drop-at}
 use borrow.Author.Tests.{le-leb}
 use Rattle.sizes.specs.Sizes.{dimension-words, dimension-n}
 use Rattle.layout.specs.declared.Step.the-variants.{Next}
-use Rattle.layout.specs.Layout.{little, Tree, digits, spell, size, pick}
-use Rattle.layout.specs.Read.{readNumber}
+use Rattle.sizes.specs.Basics.{pick}
+use Rattle.grammar.specs.Layout.{little, Tree, digits, spell, size}
+use Rattle.grammar.specs.Laws.Layout.Read.{readNumber}
 use Rattle.layout.specs.Reads.{peek}
-use Rattle.layout.specs.Laws.{digits-length, number-spelt}
-use Rattle.sections.specs.Sections.{HeaderStart}
-use Rattle.member.specs.Member.{Body, version, final, MemberDerivation}
-use Rattle.once.specs.Once.{word}
-use Rattle.index.specs.Index.{sizes}
-use Rattle.table.specs.Table.{Dimension}
-use Rattle.table.specs.Records.{dimNodes, dimLeaves, dimEntry, dimsEntries}
+use Rattle.grammar.specs.Laws.Layout.{digits-length, number-spelt}
+use Rattle.grammar.specs.Sections.{HeaderStart}
+use Rattle.grammar.specs.Member.{Body, version, final, MemberDerivation}
+use Rattle.grammar.specs.RecordWords.{word, sizes}
+use Rattle.grammar.specs.Table.{Dimension}
+use Rattle.grammar.specs.Records.{dimNodes, dimLeaves, dimEntry, dimsEntries}
 use Rattle.total.specs.Laws.MemberCells.{later-word}
 
 module _ (version : ℕ) where

@@ -3,9 +3,10 @@ use mathlib.Core.Bool.{Bool, true, false, not, cond}
 use Prim.Native.Nat.{ℕ, zero, suc, _+_, _-_, _*_, _/_, _%_, _^_, compare}
 use lib.Dec.{T, ltb}
 use lib.Ieee.{Float, inf, Format, prec, emax, low, size, nearest, binary64, odd, units, round, ofInt, isNan}
-use Rattle.layout.specs.Layout.{pick, Tree}
-use Rattle.layout.specs.Read.{Got, got, no}
-use Rattle.member.specs.Member.{Member}
+use Rattle.sizes.specs.Basics.{pick}
+use Rattle.grammar.specs.Layout.{Tree}
+use Rattle.grammar.specs.Laws.Layout.Read.{Got, got, no}
+use Rattle.grammar.specs.Member.{Member}
 use Rattle.member.specs.Answer.{wide, long}
 use Rattle.total.specs.declared.sums.Sums.{Sums}
 use Rattle.total.specs.declared.LeafTotal.{LeafTotal}

@@ -5,10 +5,11 @@ use Prim.Native.Nat.{ℕ, _+_, _-_, _*_, min}
 use lib.Dec.{ltb}
 use Rattle.sizes.specs.Sizes.{most-dimensions, most-cells, most-places, dimension-words, dimension-n}
 use Rattle.layout.specs.declared.Step.the-variants.{Next}
-use Rattle.layout.specs.Layout.{little, pick}
+use Rattle.sizes.specs.Basics.{pick}
+use Rattle.grammar.specs.Layout.{little}
 use Rattle.layout.specs.Reads.{peek}
-use Rattle.once.specs.Once.{word}
-use Rattle.index.specs.Index.{sizes, product}
+use Rattle.grammar.specs.RecordWords.{word, sizes}
+use Rattle.grammar.specs.Index.{product}
 use Rattle.member.specs.declared.Answer.{Answer}
 use Rattle.total.specs.declared.leaf.Grid.{Grid}
 use Rattle.total.specs.declared.sums.Sums.{Sums}

@@ -9,11 +9,12 @@ use lib.ListN.{length, drop, getD, length-map}
 use lib.Dec.{ltb}
 use borrow.Author.Tests.{ltb-true, lt-ltb, leb-true}
 use Rattle.sizes.specs.Sizes.{most-dimensions, most-cells, dimension-area, dimension-words, dimension-n}
-use Rattle.layout.specs.Layout.{pick, passes}
-use Rattle.once.specs.Once.{word}
-use Rattle.index.specs.Index.{sizes, product}
-use Rattle.table.specs.Records.{dimLeaves}
-use Rattle.member.specs.Member.{version, dimensionsSection, cellsSection, dimensions, dimensionsAt, dimensionEntries, cells, nodes, ns, places, cellRecords, MemberDerivation, AsDemanded}
+use Rattle.sizes.specs.Basics.{pick}
+use Rattle.grammar.specs.Layout.{passes}
+use Rattle.grammar.specs.RecordWords.{word, sizes}
+use Rattle.grammar.specs.Index.{product}
+use Rattle.grammar.specs.Records.{dimLeaves}
+use Rattle.grammar.specs.Member.{version, dimensionsSection, cellsSection, dimensions, dimensionsAt, dimensionEntries, cells, nodes, ns, places, cellRecords, MemberDerivation, AsDemanded}
 use Rattle.member.specs.Answer.{accepted, zeros}
 use Rattle.total.specs.Total.{sums, leafSums}
 use Rattle.total.specs.Answers.{answered, refused, there, leafAnswer}

@@ -11,10 +11,10 @@ use lib.Seq.{sets, length-sets, drop-drop, drop-at}
 use lib.Dec.{eqb, ltb}
 use borrow.Author.Tests.{eqb-true, eqb-false, ltb-true, ltb-false, lt-ltb, le-ltb, ne-eqb}
 use Rattle.sizes.specs.Sizes.{leaf-total-words}
-use Rattle.layout.specs.Layout.{pick}
+use Rattle.sizes.specs.Basics.{pick}
 use Rattle.layout.specs.Words.{word32}
 use Rattle.store.specs.Values.{bit}
-use Rattle.once.specs.Once.{word}
+use Rattle.grammar.specs.RecordWords.{word}
 use Rattle.member.specs.declared.Answer.{Answer}
 use Rattle.total.specs.declared.leaf.Grid.{Grid}
 use Rattle.total.specs.declared.sums.Sums.{Sums}

@@ -5,10 +5,10 @@ use Prim.Native.Nat.{ℕ, zero, suc, _+_, _*_, _≤_, _<_}
 use native.Mathlib.Nat.{zero-mul, mul-zero, suc-mul}
 use native.Mathlib.Omega.{arith}
 use lib.ListN.{length, drop}
-use Rattle.layout.specs.Layout.{Tree, All, all-none, all-more}
-use Rattle.index.specs.Index.{product, coordinate}
-use Rattle.member.specs.Member.{Member, version, cells, cellsStart, final, ns, places, cellRecords, MemberDerivation, AsDemanded}
-use Rattle.member.specs.Laws.RecordsSpelt.{cells-there}
+use Rattle.grammar.specs.Layout.{Tree, All, all-none, all-more}
+use Rattle.grammar.specs.Index.{product, coordinate}
+use Rattle.grammar.specs.Member.{Member, version, cells, cellsStart, final, ns, places, cellRecords, MemberDerivation, AsDemanded}
+use Rattle.grammar.specs.Laws.Member.RecordsSpelt.{cells-there}
 use Rattle.contents.specs.Members.{part-read}
 use Rattle.total.specs.Total.{sums, memberCells, under, leafSums}
 use Rattle.total.specs.Laws.Words.{recordsSay, underBy}

@@ -6,7 +6,8 @@ use Prim.Native.Nat.{ℕ, zero, suc, _+_, _<_}
 use native.Mathlib.Omega.{arith}
 use lib.Dec.{eqb}
 use borrow.Author.Tests.{eqb-true, eqb-false, ne-eqb}
-use Rattle.layout.specs.Layout.{pick, All, all-none, all-more}
+use Rattle.sizes.specs.Basics.{pick}
+use Rattle.grammar.specs.Layout.{All, all-none, all-more}
 use Rattle.counts.specs.declared.Kind.{Kind}
 use Rattle.counts.specs.declared.Kind.the-variants.{Text, Missing, Number, Bad}
 use Rattle.total.specs.declared.sums.Sums.{Sums}

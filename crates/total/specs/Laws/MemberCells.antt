@@ -7,17 +7,18 @@ use native.Mathlib.Omega.{arith}
 use lib.ListN.{length, drop, getD, length-append}
 use lib.Seq.{getD-append-add}
 use Rattle.sizes.specs.Sizes.{cell-words}
-use Rattle.layout.specs.Layout.{little, pick, Tree, digits, spellAll, spell, size, All, all-none, all-more, Valid}
-use Rattle.layout.specs.Part.{partOf}
-use Rattle.layout.specs.Read.{read, got}
-use Rattle.layout.specs.Laws as laws
-use Rattle.layout.specs.Laws.{digits-length}
-use Rattle.layout.specs.Steps.Spelt as spelt
-use Rattle.value.specs.Value.{CellValue}
-use Rattle.once.specs.Once.{word}
-use Rattle.table.specs.Table.{Cell}
-use Rattle.member.specs.Laws.RecordsSpelt.{part-of}
-use Rattle.table.specs.Records.{cellWords, rowsWords, cellIndex, cellValue}
+use Rattle.sizes.specs.Basics.{pick}
+use Rattle.grammar.specs.Layout.{little, Tree, digits, spellAll, spell, size, All, all-none, all-more, Valid}
+use Rattle.grammar.specs.Part.{partOf}
+use Rattle.grammar.specs.Laws.Layout.Read.{read, got}
+use Rattle.grammar.specs.Laws.Layout as laws
+use Rattle.grammar.specs.Laws.Layout.{digits-length}
+use Rattle.grammar.specs.Laws.Layout.Spelt as spelt
+use Rattle.grammar.specs.Value.{CellValue}
+use Rattle.grammar.specs.RecordWords.{word}
+use Rattle.grammar.specs.Table.{Cell}
+use Rattle.grammar.specs.Laws.Member.RecordsSpelt.{part-of}
+use Rattle.grammar.specs.Records.{cellWords, rowsWords, cellIndex, cellValue}
 use Rattle.contents.specs.Contents.{contents}
 use Rattle.contents.specs.Answers.{unread}
 use Rattle.contents.specs.Laws.Answers.{answerOf, valueAnswer}

@@ -7,10 +7,11 @@ use native.Mathlib.Omega.{arith}
 use lib.ListN.{length, take, drop}
 use lib.Dec.{eqb, leb, ltb}
 use Rattle.sizes.specs.Sizes.{leaf-total-words}
-use Rattle.layout.specs.Layout.{Tree, pick}
-use Rattle.layout.specs.Read.{Got, got, no}
-use Rattle.member.specs.Member.{Member, dimensions, nodes, cells}
-use Rattle.member.specs.Checked.{checked}
+use Rattle.sizes.specs.Basics.{pick}
+use Rattle.grammar.specs.Layout.{Tree}
+use Rattle.grammar.specs.Laws.Layout.Read.{Got, got, no}
+use Rattle.grammar.specs.Member.{Member, dimensions, nodes, cells}
+use Rattle.grammar.specs.Laws.Member.Checked.{checked}
 use Rattle.member.specs.Answer.{wide, long}
 use Rattle.total.specs.declared.DimensionTotals.{DimensionTotals}
 use Rattle.total.specs.Words.{leafWords, rows}

@@ -5,20 +5,21 @@ use mathlib.Core.List.{List, _++_, append-assoc}
 use Prim.Native.Nat.{ℕ, _+_, _^_, _≤_, _<_}
 use native.Mathlib.Omega.{arith}
 use lib.ListN.{length, drop, length-append, length-drop}
-use Rattle.layout.specs.Layout.{pick, Bytes, Tree, spellAll, spell, size, All, all-none, all-more, Valid}
-use Rattle.layout.specs.Read.{Got, got, no}
-use Rattle.layout.specs.Steps.Spelt as spelt
+use Rattle.sizes.specs.Basics.{pick}
+use Rattle.grammar.specs.Layout.{Bytes, Tree, spellAll, spell, size, All, all-none, all-more, Valid}
+use Rattle.grammar.specs.Laws.Layout.Read.{Got, got, no}
+use Rattle.grammar.specs.Laws.Layout.Spelt as spelt
 use Rattle.layout.specs.Words.{word32}
 use Rattle.layout.specs.Laws.Words.{word-same}
-use Rattle.table.specs.Table.{Cell}
-use Rattle.table.specs.Laws.LeastBytes.{cell-bytes}
-use Rattle.member.specs.Member.{Member, version, cells, cellsStart, nodes, final}
-use Rattle.member.specs.Checked.{checked}
+use Rattle.grammar.specs.Table.{Cell}
+use Rattle.grammar.specs.Laws.Table.LeastBytes.{cell-bytes}
+use Rattle.grammar.specs.Member.{Member, version, cells, cellsStart, nodes, final}
+use Rattle.grammar.specs.Laws.Member.Checked.{checked}
 use Rattle.member.specs.Answer.{wide, long, refusal, answerOf, nodesAfter, cellsAfter}
 use Rattle.member.specs.Demand3.{Demand3}
 use Rattle.member.specs.Laws.Holds.{demand3}
-use Rattle.member.specs.Laws.Demanded as demanded
-use Rattle.member.specs.Laws.RecordsSpelt.{cells-there}
+use Rattle.grammar.specs.Laws.Member.Demanded as demanded
+use Rattle.grammar.specs.Laws.Member.RecordsSpelt.{cells-there}
 use Rattle.counts.specs.declared.Kind.{Kind}
 use Rattle.counts.specs.declared.Kind.the-variants.{Text, Missing, Number, Bad}
 use Rattle.counts.specs.Count.{kind}

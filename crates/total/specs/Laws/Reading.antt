@@ -4,14 +4,14 @@ use mathlib.Core.List.{List, _++_}
 use Prim.Native.Nat.{ℕ, _*_}
 use lib.ListN.{length, drop}
 use Rattle.sizes.specs.Sizes.{node-words, cell-words}
-use Rattle.layout.specs.Layout.{Bytes, Tree}
-use Rattle.layout.specs.Read.{Got, got, no}
+use Rattle.grammar.specs.Layout.{Bytes, Tree}
+use Rattle.grammar.specs.Laws.Layout.Read.{Got, got, no}
 use Rattle.member.specs.declared.Answer.{Answer}
-use Rattle.member.specs.Member.{Member, nodes, cells, nodeRecords, cellRecords, MemberDerivation, AsDemanded}
-use Rattle.member.specs.Checked.{checked}
+use Rattle.grammar.specs.Member.{Member, nodes, cells, nodeRecords, cellRecords, MemberDerivation, AsDemanded}
+use Rattle.grammar.specs.Laws.Member.Checked.{checked}
 use Rattle.member.specs.Answer.{refusal, accepted}
 use Rattle.member.specs.Laws.IntoLists.{LongEnough, intoLists, Stored, all-stored, not-stored}
-use Rattle.member.specs.Laws.Demanded as demanded
+use Rattle.grammar.specs.Laws.Member.Demanded as demanded
 use Rattle.member.specs.Laws.Holds.{not-zero}
 use Rattle.member.specs.Laws.Whole.{as-checked}
 

@@ -9,7 +9,7 @@ use lib.ListN.{length, take, drop, getD, set, length-append, List·getD-append}
 use lib.Seq.{sets, sets-eq, take-at, drop-at, drop-drop, getD-append-add}
 use lib.Dec.{eqb}
 use borrow.Author.Tests.{eqb-true, eqb-false, eq-eqb, ne-eqb}
-use Rattle.layout.specs.Layout.{pick}
+use Rattle.sizes.specs.Basics.{pick}
 use Rattle.total.specs.Words.{rows}
 
 -- the words of a row, one after the other

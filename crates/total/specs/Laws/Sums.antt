@@ -8,7 +8,7 @@ use native.Mathlib.Omega.{arith}
 use lib.ListN.{length}
 use lib.Dec.{eqb, ltb}
 use borrow.Author.Tests.{ltb-true}
-use Rattle.layout.specs.Layout.{pick, among}
+use Rattle.sizes.specs.Basics.{pick, among}
 use Rattle.counts.specs.declared.Kind.{Kind}
 use Rattle.counts.specs.declared.Kind.the-variants.{Text, Missing, Number, Bad}
 use Rattle.total.specs.declared.sums.Sums.{Sums}

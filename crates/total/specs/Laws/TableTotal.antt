@@ -6,11 +6,12 @@ use Prim.Native.Nat.{ℕ, _<_}
 use native.Mathlib.Omega.{arith}
 use lib.ListN.{length, getD, length-map}
 use borrow.Author.Tests.{lt-ltb}
-use Rattle.layout.specs.Layout.{pick, Tree, All, all-none, all-more}
-use Rattle.index.specs.Index.{coordinate}
-use Rattle.index.specs.Laws.Coordinates.{coordinate-below}
-use Rattle.table.specs.Records.{dimLeaves}
-use Rattle.member.specs.Member.{Member, version, dimensions, cells, cellsStart, ns, places, AsDemanded}
+use Rattle.sizes.specs.Basics.{pick}
+use Rattle.grammar.specs.Layout.{Tree, All, all-none, all-more}
+use Rattle.grammar.specs.Index.{coordinate}
+use Rattle.grammar.specs.Laws.Index.Coordinates.{coordinate-below}
+use Rattle.grammar.specs.Records.{dimLeaves}
+use Rattle.grammar.specs.Member.{Member, version, dimensions, cells, cellsStart, ns, places, AsDemanded}
 use Rattle.counts.specs.declared.Kind.{Kind}
 use Rattle.counts.specs.declared.Kind.the-variants.{Text, Missing, Number, Bad}
 use Rattle.total.specs.declared.sums.Sums.{Sums}

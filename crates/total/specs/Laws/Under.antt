@@ -5,11 +5,11 @@ use mathlib.Core.List.{List, [], _∷_, map}
 use Prim.Native.Nat.{ℕ, suc, _+_, _<_}
 use lib.ListN.{length, drop}
 use lib.Dec.{eqb}
-use Rattle.layout.specs.Layout.{Tree, size, All, all-none, all-more}
-use Rattle.index.specs.Index.{product, coordinate}
-use Rattle.index.specs.Laws.Coordinates.{coordinate-is}
-use Rattle.table.specs.Table.{Cell}
-use Rattle.table.specs.Records.{cellIndex}
+use Rattle.grammar.specs.Layout.{Tree, size, All, all-none, all-more}
+use Rattle.grammar.specs.Index.{product, coordinate}
+use Rattle.grammar.specs.Laws.Index.Coordinates.{coordinate-is}
+use Rattle.grammar.specs.Table.{Cell}
+use Rattle.grammar.specs.Records.{cellIndex}
 use Rattle.total.specs.Total.{CellSays, withCell, sums, cellsSay}
 use Rattle.total.specs.Laws.Words.{underBy}
 

@@ -7,9 +7,9 @@ use native.Mathlib.Omega.{arith}
 use lib.ListN.{length}
 use lib.Dec.{eqb}
 use Rattle.sizes.specs.Sizes.{cell-words}
-use Rattle.layout.specs.Layout.{pick, among}
-use Rattle.layout.specs.Part.{partOf}
-use Rattle.once.specs.Once.{word}
+use Rattle.sizes.specs.Basics.{pick, among}
+use Rattle.grammar.specs.Part.{partOf}
+use Rattle.grammar.specs.RecordWords.{word}
 use Rattle.contents.specs.declared.RawValue.{RawValue}
 use Rattle.contents.specs.Laws.Answers.{valueAnswer}
 use Rattle.contents.specs.Laws.Figure.{figure, figureWith, no-figure}

@@ -5,8 +5,9 @@ use mathlib.Core.List.{List, _∷_, map}
 use Prim.Native.Nat.{ℕ, _+_, _<_}
 use lib.Dec.{eqb}
 use lib.ListN.{length}
-use Rattle.layout.specs.Layout.{pick, All, all-none, all-more}
-use Rattle.index.specs.Index.{product, coordinate}
+use Rattle.sizes.specs.Basics.{pick}
+use Rattle.grammar.specs.Layout.{All, all-none, all-more}
+use Rattle.grammar.specs.Index.{product, coordinate}
 use Rattle.total.specs.Total.{CellSays, withCell, sums}
 use Rattle.position.specs.declared.Position.{Position}
 use Rattle.position.specs.declared.CellIndex.{CellIndex}

@@ -6,9 +6,9 @@ use native.Mathlib.Omega.{arith}
 use borrow.Author.Tests.{leb-true}
 use lib.ListN.{length, length-append, length-map}
 use Rattle.sizes.specs.Sizes.{most-dimensions}
-use Rattle.layout.specs.Layout.{Tree, All, passes}
-use Rattle.table.specs.Records.{dimLeaves, entryIndex, axisEntries}
-use Rattle.member.specs.Member.{Member, version, dimensionsSection, axesSection, dimensions, layers, rows, columns, order, cells, cellsStart, ns, places, MemberDerivation, AsDemanded}
+use Rattle.grammar.specs.Layout.{Tree, All, passes}
+use Rattle.grammar.specs.Records.{dimLeaves, entryIndex, axisEntries}
+use Rattle.grammar.specs.Member.{Member, version, dimensionsSection, axesSection, dimensions, layers, rows, columns, order, cells, cellsStart, ns, places, MemberDerivation, AsDemanded}
 use Rattle.total.specs.Total.{CellSays, memberCells}
 use Rattle.total.specs.Laws.Under.{all-say}
 use Rattle.position.specs.Laws.Accepted.{Accepted, not-refused}

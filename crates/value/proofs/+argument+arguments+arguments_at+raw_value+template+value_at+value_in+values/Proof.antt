@@ -6,12 +6,13 @@ use native.Mathlib.Omega.{arith}
 use mathlib.Core.Path.{refl, ap}
 use borrow.Fn.PlainCycle.{Measures}
 use Rattle.layout.specs.declared.Step.the-variants.{Next}
-use Rattle.layout.specs.Layout.{passes, among, pick}
+use Rattle.sizes.specs.Basics.{among, pick}
+use Rattle.grammar.specs.Layout.{passes}
 use Rattle.layout.specs.Reads.{skip}
 use Rattle.layout.specs.Steps.{reads}
 use Rattle.layout.specs.Steps.Chain.{then, from-next, from-refused, in-same, times-none, Left, left-more, left-none, left-kept}
 use Rattle.layout.specs.Steps.Cycle.{at, below}
-use Rattle.value.specs.Value as grammar
+use Rattle.grammar.specs.Value as grammar
 use Rattle.value.specs.Laws.Forms.{too-deep, after-zeros, form-of, long-form, long-form-left-out, no-form}
 use Rattle.value.proofs.argument.Reads as argument
 use Rattle.value.proofs.argument.Kinds as argument-kinds

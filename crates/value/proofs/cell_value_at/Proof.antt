@@ -1,10 +1,10 @@
 use mathlib.Core.Path.{refl, ap}
 use Rattle.layout.specs.declared.Step.the-variants.{Next}
-use Rattle.layout.specs.Layout.{among, pick}
+use Rattle.sizes.specs.Basics.{among, pick}
 use Rattle.layout.specs.Reads.{skip}
 use Rattle.layout.specs.Steps.Chain.{in-same}
 use Rattle.sizes.specs.Sizes.{below-value}
-use Rattle.value.specs.Value.{ValueIn}
+use Rattle.grammar.specs.Value.{ValueIn}
 use Rattle.value.specs.Laws.Forms.{after-cell-zeros, form-of}
 use Rattle.value.proofs.cell_value_at.Statement.{statement}
 use Rattle.value.proofs.cell_value_at.Tie as tie

@@ -1,4 +1,4 @@
-use Rattle.layout.specs.Layout.{pick}
+use Rattle.sizes.specs.Basics.{pick}
 use Rattle.value.proofs.cell_zeros.Statement.{statement}
 use Rattle.value.proofs.cell_zeros.Tie as tie
 

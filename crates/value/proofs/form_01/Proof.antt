@@ -1,4 +1,4 @@
-use Rattle.value.specs.Value.{Form01}
+use Rattle.grammar.specs.Value.{Form01}
 use Rattle.layout.specs.Steps.{reads}
 use Rattle.value.proofs.form_01.Statement.{statement}
 use Rattle.value.proofs.form_01.Tie as tie

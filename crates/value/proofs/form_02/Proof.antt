@@ -1,4 +1,4 @@
-use Rattle.value.specs.Value.{Form02}
+use Rattle.grammar.specs.Value.{Form02}
 use Rattle.layout.specs.Steps.{reads}
 use Rattle.value.proofs.form_02.Statement.{statement}
 use Rattle.value.proofs.form_02.Tie as tie

@@ -1,4 +1,4 @@
-use Rattle.value.specs.Value.{Form03}
+use Rattle.grammar.specs.Value.{Form03}
 use Rattle.layout.specs.Steps.{reads}
 use Rattle.value.proofs.form_03.Statement.{statement}
 use Rattle.value.proofs.form_03.Tie as tie

@@ -1,4 +1,4 @@
-use Rattle.value.specs.Value.{Form04}
+use Rattle.grammar.specs.Value.{Form04}
 use Rattle.layout.specs.Steps.{reads}
 use Rattle.value.proofs.form_04.Statement.{statement}
 use Rattle.value.proofs.form_04.Tie as tie

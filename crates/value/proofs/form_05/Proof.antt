@@ -1,4 +1,4 @@
-use Rattle.value.specs.Value.{Form05}
+use Rattle.grammar.specs.Value.{Form05}
 use Rattle.layout.specs.Steps.{reads}
 use Rattle.value.proofs.form_05.Statement.{statement}
 use Rattle.value.proofs.form_05.Tie as tie

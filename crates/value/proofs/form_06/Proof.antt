@@ -1,4 +1,4 @@
-use Rattle.value.specs.Value.{Form06}
+use Rattle.grammar.specs.Value.{Form06}
 use Rattle.layout.specs.Steps.{reads}
 use Rattle.value.proofs.form_06.Statement.{statement}
 use Rattle.value.proofs.form_06.Tie as tie

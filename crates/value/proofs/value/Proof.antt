@@ -1,4 +1,4 @@
-use Rattle.value.specs.Value.{Value}
+use Rattle.grammar.specs.Value.{Value}
 use Rattle.value.proofs.value.Statement.{statement}
 use Rattle.value.proofs.value.Tie as tie
 

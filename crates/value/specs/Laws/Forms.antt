@@ -8,14 +8,15 @@ use lib.Dec.{eqb}
 use borrow.Author.Tests.{ne-eqb}
 use Rattle.sizes.specs.Sizes.{below-value}
 use Rattle.layout.specs.declared.Step.{Step}
-use Rattle.layout.specs.Layout.{Layout, little, Test, one-of-but, passes, among, pick}
-use Rattle.layout.specs.Conventions.{byte, choose, keys}
-use Rattle.layout.specs.Read.{refusal}
+use Rattle.sizes.specs.Basics.{among, pick}
+use Rattle.grammar.specs.Layout.{Layout, little, Test, one-of-but, passes}
+use Rattle.grammar.specs.Conventions.{byte, choose, keys}
+use Rattle.grammar.specs.Laws.Layout.Read.{refusal}
 use Rattle.layout.specs.Reads.{Reads, peek, skip, field, refused}
 use Rattle.layout.specs.Steps.Chain.{nothing-of}
 use Rattle.layout.specs.Steps.Numbers.{arm-of, other-of, None, among-none}
 use Rattle.layout.specs.Steps.Runs.{begins, leading-of}
-use Rattle.value.specs.Value.{without-long-form, left-out, RawValueOf, ValueIn, CellValue, cell-zeros, forms}
+use Rattle.grammar.specs.Value.{without-long-form, left-out, RawValueOf, ValueIn, CellValue, cell-zeros, forms}
 
 pub too-deep : (version d : ℕ) {s : List ℕ} {st r : Step} → d ≡ 0 → r ≡ refused st → Reads (ValueIn version d) s st r
 unfolding ValueIn

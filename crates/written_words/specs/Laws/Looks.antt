@@ -5,7 +5,8 @@ use Prim.Native.Nat.{ℕ, _≤_}
 use lib.ListN.{length, drop}
 use borrow.Author.Tests.{le-leb}
 use Rattle.sizes.specs.Sizes.{write-answer-words}
-use Rattle.layout.specs.Layout.{Bytes, pick}
+use Rattle.sizes.specs.Basics.{pick}
+use Rattle.grammar.specs.Layout.{Bytes}
 use Rattle.look.specs.declared.Look.{Look}
 use Rattle.look.specs.declared.Answer.the-variants as look
 use Rattle.look_write.specs.Writing.{output}

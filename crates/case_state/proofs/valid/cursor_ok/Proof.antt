@@ -1,5 +1,5 @@
 use borrow.Author.Tests.{ltb-true}
-use Rattle.layout.specs.Layout.{pick}
+use Rattle.sizes.specs.Basics.{pick}
 use Rattle.case_state.specs.Tests.{cursor-ok}
 use Rattle.case_state.proofs.valid.cursor_ok.Statement.{statement}
 use Rattle.case_state.proofs.valid.cursor_ok.Tie as tie

@@ -1,4 +1,4 @@
-use Rattle.layout.specs.Layout.{pick}
+use Rattle.sizes.specs.Basics.{pick}
 use Rattle.case_state.proofs.valid.nothing_held.Statement.{statement}
 use Rattle.case_state.proofs.valid.nothing_held.Tie as tie
 

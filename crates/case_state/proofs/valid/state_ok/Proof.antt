@@ -1,6 +1,6 @@
 use mathlib.Core.Path.{sym, _∙_}
 use borrow.Author.Tests.{leb-true}
-use Rattle.layout.specs.Layout.{pick}
+use Rattle.sizes.specs.Basics.{pick}
 use Rattle.case_state.specs.Tests.{state-ok}
 use Rattle.case_state.specs.Laws.Valid.{kinds-few}
 use Rattle.case_state.proofs.valid.state_ok.Statement.{statement}

@@ -1,4 +1,4 @@
-use Rattle.layout.specs.Layout.{pick}
+use Rattle.sizes.specs.Basics.{pick}
 use Rattle.case_state.specs.Tests.{stop-ok}
 use Rattle.case_state.proofs.valid.stop_ok.Statement.{statement}
 use Rattle.case_state.proofs.valid.stop_ok.Tie as tie

@@ -1,6 +1,6 @@
 use borrow.Author.Needs.{needs}
 use native.Mathlib.Omega.{arith}
-use Rattle.layout.specs.Layout.{undigit}
+use Rattle.sizes.specs.Basics.{undigit}
 use Rattle.cases.specs.Steps.{eight-at}
 use Rattle.cases.proofs.bytes.eight_bytes.Statement.{statement}
 use Rattle.cases.proofs.bytes.eight_bytes.Tie as tie

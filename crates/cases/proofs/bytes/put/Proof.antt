@@ -4,7 +4,7 @@ use Prim.Native.Nat.{_≤_, _+_, _-_}
 use native.Mathlib.Omega.{arith}
 use lib.ListN.{length, length-set}
 use lib.Seq.{sets}
-use Rattle.layout.specs.Layout.{le}
+use Rattle.sizes.specs.Basics.{le}
 use Rattle.cases.specs.Laws.Loop.{put-begin, put-again, put-end}
 use Rattle.cases.proofs.bytes.put.Statement.{statement}
 use Rattle.cases.proofs.bytes.put.Tie as tie

@@ -1,5 +1,5 @@
 use borrow.Author.Needs.{needs}
-use Rattle.layout.specs.Layout.{pick}
+use Rattle.sizes.specs.Basics.{pick}
 use Rattle.cases.specs.Steps.{emitted, counted}
 use Rattle.cases.proofs.calls.emit.Statement.{statement}
 use Rattle.cases.proofs.calls.emit.Tie as tie

@@ -3,7 +3,7 @@ use mathlib.Core.Path.{_≡_}
 use mathlib.Core.Bool.{true}
 use Prim.Native.Nat.{_+_, _-_, _<_}
 use native.Mathlib.Omega.{arith}
-use Rattle.layout.specs.Layout.{pick}
+use Rattle.sizes.specs.Basics.{pick}
 use Rattle.cases.specs.Steps.{firsts}
 use Rattle.cases.specs.Laws.Loop.{Gone, gone, gives-on}
 use Rattle.cases.proofs.calls.give_all.Statement.{statement}

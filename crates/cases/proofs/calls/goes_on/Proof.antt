@@ -1,4 +1,4 @@
-use Rattle.layout.specs.Layout.{pick}
+use Rattle.sizes.specs.Basics.{pick}
 use Rattle.cases.specs.Steps.{goes-on}
 use Rattle.cases.proofs.calls.goes_on.Statement.{statement}
 use Rattle.cases.proofs.calls.goes_on.Tie as tie

@@ -1,4 +1,4 @@
-use Rattle.layout.specs.Layout.{pick}
+use Rattle.sizes.specs.Basics.{pick}
 use Rattle.case_stream.specs.Stream.{value, says}
 use Rattle.cases.proofs.codes.judge.Statement.{statement}
 use Rattle.cases.proofs.codes.judge.Tie as tie

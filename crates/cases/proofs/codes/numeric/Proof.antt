@@ -1,5 +1,5 @@
 use borrow.Author.Needs.{needs}
-use Rattle.layout.specs.Layout.{le, pick}
+use Rattle.sizes.specs.Basics.{le, pick}
 use Rattle.case_stream.specs.Stream.{double, numeric}
 use Rattle.cases.proofs.codes.numeric.Statement.{statement}
 use Rattle.cases.proofs.codes.numeric.Tie as tie

@@ -1,4 +1,4 @@
-use Rattle.layout.specs.Layout.{le, pick}
+use Rattle.sizes.specs.Basics.{le, pick}
 use Rattle.case_stream.specs.Stream.{string}
 use Rattle.cases.proofs.codes.string.Statement.{statement}
 use Rattle.cases.proofs.codes.string.Tie as tie

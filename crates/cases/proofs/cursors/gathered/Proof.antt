@@ -1,7 +1,7 @@
 use borrow.Author.Needs.{needs}
 use borrow.Author.Tests.{ltb-false}
 use native.Mathlib.Omega.{arith}
-use Rattle.layout.specs.Layout.{pick}
+use Rattle.sizes.specs.Basics.{pick}
 use Rattle.cases.specs.Laws.Digits.{byte-in, small-power}
 use Rattle.cases.proofs.cursors.gathered.Statement.{statement}
 use Rattle.cases.proofs.cursors.gathered.Tie as tie

@@ -1,5 +1,5 @@
 use borrow.Author.Needs.{needs}
-use Rattle.layout.specs.Layout.{pick}
+use Rattle.sizes.specs.Basics.{pick}
 use Rattle.cases.specs.Steps.{whole}
 use Rattle.cases.proofs.steps.whole.Statement.{statement}
 use Rattle.cases.proofs.steps.whole.Tie as tie

@@ -1,5 +1,5 @@
 use borrow.Author.Needs.{needs}
-use Rattle.layout.specs.Layout.{pick}
+use Rattle.sizes.specs.Basics.{pick}
 use Rattle.store.specs.Laws.Puts.{long-words}
 use Rattle.cases_words.specs.Laws.Arrays.{state-long}
 use Rattle.cases_words.proofs.Calling.{at-front}

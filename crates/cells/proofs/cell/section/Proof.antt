@@ -4,7 +4,7 @@ use Rattle.sizes.specs.Sizes.{most-cells}
 use Rattle.layout.specs.Steps.Keeping.{kept-on, kept-off}
 use Rattle.layout.specs.Steps.Slices.{bytes-of}
 use Rattle.layout.specs.Steps.Numbered.{in-limit, ends-at, no-number, no-items, the-items}
-use Rattle.table.specs.Rules.{cellRule, cellsRule}
+use Rattle.grammar.specs.Rules.{cellRule, cellsRule}
 use Rattle.table.specs.Laws.Within.{room-after}
 use Rattle.cells.specs.Laws.Rows.{after}
 use Rattle.cells.specs.Laws.Cells.{cell-records, cell-kind, cellOf, AllCells, the-cells}

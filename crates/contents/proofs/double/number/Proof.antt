@@ -6,7 +6,7 @@ use lib.Dec.{leb}
 use lib.Ieee.{binary64, nanBits}
 use lib.Ieee.Bits.{nanBits-above}
 use borrow.Author.Tests.{leb-true, leb-false, le-ltb, lt-ltb}
-use Rattle.layout.specs.Layout.{pick}
+use Rattle.sizes.specs.Basics.{pick}
 use Rattle.contents.specs.Number.{numberOf}
 use Rattle.contents.proofs.double.number.Statement.{statement}
 use Rattle.contents.proofs.double.number.Tie as tie

@@ -1,5 +1,5 @@
 use mathlib.Core.Path.{refl, sym, _∙_}
-use Rattle.layout.specs.Layout.{pick, among}
+use Rattle.sizes.specs.Basics.{pick, among}
 use Rattle.layout.specs.Steps.Slices.{bytes-of}
 use borrow.Author.Tests.{eqb-true}
 use Rattle.contents.specs.Contents.{chosen, either}

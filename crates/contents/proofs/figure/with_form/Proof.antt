@@ -1,4 +1,4 @@
-use Rattle.layout.specs.Layout.{pick, among}
+use Rattle.sizes.specs.Basics.{pick, among}
 use Rattle.contents.specs.Laws.Figure.{figureWith}
 use Rattle.contents.proofs.figure.with_form.Statement.{statement}
 use Rattle.contents.proofs.figure.with_form.Tie as tie

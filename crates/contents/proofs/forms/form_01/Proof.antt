@@ -3,7 +3,7 @@ use mathlib.Core.Bool.{false}
 use Rattle.store.specs.Fields.{placed}
 use Rattle.fields.specs.Laws.Shows.{_&_, shows-nothing, shows-of}
 use Rattle.fields.specs.Laws.Gives.{to-shows}
-use Rattle.value.specs.Value.{Form01}
+use Rattle.grammar.specs.Value.{Form01}
 use Rattle.contents.specs.Contents.{says-01, raw, none}
 use Rattle.contents.proofs.forms.form_01.Statement.{statement}
 use Rattle.contents.proofs.forms.form_01.Tie as tie

@@ -3,7 +3,7 @@ use lib.Dec.{eqb}
 use Rattle.store.specs.Fields.{placed}
 use Rattle.fields.specs.Laws.Shows.{_&_, shows-nothing, shows-of}
 use Rattle.fields.specs.Laws.Gives.{to-shows, bit-of}
-use Rattle.value.specs.Value.{Form03}
+use Rattle.grammar.specs.Value.{Form03}
 use Rattle.contents.specs.Contents.{says-03, raw, none, bytes-of}
 use Rattle.contents.proofs.forms.form_03.Statement.{statement}
 use Rattle.contents.proofs.forms.form_03.Tie as tie

@@ -1,5 +1,5 @@
 use mathlib.Core.Path.{refl}
-use Rattle.layout.specs.Layout.{pick, among}
+use Rattle.sizes.specs.Basics.{pick, among}
 use Rattle.value.specs.Laws.Forms.{long-form-left-out, no-form}
 use Rattle.contents.specs.Contents.{chosen, either}
 use Rattle.contents.specs.Laws.Forms.{modified-shows, form-shows, long-shows, no-form-shows}

@@ -1,4 +1,4 @@
-use Rattle.layout.specs.Layout.{little}
+use Rattle.grammar.specs.Layout.{little}
 use Rattle.fields.specs.Laws.Slices.{peek-fits}
 use Rattle.contents.specs.Laws.Forms.{template-shows}
 use Rattle.contents.proofs.forms.template.Statement.{statement}

@@ -1,4 +1,4 @@
-use Rattle.layout.specs.Layout.{pick}
+use Rattle.sizes.specs.Basics.{pick}
 use Rattle.contents.specs.Laws.Plain.{plain}
 use Rattle.contents.proofs.plain.is_plain.Statement.{statement}
 use Rattle.contents.proofs.plain.is_plain.Tie as tie

@@ -1,4 +1,4 @@
-use Rattle.layout.specs.Layout.{little}
+use Rattle.grammar.specs.Layout.{little}
 use Rattle.fields.specs.Laws.Slices.{peek-fits}
 use Rattle.contents.proofs.plain.plain_format.Statement.{statement}
 use Rattle.contents.proofs.plain.plain_format.Tie as tie

@@ -1,5 +1,5 @@
 use native.Mathlib.Omega.{arith}
-use Rattle.layout.specs.Layout.{pick}
+use Rattle.sizes.specs.Basics.{pick}
 use Rattle.desk.proofs.place.inside.Statement.{statement}
 use Rattle.desk.proofs.place.inside.Tie as tie
 

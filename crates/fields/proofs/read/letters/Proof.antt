@@ -3,8 +3,9 @@ use mathlib.Core.Bool.{true, false}
 use borrow.Author.Needs.{needs}
 use native.Mathlib.Omega.{arith}
 use lib.ListN.{length}
-use Rattle.layout.specs.Layout.{big, the-number, passes, pick, undigits}
-use Rattle.layout.specs.Read.{refusal}
+use Rattle.sizes.specs.Basics.{pick}
+use Rattle.grammar.specs.Layout.{big, the-number, passes, undigits}
+use Rattle.grammar.specs.Laws.Layout.Read.{refusal}
 use Rattle.layout.specs.Steps.Chain.{kept}
 use Rattle.fields.specs.Laws.Gives.{fixed-gives}
 use Rattle.fields.specs.Laws.Letters.{number-short, number-here}

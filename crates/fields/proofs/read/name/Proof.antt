@@ -1,7 +1,8 @@
 use mathlib.Core.Path.{refl}
 use borrow.Author.Needs.{needs}
 use native.Mathlib.Omega.{arith}
-use Rattle.layout.specs.Layout.{suits, pick}
+use Rattle.sizes.specs.Basics.{pick}
+use Rattle.grammar.specs.Layout.{suits}
 use Rattle.layout.specs.Steps.Counted.{string-of}
 use Rattle.layout.specs.Reads as spec
 use Rattle.fields.specs.Laws.Gives.{string-gives, next-value}

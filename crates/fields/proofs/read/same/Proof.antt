@@ -3,7 +3,7 @@ use mathlib.Core.Path.{_≡_}
 use native.Mathlib.Omega.{arith}
 use lib.ListN.{length, getD}
 use borrow.Author.Count.{below-more}
-use Rattle.layout.specs.Layout.{big}
+use Rattle.grammar.specs.Layout.{big}
 use Rattle.fields.specs.Laws.Letters.{all-same, one-differs}
 use Rattle.layout.specs.Steps.Slices.{bytes-of}
 use Rattle.fields.proofs.read.same.Statement.{statement}

@@ -1,6 +1,6 @@
 use mathlib.Core.Path.{refl}
 use borrow.Author.Needs.{needs}
-use Rattle.layout.specs.Layout.{little}
+use Rattle.grammar.specs.Layout.{little}
 use Rattle.layout.specs.Steps.Numbers.{tested-of}
 use Rattle.fields.specs.Laws.Slices.{peek-fits}
 use Rattle.fields.specs.Laws.Gives.{number-gives, next-value, refused-value}

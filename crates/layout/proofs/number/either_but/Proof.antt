@@ -3,8 +3,9 @@ use mathlib.Core.Bool.{Bool, true, false}
 use mathlib.Core.List.{[], _∷_}
 use Prim.Native.Nat.{ℕ}
 use lib.Dec.{eqb}
-use Rattle.layout.specs.Layout.{passes, among, pick}
-use Rattle.layout.specs.Read.{refusal}
+use Rattle.sizes.specs.Basics.{among, pick}
+use Rattle.grammar.specs.Layout.{passes}
+use Rattle.grammar.specs.Laws.Layout.Read.{refusal}
 use Rattle.layout.specs.Reads.{verdict}
 use Rattle.layout.proofs.number.either_but.Statement.{statement}
 use Rattle.layout.proofs.number.either_but.Tie as tie

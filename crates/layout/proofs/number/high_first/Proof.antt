@@ -5,7 +5,8 @@ use mathlib.Core.Path.{_≡_, refl}
 use native.Mathlib.Omega.{arith}
 use lib.Dec.{lit<}
 use lib.ListN.{take, drop}
-use Rattle.layout.specs.Layout.{big, undigit, undigits}
+use Rattle.sizes.specs.Basics.{undigit}
+use Rattle.grammar.specs.Layout.{big, undigits}
 use Rattle.layout.proofs.Digits.{more-after, bound, room}
 use Rattle.layout.proofs.number.high_first.Statement.{statement}
 use Rattle.layout.proofs.number.high_first.Tie as tie

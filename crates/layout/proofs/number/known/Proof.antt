@@ -1,5 +1,5 @@
-use Rattle.layout.specs.Layout.{passes}
-use Rattle.layout.specs.Read.{refusal}
+use Rattle.grammar.specs.Layout.{passes}
+use Rattle.grammar.specs.Laws.Layout.Read.{refusal}
 use Rattle.layout.specs.Reads.{verdict}
 use Rattle.layout.proofs.number.known.Statement.{statement}
 use Rattle.layout.proofs.number.known.Tie as tie

@@ -6,7 +6,8 @@ use native.Mathlib.Omega.{arith}
 use native.Mathlib.Nat.{sub-self, sub-zero, add-zero}
 use lib.Dec.{lit<}
 use lib.ListN.{take, drop}
-use Rattle.layout.specs.Layout.{little, undigit, undigits}
+use Rattle.sizes.specs.Basics.{undigit}
+use Rattle.grammar.specs.Layout.{little, undigits}
 use Rattle.layout.proofs.Digits.{more-below, bound, room}
 use Rattle.layout.proofs.number.low_first.Statement.{statement}
 use Rattle.layout.proofs.number.low_first.Tie as tie

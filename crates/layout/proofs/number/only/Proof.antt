@@ -1,5 +1,6 @@
-use Rattle.layout.specs.Layout.{passes, among, pick}
-use Rattle.layout.specs.Read.{refusal}
+use Rattle.sizes.specs.Basics.{among, pick}
+use Rattle.grammar.specs.Layout.{passes}
+use Rattle.grammar.specs.Laws.Layout.Read.{refusal}
 use Rattle.layout.specs.Reads.{verdict}
 use Rattle.layout.proofs.number.only.Statement.{statement}
 use Rattle.layout.proofs.number.only.Tie as tie

@@ -1,4 +1,4 @@
-use Rattle.layout.specs.Layout.{among, pick}
+use Rattle.sizes.specs.Basics.{among, pick}
 use Rattle.layout.proofs.number.unless_either.Statement.{statement}
 use Rattle.layout.proofs.number.unless_either.Tie as tie
 

@@ -1,6 +1,6 @@
 use borrow.Author.Needs.{needs}
 use borrow.Author.Tests.{le-leb, lt-leb}
-use Rattle.layout.specs.Layout.{pick}
+use Rattle.sizes.specs.Basics.{pick}
 use Rattle.layout.specs.Reads as spec
 use Rattle.layout.proofs.region.bytes.Statement.{statement}
 use Rattle.layout.proofs.region.bytes.Tie as tie

@@ -1,5 +1,5 @@
 use borrow.Author.Needs.{needs}
-use Rattle.layout.specs.Layout.{pick}
+use Rattle.sizes.specs.Basics.{pick}
 use Rattle.layout.specs.Reads as spec
 use Rattle.layout.proofs.region.close_optional.Statement.{statement}
 use Rattle.layout.proofs.region.close_optional.Tie as tie

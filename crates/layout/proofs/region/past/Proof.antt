@@ -1,6 +1,7 @@
 use borrow.Author.Needs.{needs}
 use mathlib.Core.Path.{sym}
-use Rattle.layout.specs.Layout.{pick, suits}
+use Rattle.sizes.specs.Basics.{pick}
+use Rattle.grammar.specs.Layout.{suits}
 use Rattle.layout.specs.Reads as spec
 use Rattle.layout.proofs.region.past.Statement.{statement}
 use Rattle.layout.proofs.region.past.Tie as tie

@@ -1,7 +1,7 @@
 use Prim.Native.Nat.{min}
 use borrow.Author.Needs.{needs}
 use native.Mathlib.Omega.{arith}
-use Rattle.layout.specs.Layout.{no-zero, string}
+use Rattle.grammar.specs.Layout.{no-zero, string}
 use Rattle.layout.specs.Reads.{order}
 use Rattle.layout.specs.Steps.Chain.{Left, left-more, left-none, left-kept}
 use Rattle.layout.proofs.region.strings.Statement.{statement}

@@ -1,7 +1,7 @@
 use borrow.Author.Needs.{needs}
 use native.Mathlib.Omega.{arith}
 use borrow.Author.Tests.{eqb-false}
-use Rattle.layout.specs.Layout.{pick}
+use Rattle.sizes.specs.Basics.{pick}
 use Rattle.layout.specs.Reads as spec
 use Rattle.layout.proofs.rows.fitting.Statement.{statement}
 use Rattle.layout.proofs.rows.fitting.Tie as tie

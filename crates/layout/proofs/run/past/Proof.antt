@@ -4,7 +4,7 @@ use mathlib.Core.Path.{_≡_, refl}
 use borrow.Author.Needs.{needs}
 use native.Mathlib.Omega.{arith}
 use lib.ListN.{drop}
-use Rattle.layout.specs.Read.{lead}
+use Rattle.grammar.specs.Laws.Layout.Read.{lead}
 use Rattle.layout.proofs.Runs.{lead-none, lead-past, lead-other, lead-more}
 use Rattle.layout.proofs.run.past.Statement.{statement}
 use Rattle.layout.proofs.run.past.Tie as tie

@@ -1,6 +1,6 @@
 use native.Mathlib.Omega.{arith}
 use borrow.Author.Needs.{needs}
-use Rattle.layout.specs.Laws.Part.{part-inside, part-outside}
+use Rattle.grammar.specs.Laws.Layout.Part.{part-inside, part-outside}
 use Rattle.layout.proofs.slice.part.Statement.{statement}
 use Rattle.layout.proofs.slice.part.Tie as tie
 

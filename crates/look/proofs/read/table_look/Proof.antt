@@ -1,5 +1,5 @@
 use borrow.Author.Needs.{needs}
-use Rattle.layout.specs.Layout.{little, _▸_}
+use Rattle.grammar.specs.Layout.{little, _▸_}
 use Rattle.layout.specs.Steps.Numbers.{tested-of}
 use Rattle.fields.specs.Laws.Gives.{switch-gives, _⟩_}
 use Rattle.layout.specs.Steps.Slices.{bytes-of}

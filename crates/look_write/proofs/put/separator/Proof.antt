@@ -2,7 +2,8 @@ use mathlib.Core.Path.{refl}
 use borrow.Author.Needs.{needs}
 use native.Mathlib.Omega.{arith}
 use lib.Dec.{eqb}
-use Rattle.layout.specs.Layout.{passes, among, pick}
+use Rattle.sizes.specs.Basics.{among, pick}
+use Rattle.grammar.specs.Layout.{passes}
 use Rattle.layout.specs.Reads.{verdict}
 use Rattle.store.specs.Laws.Puts.{_⊳_, plain-switch}
 use Rattle.look.specs.Look as grammar

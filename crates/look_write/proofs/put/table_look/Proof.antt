@@ -1,5 +1,5 @@
 use borrow.Author.Needs.{needs}
-use Rattle.layout.specs.Layout.{_▸_}
+use Rattle.grammar.specs.Layout.{_▸_}
 use Rattle.store.specs.Laws.Puts.{plain, _⟫_, switch-puts, long}
 use Rattle.look.specs.Look as grammar
 use Rattle.look.specs.Look.{PTTableLook-name}

@@ -5,8 +5,8 @@ use mathlib.Core.Bool.{false≢true}
 use native.Mathlib.Omega.{arith}
 use borrow.Author.Needs.{needs}
 use lib.ListN.{length, length-set}
-use Rattle.once.specs.Once.{firsts}
-use Rattle.once.specs.Repeat.{strided}
+use Rattle.grammar.specs.RecordWords.{firsts}
+use Rattle.grammar.specs.Repeat.{strided}
 use Rattle.once.specs.Laws.Marks.{Marks}
 use Rattle.once.specs.Laws.Repeats.{AllNew, none-new, one-more-new, found-at, none-found, marked-old, marked-new, one-marked}
 use Rattle.once.proofs.repeats.by_marks.Statement.{statement}

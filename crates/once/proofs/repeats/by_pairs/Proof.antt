@@ -2,7 +2,7 @@
 use Prim.Native.Nat.{_+_, _*_, _-_, _≤_}
 use mathlib.Core.Path.{_≡_}
 use native.Mathlib.Omega.{arith}
-use Rattle.once.specs.Repeat.{strided}
+use Rattle.grammar.specs.Repeat.{strided}
 use Rattle.once.specs.Laws.Repeats.{AllNew, none-new, one-more-new, found-at, none-found}
 use Rattle.once.proofs.repeats.by_pairs.Statement.{statement}
 use Rattle.once.proofs.repeats.by_pairs.Tie as tie

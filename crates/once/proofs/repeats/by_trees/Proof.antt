@@ -3,7 +3,7 @@ use Prim.Native.Nat.{_+_, _*_, _-_, _≤_}
 use mathlib.Core.Path.{_≡_, refl, sym, _∙_}
 use native.Mathlib.Omega.{arith}
 use lib.ListN.{length}
-use Rattle.once.specs.Repeat.{strided}
+use Rattle.grammar.specs.Repeat.{strided}
 use Rattle.once.specs.Laws.Repeats.{AllNew, none-new, one-more-new, found-at, none-found}
 use Rattle.once.specs.Laws.Places.{PlaceTrees}
 use Rattle.once.proofs.repeats.by_trees.Statement.{statement}

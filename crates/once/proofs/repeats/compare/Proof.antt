@@ -3,7 +3,7 @@ use Prim.Native.Nat.{_-_, _≤_}
 use mathlib.Core.Path.{_≡_, sym, _∙_}
 use borrow.Author.Count.{below-more}
 use native.Mathlib.Omega.{arith}
-use Rattle.once.specs.Repeat.{strided}
+use Rattle.grammar.specs.Repeat.{strided}
 use Rattle.once.specs.Laws.Repeats.{NoneOf, same-number, none-same}
 use Rattle.once.proofs.repeats.compare.Statement.{statement}
 use Rattle.once.proofs.repeats.compare.Tie as tie

@@ -3,7 +3,7 @@ use Prim.Native.Nat.{ℕ, _+_, _*_, _-_}
 use mathlib.Core.Path.{_≡_, refl}
 use native.Mathlib.Omega.{arith}
 use lib.ListN.{length, length-set}
-use Rattle.once.specs.Repeat.{strided}
+use Rattle.grammar.specs.Repeat.{strided}
 use Rattle.once.specs.Laws.Places.{Search, at-bucket, is-old, is-new, place-below, further}
 use Rattle.once.proofs.repeats.look.Statement.{statement}
 use Rattle.once.proofs.repeats.look.Tie as tie

@@ -3,7 +3,7 @@ use Prim.Native.Nat.{_+_, _-_, _≤_}
 use mathlib.Core.Path.{_≡_}
 use mathlib.Core.Bool.{false≢true}
 use native.Mathlib.Omega.{arith}
-use Rattle.once.specs.Repeat.{strided}
+use Rattle.grammar.specs.Repeat.{strided}
 use Rattle.once.specs.Laws.Repeats.{Ascends, ascends-first, ascends-more, none-found}
 use Rattle.once.proofs.repeats.order.Statement.{statement}
 use Rattle.once.proofs.repeats.order.Tie as tie

@@ -1,4 +1,4 @@
-use Rattle.sections.specs.Sections.{Area}
+use Rattle.grammar.specs.Sections.{Area}
 use Rattle.layout.specs.Steps.{reads}
 use Rattle.sections.proofs.areas.area.Statement.{statement}
 use Rattle.sections.proofs.areas.area.Tie as tie

@@ -1,6 +1,6 @@
 use mathlib.Core.Path.{refl}
 use Rattle.layout.specs.Steps.Runs.{begins, leading-of}
-use Rattle.sections.specs.Sections.{Areas, EightAreas, Area, AreaFont}
+use Rattle.grammar.specs.Sections.{Areas, EightAreas, Area, AreaFont}
 use Rattle.sections.proofs.areas.areas.Statement.{statement}
 use Rattle.sections.proofs.areas.areas.Tie as tie
 

@@ -1,4 +1,4 @@
-use Rattle.sections.specs.Sections.{AreaColors}
+use Rattle.grammar.specs.Sections.{AreaColors}
 use Rattle.layout.specs.Steps.{reads}
 use Rattle.sections.proofs.areas.colors.Statement.{statement}
 use Rattle.sections.proofs.areas.colors.Tie as tie

@@ -1,4 +1,4 @@
-use Rattle.sections.specs.Sections.{EightAreas}
+use Rattle.grammar.specs.Sections.{EightAreas}
 use Rattle.layout.specs.Steps.{reads}
 use Rattle.sections.proofs.areas.eight.Statement.{statement}
 use Rattle.sections.proofs.areas.eight.Tie as tie

@@ -1,4 +1,4 @@
-use Rattle.sections.specs.Sections.{AreaFont}
+use Rattle.grammar.specs.Sections.{AreaFont}
 use Rattle.layout.specs.Steps.{reads}
 use Rattle.sections.proofs.areas.font.Statement.{statement}
 use Rattle.sections.proofs.areas.font.Tie as tie

@@ -1,4 +1,4 @@
-use Rattle.sections.specs.Sections.{AreaMargins}
+use Rattle.grammar.specs.Sections.{AreaMargins}
 use Rattle.layout.specs.Steps.{reads}
 use Rattle.sections.proofs.areas.four_margins.Statement.{statement}
 use Rattle.sections.proofs.areas.four_margins.Tie as tie

@@ -1,10 +1,8 @@
-use Rattle.sections.specs.Sections.{Keep}
 use Rattle.layout.specs.Steps.{reads}
 use Rattle.sections.proofs.arrays.pair.Statement.{statement}
 use Rattle.sections.proofs.arrays.pair.Tie as tie
 
 pub pair-spec : {M : Type 1} → statement M
-unfolding Keep
 pair-spec =
     tie.close
     (tie.spec

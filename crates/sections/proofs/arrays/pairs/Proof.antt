@@ -1,10 +1,8 @@
-use Rattle.sections.specs.Sections.{Keeps}
 use Rattle.layout.specs.Steps.{reads}
 use Rattle.sections.proofs.arrays.pairs.Statement.{statement}
 use Rattle.sections.proofs.arrays.pairs.Tie as tie
 
 pub pairs-spec : {M : Type 1} → statement M
-unfolding Keeps
 pairs-spec =
     tie.close
     (tie.spec

@@ -1,4 +1,4 @@
-use Rattle.sections.specs.Sections.{Borders}
+use Rattle.grammar.specs.Sections.{Borders}
 use Rattle.layout.specs.Steps.{reads}
 use Rattle.sections.proofs.borders.borders.Statement.{statement}
 use Rattle.sections.proofs.borders.borders.Tie as tie

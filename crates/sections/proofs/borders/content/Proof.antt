@@ -1,4 +1,4 @@
-use Rattle.sections.specs.Sections.{BordersContent}
+use Rattle.grammar.specs.Sections.{BordersContent}
 use Rattle.layout.specs.Steps.{reads}
 use Rattle.sections.proofs.borders.content.Statement.{statement}
 use Rattle.sections.proofs.borders.content.Tie as tie

@@ -1,4 +1,4 @@
-use Rattle.sections.specs.Sections.{Footnote}
+use Rattle.grammar.specs.Sections.{Footnote}
 use Rattle.layout.specs.Steps.{reads}
 use Rattle.sections.proofs.footnotes.footnote.Statement.{statement}
 use Rattle.sections.proofs.footnotes.footnote.Tie as tie

@@ -1,4 +1,4 @@
-use Rattle.sections.specs.Sections.{Footnotes}
+use Rattle.grammar.specs.Sections.{Footnotes}
 use Rattle.layout.specs.Steps.{reads}
 use Rattle.sections.proofs.footnotes.footnotes.Statement.{statement}
 use Rattle.sections.proofs.footnotes.footnotes.Tie as tie

@@ -1,7 +1,7 @@
 use borrow.Author.Needs.{needs}
 use native.Mathlib.Omega.{arith}
 use Rattle.layout.specs.Steps.Chain.{Left, left-more, left-none, left-kept}
-use Rattle.sections.specs.Sections.{Footnote}
+use Rattle.grammar.specs.Sections.{Footnote}
 use Rattle.sections.proofs.footnotes.notes.Statement.{statement}
 use Rattle.sections.proofs.footnotes.notes.Tie as tie
 

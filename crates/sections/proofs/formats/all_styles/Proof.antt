@@ -1,7 +1,7 @@
 use borrow.Author.Needs.{needs}
 use native.Mathlib.Omega.{arith}
 use Rattle.layout.specs.Steps.Chain.{Left, left-more, left-none, left-kept}
-use Rattle.value.specs.Value.{StylePair}
+use Rattle.grammar.specs.Value.{StylePair}
 use Rattle.sections.proofs.formats.all_styles.Statement.{statement}
 use Rattle.sections.proofs.formats.all_styles.Tie as tie
 

@@ -1,4 +1,4 @@
-use Rattle.sections.specs.Sections.{CustomCurrency}
+use Rattle.grammar.specs.Sections.{CustomCurrency}
 use Rattle.sections.proofs.formats.custom_currency.Statement.{statement}
 use Rattle.sections.proofs.formats.custom_currency.Tie as tie
 

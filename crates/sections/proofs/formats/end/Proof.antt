@@ -1,4 +1,4 @@
-use Rattle.sections.specs.Sections.{FormatsEnd}
+use Rattle.grammar.specs.Sections.{FormatsEnd}
 use Rattle.layout.specs.Steps.{reads}
 use Rattle.sections.proofs.formats.end.Statement.{statement}
 use Rattle.sections.proofs.formats.end.Tie as tie

@@ -1,4 +1,4 @@
-use Rattle.sections.specs.Sections.{Formats}
+use Rattle.grammar.specs.Sections.{Formats}
 use Rattle.layout.specs.Steps.{reads}
 use Rattle.sections.proofs.formats.formats.Statement.{statement}
 use Rattle.sections.proofs.formats.formats.Tie as tie

@@ -1,4 +1,4 @@
-use Rattle.sections.specs.Sections.{X0}
+use Rattle.grammar.specs.Sections.{X0}
 use Rattle.layout.specs.Steps.{reads}
 use Rattle.sections.proofs.formats.x0.Statement.{statement}
 use Rattle.sections.proofs.formats.x0.Tie as tie

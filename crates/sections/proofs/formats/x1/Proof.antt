@@ -1,4 +1,4 @@
-use Rattle.sections.specs.Sections.{X1}
+use Rattle.grammar.specs.Sections.{X1}
 use Rattle.layout.specs.Steps.{reads}
 use Rattle.sections.proofs.formats.x1.Statement.{statement}
 use Rattle.sections.proofs.formats.x1.Tie as tie

@@ -1,4 +1,4 @@
-use Rattle.sections.specs.Sections.{X1Start}
+use Rattle.grammar.specs.Sections.{X1Start}
 use Rattle.layout.specs.Steps.{reads}
 use Rattle.sections.proofs.formats.x1_start.Statement.{statement}
 use Rattle.sections.proofs.formats.x1_start.Tie as tie

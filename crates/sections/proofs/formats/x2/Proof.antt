@@ -1,4 +1,4 @@
-use Rattle.sections.specs.Sections.{X2}
+use Rattle.grammar.specs.Sections.{X2}
 use Rattle.layout.specs.Steps.{reads}
 use Rattle.sections.proofs.formats.x2.Statement.{statement}
 use Rattle.sections.proofs.formats.x2.Tie as tie

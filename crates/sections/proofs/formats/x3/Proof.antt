@@ -1,7 +1,7 @@
 use mathlib.Core.Path.{refl}
 use Rattle.layout.specs.Steps.Chain.{empty-of}
 use Rattle.layout.specs.Steps.Counted.{region-of}
-use Rattle.sections.specs.Sections.{X3}
+use Rattle.grammar.specs.Sections.{X3}
 use Rattle.sections.proofs.formats.x3.Statement.{statement}
 use Rattle.sections.proofs.formats.x3.Tie as tie
 

@@ -1,4 +1,4 @@
-use Rattle.sections.specs.Sections.{Y0}
+use Rattle.grammar.specs.Sections.{Y0}
 use Rattle.layout.specs.Steps.{reads}
 use Rattle.sections.proofs.formats.y0.Statement.{statement}
 use Rattle.sections.proofs.formats.y0.Tie as tie

@@ -1,4 +1,4 @@
-use Rattle.sections.specs.Sections.{Y1}
+use Rattle.grammar.specs.Sections.{Y1}
 use Rattle.layout.specs.Steps.{reads}
 use Rattle.sections.proofs.formats.y1.Statement.{statement}
 use Rattle.sections.proofs.formats.y1.Tie as tie

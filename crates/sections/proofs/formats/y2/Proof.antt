@@ -1,4 +1,4 @@
-use Rattle.sections.specs.Sections.{Y2}
+use Rattle.grammar.specs.Sections.{Y2}
 use Rattle.layout.specs.Steps.{reads}
 use Rattle.sections.proofs.formats.y2.Statement.{statement}
 use Rattle.sections.proofs.formats.y2.Tie as tie

@@ -1,7 +1,7 @@
 use borrow.Author.Needs.{needs}
 use native.Mathlib.Omega.{arith}
 use Rattle.layout.specs.Steps.Chain.{Left, left-more, left-none, left-kept}
-use Rattle.layout.specs.Conventions.{fixed}
+use Rattle.grammar.specs.Conventions.{fixed}
 use Rattle.sections.proofs.formats.zeros.Statement.{statement}
 use Rattle.sections.proofs.formats.zeros.Tie as tie
 

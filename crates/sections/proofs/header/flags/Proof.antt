@@ -1,4 +1,4 @@
-use Rattle.sections.specs.Sections.{HeaderFlags}
+use Rattle.grammar.specs.Sections.{HeaderFlags}
 use Rattle.layout.specs.Steps.{reads}
 use Rattle.sections.proofs.header.flags.Statement.{statement}
 use Rattle.sections.proofs.header.flags.Tie as tie

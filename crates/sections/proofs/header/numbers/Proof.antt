@@ -1,4 +1,4 @@
-use Rattle.sections.specs.Sections.{HeaderNumbers}
+use Rattle.grammar.specs.Sections.{HeaderNumbers}
 use Rattle.layout.specs.Steps.{reads}
 use Rattle.sections.proofs.header.numbers.Statement.{statement}
 use Rattle.sections.proofs.header.numbers.Tie as tie

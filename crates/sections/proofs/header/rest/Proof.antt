@@ -1,4 +1,4 @@
-use Rattle.sections.specs.Sections.{HeaderRest}
+use Rattle.grammar.specs.Sections.{HeaderRest}
 use Rattle.layout.specs.Steps.{reads}
 use Rattle.sections.proofs.header.rest.Statement.{statement}
 use Rattle.sections.proofs.header.rest.Tie as tie

@@ -1,4 +1,4 @@
-use Rattle.sections.specs.Sections.{HeaderStart}
+use Rattle.grammar.specs.Sections.{HeaderStart}
 use Rattle.layout.specs.Steps.{reads}
 use Rattle.sections.proofs.header.start.Statement.{statement}
 use Rattle.sections.proofs.header.start.Tie as tie

@@ -1,4 +1,4 @@
-use Rattle.sections.specs.Sections.{PrintSettingsContent}
+use Rattle.grammar.specs.Sections.{PrintSettingsContent}
 use Rattle.layout.specs.Steps.{reads}
 use Rattle.sections.proofs.print_settings.content.Statement.{statement}
 use Rattle.sections.proofs.print_settings.content.Tie as tie

@@ -1,4 +1,4 @@
-use Rattle.sections.specs.Sections.{PrintSettings}
+use Rattle.grammar.specs.Sections.{PrintSettings}
 use Rattle.layout.specs.Steps.{reads}
 use Rattle.sections.proofs.print_settings.print_settings.Statement.{statement}
 use Rattle.sections.proofs.print_settings.print_settings.Tie as tie

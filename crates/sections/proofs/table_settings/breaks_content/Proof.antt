@@ -1,4 +1,4 @@
-use Rattle.sections.specs.Sections.{BreaksContent}
+use Rattle.grammar.specs.Sections.{BreaksContent}
 use Rattle.layout.specs.Steps.{reads}
 use Rattle.sections.proofs.table_settings.breaks_content.Statement.{statement}
 use Rattle.sections.proofs.table_settings.breaks_content.Tie as tie

@@ -1,4 +1,4 @@
-use Rattle.sections.specs.Sections.{TableSettingsContent}
+use Rattle.grammar.specs.Sections.{TableSettingsContent}
 use Rattle.layout.specs.Steps.{reads}
 use Rattle.sections.proofs.table_settings.content.Statement.{statement}
 use Rattle.sections.proofs.table_settings.content.Tie as tie

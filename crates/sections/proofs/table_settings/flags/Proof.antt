@@ -1,4 +1,4 @@
-use Rattle.sections.specs.Sections.{TableFlags}
+use Rattle.grammar.specs.Sections.{TableFlags}
 use Rattle.layout.specs.Steps.{reads}
 use Rattle.sections.proofs.table_settings.flags.Statement.{statement}
 use Rattle.sections.proofs.table_settings.flags.Tie as tie

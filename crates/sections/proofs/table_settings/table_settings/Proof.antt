@@ -1,4 +1,4 @@
-use Rattle.sections.specs.Sections.{TableSettings}
+use Rattle.grammar.specs.Sections.{TableSettings}
 use Rattle.layout.specs.Steps.{reads}
 use Rattle.sections.proofs.table_settings.table_settings.Statement.{statement}
 use Rattle.sections.proofs.table_settings.table_settings.Tie as tie

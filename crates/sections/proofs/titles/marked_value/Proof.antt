@@ -1,6 +1,6 @@
 use mathlib.Core.Path.{refl}
 use Rattle.layout.specs.Steps.Runs.{begins, leading-of}
-use Rattle.value.specs.Value.{Value, ValueIn}
+use Rattle.grammar.specs.Value.{Value, ValueIn}
 use Rattle.sections.proofs.titles.marked_value.Statement.{statement}
 use Rattle.sections.proofs.titles.marked_value.Tie as tie
 

@@ -1,4 +1,4 @@
-use Rattle.sections.specs.Sections.{Titles}
+use Rattle.grammar.specs.Sections.{Titles}
 use Rattle.layout.specs.Steps.{reads}
 use Rattle.sections.proofs.titles.titles.Statement.{statement}
 use Rattle.sections.proofs.titles.titles.Tie as tie

@@ -7,7 +7,7 @@ use Rattle.layout.specs.declared.Step.the-variants.{Next, Refused}
 use borrow.Author.Needs.{needs}
 use native.Mathlib.Omega.{arith}
 use borrow.Author.Tests.{le-leb, lt-leb}
-use Rattle.layout.specs.Layout.{pick}
+use Rattle.sizes.specs.Basics.{pick}
 use Rattle.store.specs.Put.{opened}
 use Rattle.store.proofs.region.start.Statement.{statement}
 use Rattle.store.proofs.region.start.Tie as tie

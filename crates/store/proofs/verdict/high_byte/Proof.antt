@@ -1,5 +1,6 @@
-use Rattle.layout.specs.Layout.{passes, pick}
-use Rattle.layout.specs.Read.{refusal}
+use Rattle.sizes.specs.Basics.{pick}
+use Rattle.grammar.specs.Layout.{passes}
+use Rattle.grammar.specs.Laws.Layout.Read.{refusal}
 use Rattle.layout.specs.Reads.{verdict}
 use Rattle.store.proofs.verdict.high_byte.Statement.{statement}
 use Rattle.store.proofs.verdict.high_byte.Tie as tie

@@ -1,5 +1,5 @@
-use Rattle.layout.specs.Layout.{passes}
-use Rattle.layout.specs.Read.{refusal}
+use Rattle.grammar.specs.Layout.{passes}
+use Rattle.grammar.specs.Laws.Layout.Read.{refusal}
 use Rattle.layout.specs.Reads.{verdict}
 use Rattle.store.proofs.verdict.known_two.Statement.{statement}
 use Rattle.store.proofs.verdict.known_two.Tie as tie

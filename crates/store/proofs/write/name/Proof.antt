@@ -4,8 +4,9 @@ use Prim.Native.Nat.{ℕ}
 use native.Mathlib.Omega.{arith}
 use borrow.Author.Tests.{le-leb}
 use lib.ListN.{length}
-use Rattle.layout.specs.Layout.{Content, pick}
-use Rattle.layout.specs.Part.{partOf}
+use Rattle.sizes.specs.Basics.{pick}
+use Rattle.grammar.specs.Layout.{Content}
+use Rattle.grammar.specs.Part.{partOf}
 use Rattle.store.specs.declared.Name.{Name}
 use Rattle.store.specs.Fields.{lent, bytesOf, textOf}
 use Rattle.store.specs.Put.{textVerdict}

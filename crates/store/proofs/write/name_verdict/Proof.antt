@@ -5,7 +5,8 @@ use Prim.Native.Nat.{ℕ, _+_, _^_}
 use native.Mathlib.Nat.{add-zero}
 use lib.ListN.{length}
 use lib.Dec.{leb, ltb}
-use Rattle.layout.specs.Layout.{any-bytes, suits, pick}
+use Rattle.sizes.specs.Basics.{pick}
+use Rattle.grammar.specs.Layout.{any-bytes, suits}
 use Rattle.store.specs.declared.Name.{Name}
 use Rattle.store.specs.Fields.{lent}
 use Rattle.store.specs.Put.{contentVerdict, textVerdict}

@@ -1,10 +1,10 @@
 use mathlib.Core.Path.{sym, ap, _∙_}
 use lib.ListN.{length}
-use Rattle.layout.specs.Layout.{little}
-use Rattle.layout.specs.Laws.{digits-length}
+use Rattle.grammar.specs.Layout.{little}
+use Rattle.grammar.specs.Laws.Layout.{digits-length}
 use borrow.Author.Needs.{needs}
 use native.Mathlib.Omega.{arith}
-use Rattle.layout.specs.Layout.{le}
+use Rattle.sizes.specs.Basics.{le}
 use Rattle.store.proofs.Parts.{low-bytes, high-bytes}
 use Rattle.store.proofs.write.number.Statement.{statement}
 use Rattle.store.proofs.write.number.Tie as tie

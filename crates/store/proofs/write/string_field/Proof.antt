@@ -7,9 +7,9 @@ use lib.ListN.{length, length-append}
 use lib.Dec.{leb}
 use borrow.Author.Needs.{needs}
 use borrow.Author.Tests.{eqb-true, leb-true, leb-false}
-use Rattle.layout.specs.Layout.{Order, digits}
+use Rattle.grammar.specs.Layout.{Order, digits}
 use Rattle.layout.specs.Reads.{order}
-use Rattle.layout.specs.Laws.{digits-length}
+use Rattle.grammar.specs.Laws.Layout.{digits-length}
 use Rattle.store.specs.Laws.Puts.{stores-kept, stores-refused, stores-short, stores-both, long-field}
 use Rattle.store.proofs.write.string_field.Statement.{statement}
 use Rattle.store.proofs.write.string_field.Tie as tie

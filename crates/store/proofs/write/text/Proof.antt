@@ -4,7 +4,8 @@ use mathlib.Core.List.{List}
 use Prim.Native.Nat.{ℕ, _^_}
 use lib.ListN.{length}
 use lib.Dec.{ltb}
-use Rattle.layout.specs.Layout.{any-bytes, suits, pick}
+use Rattle.sizes.specs.Basics.{pick}
+use Rattle.grammar.specs.Layout.{any-bytes, suits}
 use Rattle.layout.specs.Steps.Slices.{bytes-of}
 use Rattle.store.specs.Fields.{letters, textOf}
 use Rattle.store.specs.Put.{contentVerdict, textVerdict}

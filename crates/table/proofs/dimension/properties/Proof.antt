@@ -1,5 +1,5 @@
 use Rattle.layout.specs.Steps.{reads}
-use Rattle.table.specs.Table.{DimProperties}
+use Rattle.grammar.specs.Table.{DimProperties}
 use Rattle.table.proofs.dimension.properties.Statement.{statement}
 use Rattle.table.proofs.dimension.properties.Tie as tie
 

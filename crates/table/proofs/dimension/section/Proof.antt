@@ -4,7 +4,7 @@ use Rattle.sizes.specs.Sizes.{most-dimensions}
 use Rattle.layout.specs.Steps.Keeping.{kept-on, kept-off}
 use Rattle.layout.specs.Steps.Slices.{bytes-of}
 use Rattle.layout.specs.Steps.Numbered.{in-limit, ends-at, no-number, no-items, the-items}
-use Rattle.table.specs.Rules.{dimensionsRule}
+use Rattle.grammar.specs.Rules.{dimensionsRule}
 use Rattle.table.specs.Laws.Within.{room-after}
 use Rattle.table.specs.Laws.Dims.{node-records, nextDim, AllDims, the-dims}
 use Rattle.table.proofs.dimension.section.Statement.{statement}

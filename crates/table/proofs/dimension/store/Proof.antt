@@ -1,7 +1,7 @@
 use Prim.Native.Nat.{_*_}
 use borrow.Author.Needs.{needs}
 use Rattle.sizes.specs.Sizes.{dimension-words}
-use Rattle.table.specs.Laws.Words.{four-sets}
+use Rattle.grammar.specs.Laws.Table.Words.{four-sets}
 use Rattle.table.proofs.dimension.store.Statement.{statement}
 use Rattle.table.proofs.dimension.store.Tie as tie
 

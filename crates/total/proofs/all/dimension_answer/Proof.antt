@@ -1,5 +1,5 @@
 use borrow.Author.Needs.{needs}
-use Rattle.layout.specs.Layout.{pick}
+use Rattle.sizes.specs.Basics.{pick}
 use Rattle.total.specs.Laws.AllCall.{dimensionOf}
 use Rattle.total.proofs.all.dimension_answer.Statement.{statement}
 use Rattle.total.proofs.all.dimension_answer.Tie as tie

@@ -1,6 +1,6 @@
 use borrow.Author.Needs.{needs}
 use lib.ListN.{length}
-use Rattle.member.specs.Checked.{checked}
+use Rattle.grammar.specs.Laws.Member.Checked.{checked}
 use Rattle.total.specs.Laws.Doubles.{total-numbers}
 use Rattle.total.specs.Laws.Calls.{read, not-read}
 use Rattle.total.proofs.answers.total_words.Statement.{statement}

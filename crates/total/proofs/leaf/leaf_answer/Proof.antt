@@ -1,4 +1,4 @@
-use Rattle.layout.specs.Layout.{pick}
+use Rattle.sizes.specs.Basics.{pick}
 use Rattle.total.specs.Laws.Leaf.{wordAnswer}
 use Rattle.total.proofs.leaf.leaf_answer.Statement.{statement}
 use Rattle.total.proofs.leaf.leaf_answer.Tie as tie

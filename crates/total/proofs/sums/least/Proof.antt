@@ -1,5 +1,5 @@
 use native.Mathlib.Omega.{arith}
-use Rattle.layout.specs.Layout.{pick}
+use Rattle.sizes.specs.Basics.{pick}
 use Rattle.total.proofs.sums.least.Statement.{statement}
 use Rattle.total.proofs.sums.least.Tie as tie
 

@@ -1,4 +1,4 @@
-use Rattle.value.specs.Value.{CellStyle}
+use Rattle.grammar.specs.Value.{CellStyle}
 use Rattle.layout.specs.Steps.{reads}
 use Rattle.value.proofs.modifier.cell_style.Statement.{statement}
 use Rattle.value.proofs.modifier.cell_style.Tie as tie

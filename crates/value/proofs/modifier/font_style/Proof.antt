@@ -1,4 +1,4 @@
-use Rattle.value.specs.Value.{FontStyle}
+use Rattle.grammar.specs.Value.{FontStyle}
 use Rattle.layout.specs.Steps.{reads}
 use Rattle.value.proofs.modifier.font_style.Statement.{statement}
 use Rattle.value.proofs.modifier.font_style.Tie as tie

@@ -1,4 +1,4 @@
-use Rattle.value.specs.Value.{Modifiers}
+use Rattle.grammar.specs.Value.{Modifiers}
 use Rattle.layout.specs.Steps.{reads}
 use Rattle.value.proofs.modifier.modifiers_at.Statement.{statement}
 use Rattle.value.proofs.modifier.modifiers_at.Tie as tie

@@ -1,4 +1,4 @@
-use Rattle.value.specs.Value.{StylePair}
+use Rattle.grammar.specs.Value.{StylePair}
 use Rattle.layout.specs.Steps.{reads}
 use Rattle.value.proofs.modifier.style_pair.Statement.{statement}
 use Rattle.value.proofs.modifier.style_pair.Tie as tie

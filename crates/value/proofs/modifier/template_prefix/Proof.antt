@@ -1,4 +1,4 @@
-use Rattle.value.specs.Value.{TemplatePrefix}
+use Rattle.grammar.specs.Value.{TemplatePrefix}
 use Rattle.layout.specs.Steps.{reads}
 use Rattle.value.proofs.modifier.template_prefix.Statement.{statement}
 use Rattle.value.proofs.modifier.template_prefix.Tie as tie

@@ -1,4 +1,4 @@
-use Rattle.value.specs.Value.{TemplateString}
+use Rattle.grammar.specs.Value.{TemplateString}
 use Rattle.layout.specs.Steps.{reads}
 use Rattle.value.proofs.modifier.template_string.Statement.{statement}
 use Rattle.value.proofs.modifier.template_string.Tie as tie

@@ -1,4 +1,4 @@
-use Rattle.value.specs.Value.{ValueMod, Modifiers}
+use Rattle.grammar.specs.Value.{ValueMod, Modifiers}
 use Rattle.layout.specs.Reads.{Reads}
 use borrow.Author.Needs.{needs}
 use Rattle.layout.specs.Steps.{reads}
