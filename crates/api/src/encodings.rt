@@ -1,6 +1,6 @@
 // Text in old code pages, for programs in C, Rust and other languages.
 ghost use lib.ListN.{length};
-ghost use Rattle.codepages.specs.Convert.{to, from, converted};
+ghost use Rattle.convert.specs.Convert.{to, from, converted};
 ghost use Rattle.written_words.specs.Encodings.{Converted};
 use written_words::text::from_utf8_answer;
 use written_words::text::to_utf8_answer;

@@ -7,21 +7,12 @@ use lib.Dec.{eqb, leb, ltb}
 use lib.ListN.{length, drop, getD}
 use lib.Seq.{sets}
 use Rattle.sizes.specs.Basics.{le, pick}
-use Rattle.case_stream.specs.Stream.{Element, limit, Says, skip, finish, block, wrong, gives}
+use Rattle.case_stream.specs.Stream.{Element, limit}
 use Rattle.case_stream.specs.Machine.{fits, less, Step, halts, goes, moves, out, put, feed}
 use Rattle.case_stream.specs.Laws.Steps.{μ}
 use Rattle.case_state.specs.declared.Cursor.{Cursor}
-use Rattle.cases.specs.declared.Verdict.{Verdict}
-use Rattle.cases.specs.declared.Verdict.the-variants.{Skip, Finish, Block, Wrong, Gives}
 use Rattle.cases.specs.declared.Moved.{Moved}
 use Rattle.case_state.specs.Cursor.{gather-at, act-at, rest-at, view, Good}
-
-abbrev pub said : Verdict → Says
-said Skip = skip
-said Finish = finish
-said Block = block
-said Wrong = wrong
-said (Gives x) = gives (le 8 x)
 
 -- ---- 1. the next state
 

@@ -3,7 +3,6 @@
 // what these functions answer.
 mod bytes; // bytes of the input and of the output
 mod calls; // a call: steps as long as there is one and an element fits
-mod codes; // what a code says
 mod cursors; // a state with one more byte, or one code fewer
 mod steps; // one step of a call
 
@@ -28,15 +27,6 @@ use case_state::valid::state_ok;
 pub const BAD_STATE: u32 = 21;
 
 pub const TOO_SOON: u32 = 23;
-
-// What a code says to an element: nothing; that the data ends; that its block follows; that it is refused; the element, eight bytes.
-pub enum Verdict {
-    Skip,
-    Finish,
-    Block,
-    Wrong,
-    Gives(u64),
-}
 
 // A step, or eight at once: whether there is one, how many bytes it takes, whether it writes an element.
 pub struct Moved {

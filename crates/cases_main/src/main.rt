@@ -10,10 +10,10 @@ use layout::number::any;
 use layout::number::at_most;
 use layout::number::left;
 use layout::number::peek;
-use layout::region::bytes;
-use layout::region::part;
 use libc::STDIN_FILENO;
 use libc::STDOUT_FILENO;
+use regions::region::bytes;
+use regions::region::part;
 
 fn text(s: &[u8]) {
     io::write_all(STDOUT_FILENO, s);

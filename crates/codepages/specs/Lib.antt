@@ -1,6 +1,2 @@
-pub mod Table
-pub mod Pages
-pub mod Utf8
-pub mod Convert
+pub mod Answer
 pub mod Laws
-pub mod Examples

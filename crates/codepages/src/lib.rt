@@ -1,5 +1,4 @@
 // Text in windows-1250, 1251 or 1252 to UTF-8, and back.
-mod ascii; // runs of bytes under 128
 mod tables; // the constant tables
 mod utf8; // the rows of UTF-8
 
@@ -8,20 +7,16 @@ ghost use Prim.Native.Nat.{_+_, _-_, _*_, _/_, _≤_, _<_};
 ghost use mathlib.Core.Bool.{true, false};
 ghost use lib.ListN.{getD, length, take, drop};
 ghost use lib.Seq.{sets};
-ghost use Rattle.codepages.specs.Pages as pages;
-ghost use Rattle.codepages.specs.Utf8 as utf8_spec;
-ghost use Rattle.codepages.specs.Convert as spec;
-ghost use Rattle.codepages.specs.Laws.Places.{groups, rowsOf, look};
-ghost use Rattle.codepages.specs.Laws.Passes.{half, block, Run, Skips, Found, Grown, Counts, Ready, Wrote};
+ghost use Rattle.convert.specs.Pages as pages;
+ghost use Rattle.convert.specs.Utf8 as utf8_spec;
+ghost use Rattle.convert.specs.Convert as spec;
+ghost use Rattle.codepages.specs.Answer.{answer};
+ghost use Rattle.convert.specs.Laws.Places.{groups, rowsOf, look};
+ghost use Rattle.ascii.specs.Runs.{block, Run};
+ghost use Rattle.codepages.specs.Laws.Passes.{half, Skips, Found, Grown, Counts, Ready, Wrote};
 ghost use Rattle.codepages.specs.Laws.Usual.{many, oddOf, Usual};
 ghost use Rattle.codepages.specs.Laws.Pairs.{firstOf};
 ghost use Rattle.codepages.specs.Laws.Back.{orNone};
-ghost use Rattle.codepages.specs.Laws.Answers.{Numbered};
-use crate::ascii::ASCII;
-use crate::ascii::BLOCK;
-use crate::ascii::leading;
-use crate::ascii::long_run_end;
-use crate::ascii::run_end;
 use crate::tables::BACK_1250;
 use crate::tables::BACK_1251;
 use crate::tables::BACK_1252;
@@ -32,12 +27,15 @@ use crate::utf8::THREE_BYTES;
 use crate::utf8::TWO_BYTES;
 use crate::utf8::lead_size;
 use crate::utf8::size;
+use ascii::ASCII;
+use ascii::BLOCK;
+use ascii::leading;
+use ascii::long_run_end;
+use ascii::run_end;
+use pages::PAGE_COUNT;
+use pages::page_number;
 
 // ---- numbers, under the names of `specs/`
-
-const FIRST_PAGE: u32 = 1250;
-
-const PAGE_COUNT: usize = 3;
 
 const NO_BYTE: u32 = 256;
 
@@ -63,7 +61,7 @@ pub struct Answer {
 }
 
 pub fn to_utf8(page: u32, input: &[u8], out: &mut [u8]) -> Answer
-    ensures { λ r. ⌜ r ≡ spec.answer (spec.converted spec.to page (length (now (out .entry))) (now (input .entry))) ⌝ }
+    ensures { λ r. ⌜ r ≡ answer (spec.converted spec.to page (length (now (out .entry))) (now (input .entry))) ⌝ }
     ensures { λ _. ⌜ now (out .exit) ≡ spec.after (spec.converted spec.to page (length (now (out .entry))) (now (input .entry))) (now (out .entry)) ⌝ }
 {
     let k = page_number(page);
@@ -74,7 +72,7 @@ pub fn to_utf8(page: u32, input: &[u8], out: &mut [u8]) -> Answer
 }
 
 pub fn from_utf8(page: u32, input: &[u8], out: &mut [u8]) -> Answer
-    ensures { λ r. ⌜ r ≡ spec.answer (spec.converted spec.from page (length (now (out .entry))) (now (input .entry))) ⌝ }
+    ensures { λ r. ⌜ r ≡ answer (spec.converted spec.from page (length (now (out .entry))) (now (input .entry))) ⌝ }
     ensures { λ _. ⌜ now (out .exit) ≡ spec.after (spec.converted spec.from page (length (now (out .entry))) (now (input .entry))) (now (out .entry)) ⌝ }
 {
     let k = page_number(page);
@@ -84,25 +82,11 @@ pub fn from_utf8(page: u32, input: &[u8], out: &mut [u8]) -> Answer
     refuse(UNKNOWN_PAGE, 0)
 }
 
-// The number of a page, PAGE_COUNT if it is unknown.
-fn page_number(page: u32) -> usize
-    ensures { λ r. ⌜ Numbered page r ⌝ }
-{
-    if page < FIRST_PAGE {
-        return PAGE_COUNT;
-    }
-    let k = (page - FIRST_PAGE) as usize;
-    if PAGE_COUNT <= k {
-        return PAGE_COUNT;
-    }
-    k
-}
-
 // To UTF-8, by the entries of the page. Each page is taken from the table by a constant and lent where it was taken, so that it alone is
 // copied, and in whole vectors.
 fn to_page(k: usize, input: &[u8], out: &mut [u8]) -> Answer
     requires { ⌜ k < pages.page-count ⌝ }
-    ensures { λ r. ⌜ r ≡ spec.answer (spec.outcome (spec.to k) (length (now (out .entry))) (now (input .entry))) ⌝ }
+    ensures { λ r. ⌜ r ≡ answer (spec.outcome (spec.to k) (length (now (out .entry))) (now (input .entry))) ⌝ }
     ensures { λ _. ⌜ now (out .exit) ≡ spec.after (spec.outcome (spec.to k) (length (now (out .entry))) (now (input .entry))) (now (out .entry)) ⌝ }
 {
     if k == 0 {
@@ -123,7 +107,7 @@ fn to_page(k: usize, input: &[u8], out: &mut [u8]) -> Answer
 // From UTF-8, by the page's way back.
 fn from_page(k: usize, input: &[u8], out: &mut [u8]) -> Answer
     requires { ⌜ k < pages.page-count ⌝ }
-    ensures { λ r. ⌜ r ≡ spec.answer (spec.outcome (spec.from k) (length (now (out .entry))) (now (input .entry))) ⌝ }
+    ensures { λ r. ⌜ r ≡ answer (spec.outcome (spec.from k) (length (now (out .entry))) (now (input .entry))) ⌝ }
     ensures { λ _. ⌜ now (out .exit) ≡ spec.after (spec.outcome (spec.from k) (length (now (out .entry))) (now (input .entry))) (now (out .entry)) ⌝ }
 {
     let t: [u16; 1] = [0];
@@ -142,7 +126,7 @@ fn from_page(k: usize, input: &[u8], out: &mut [u8]) -> Answer
 // Either direction, for a page that is known: to UTF-8 by its entries, back by its rows.
 fn in_page(t: &[u16], y: &[u8], k: usize, back: bool, input: &[u8], out: &mut [u8]) -> Answer
     requires { ⌜ (k < pages.page-count) × (back ≡ false → now t ≡ pages.page k) × (back ≡ true → now y ≡ rowsOf k) ⌝ }
-    ensures { λ r. ⌜ r ≡ spec.answer (spec.outcome (spec.way back k) (length (now (out .entry))) (now (input .entry))) ⌝ }
+    ensures { λ r. ⌜ r ≡ answer (spec.outcome (spec.way back k) (length (now (out .entry))) (now (input .entry))) ⌝ }
     ensures { λ _. ⌜ now (out .exit) ≡ spec.after (spec.outcome (spec.way back k) (length (now (out .entry))) (now (input .entry))) (now (out .entry)) ⌝ }
 {
     let m = measure(t, y, k, back, input, out.len());
@@ -163,7 +147,7 @@ fn in_page(t: &[u16], y: &[u8], k: usize, back: bool, input: &[u8], out: &mut [u
 }
 
 fn refuse(refusal: u32, place: usize) -> Answer
-    ensures { λ r. ⌜ r ≡ spec.answer (spec.refused refusal place) ⌝ }
+    ensures { λ r. ⌜ r ≡ answer (spec.refused refusal place) ⌝ }
 {
     Answer {
         refusal: refusal,

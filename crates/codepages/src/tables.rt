@@ -7,7 +7,7 @@ pub struct Page {
     pub entries: [u16; ENTRIES],
 }
 
-// The upper halves of windows-1250, 1251 and 1252: `specs/Table.antt` has the same numbers, and their source. 0: the byte has no entry.
+// The upper halves of windows-1250, 1251 and 1252: `convert/specs/Table.antt` has the same numbers, and their source. 0: the byte has no entry.
 pub const PAGES: [Page; 3] = [
     Page {
         entries: [
@@ -410,7 +410,7 @@ pub const PAGES: [Page; 3] = [
 // the way back of a page: ten rows of 64
 pub const ROWS: usize = 640;
 
-// The bytes by code point: `specs/Laws/Places.antt` has the same numbers, and says what they are.
+// The bytes by code point: `convert/specs/Laws/Places.antt` has the same numbers, and says what they are.
 pub const BACK_1250: [u8; ROWS] = [
     9,
     9,

@@ -1,7 +1,7 @@
 // The rows of UTF-8, by value.
 ghost use mathlib.Core.Path.{_≡_};
 ghost use lib.ListN.{length};
-ghost use Rattle.codepages.specs.Utf8 as utf8;
+ghost use Rattle.convert.specs.Utf8 as utf8;
 ghost use Rattle.codepages.specs.Laws.Branches.{leadSize};
 
 pub const NO_CODE_POINT: u32 = 1114112;

@@ -12,13 +12,13 @@ use lib.Dec.{leb}
 use borrow.Author.Tests.{le-leb, lt-leb, leb-true}
 use Rattle.sizes.specs.Sizes.{node-words, name-place, name-length}
 use Rattle.sizes.specs.Basics.{pick}
-use Rattle.member.specs.declared.Answer.{Answer}
+use Rattle.answer.specs.declared.Answer.{Answer}
 use Rattle.grammar.specs.Part.{partOf}
 use Rattle.grammar.specs.Below.{sizeOf, Below}
 use Rattle.grammar.specs.Member.{nodes, nodeRecords}
 use Rattle.grammar.specs.Laws.Member.RecordsSpelt.{node-width}
 use Rattle.grammar.specs.Laws.Member.NodesBelow.{nodes-below, size-inside}
-use Rattle.member.specs.Demand3.{Accepted, Demand3}
+use Rattle.answer.specs.Demand3.{Accepted, Demand3}
 use Rattle.desk.specs.Desk.{filledOf, nameOf, namePlace, afterOf}
 
 -- ---- the words filled

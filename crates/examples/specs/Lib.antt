@@ -1,3 +1,2 @@
 pub mod Examples
-pub mod AcceptedExample
 pub mod RefusalExamples

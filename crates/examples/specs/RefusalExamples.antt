@@ -6,7 +6,7 @@ use mathlib.Core.List.{List, [], _∷_, _++_, map}
 use Prim.Native.Nat.{ℕ, zero, suc}
 use lib.ListN.{length, take, drop, set}
 use Rattle.grammar.specs.Layout.{little, big, digits}
-use Rattle.examples.specs.AcceptedExample.{member, Line, refused-at, accepted-with, line}
+use Rattle.grammar.specs.Laws.Member.AcceptedExample.{member, Line, refused-at, accepted-with, line}
 
 -- ---- parts
 

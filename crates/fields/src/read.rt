@@ -30,9 +30,9 @@ use layout::number::fixed;
 use layout::number::left;
 use layout::number::limit;
 use layout::number::peek;
-use layout::region::bytes;
-use layout::region::part;
-use layout::region::string;
+use regions::region::bytes;
+use regions::region::part;
+use regions::region::string;
 use store::Name;
 use store::verdict::high_byte;
 

@@ -1,5 +1,2 @@
 mod Digits
-mod NullBytes
 mod Runs
-mod Rooms
-mod Many

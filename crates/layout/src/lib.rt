@@ -1,11 +1,8 @@
 // Readers of the symbols of a layout. Each takes a slice and what was read so far, and gives what is read then: any bytes and any
 // position get an answer, and a refusal is handed on, so a production is read by a straight line of calls.
 
-mod nulls; // whether a byte is 0
 pub mod number; // numbers and their tests
-pub mod region; // strings and counted regions
 pub mod run; // a run of one byte
-pub mod rows; // rows of fields, skipped without visiting each
 pub mod slice; // a part of a slice
 
 // What reading a symbol gives: the next position, or the refusal's number and place.

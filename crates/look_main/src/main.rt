@@ -1,10 +1,10 @@
 // The look on standard input, read and written back: exactly the rewritten file's bytes, or the line `refused N at P`.
 use layout::Span;
-use layout::region::bytes;
 use libc::STDIN_FILENO;
 use libc::STDOUT_FILENO;
 use look::Answer;
 use look_write::Written;
+use regions::region::bytes;
 use report::LINE_BYTES;
 use sizes::LONGEST_LOOK;
 

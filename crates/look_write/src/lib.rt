@@ -1,17 +1,15 @@
 // The writer of binary table looks.
 
-mod put; // the productions of 002, written
-
 ghost use mathlib.Core.Path.{_≡_};
 ghost use mathlib.Core.Bool.{_&&_};
 ghost use Rattle.look_write.specs.Writing as spec;
-use crate::put::table_look;
 use layout::Step;
 use look::Frame;
 use look::Frames;
 use look::Look;
 use look::Separator;
 use look::V2Styles;
+use look_put::table_look;
 use sizes::LONGEST_LOOK;
 
 // What writing a look answers: how many bytes it has, or the refusal's number and place.

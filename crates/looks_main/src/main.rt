@@ -2,11 +2,11 @@
 // output, for no names, for the same look as version 00 and as version 01, with a title font name of 256 bytes, and with a title color
 // whose high byte is 1.
 use layout::Span;
-use layout::region::bytes;
 use libc::STDOUT_FILENO;
 use look::Answer;
 use look::Look;
 use look_write::Written;
+use regions::region::bytes;
 use sizes::LONGEST_LOOK;
 
 // The shortest look, of version 00 with empty names.

@@ -1,3 +1,2 @@
 mod Areas
 mod Copied
-mod Ends

@@ -11,29 +11,34 @@ ghost use Rattle.grammar.specs.Rules.{cellsRule};
 ghost use Rattle.table.specs.Laws.Within.{needed};
 ghost use Rattle.table.specs.Laws.Dims.{node-records};
 ghost use Rattle.cells.specs.Laws.Cells.{AllCells, cellsOut, cell-records};
-ghost use Rattle.member.specs.Answer as spec;
-ghost use Rattle.member.specs.Answer.{Delivered};
-ghost use Rattle.member.specs.Laws.IntoLists as lists;
-ghost use Rattle.member.specs.Laws.IntoLists.{smallest-lists, small-lists, medium-lists, large-lists, larger-lists, largest-lists, intoLists, Stored, LongEnough};
-ghost use Rattle.member.specs.Demand3.{Demand3};
+ghost use Rattle.answer.specs.Answer.{Delivered};
+ghost use Rattle.lists.specs.Lists.{smallest-lists, small-lists, medium-lists, large-lists, larger-lists, largest-lists};
+ghost use Rattle.member.specs.Laws.IntoLists.{intoLists, Stored, LongEnough};
+ghost use Rattle.answer.specs.Demand3.{Demand3};
 ghost use Rattle.grammar.specs.Laws.Member.Checked.{ended, checked};
-ghost use Rattle.member.specs.Laws.Header.{HeaderRead};
+ghost use Rattle.opening.specs.Laws.Opening.{Opened};
 ghost use Rattle.member.specs.Laws.Whole as whole;
-use cells::AxisCounts;
+use answer::Answer;
+use answer::refused;
+use axes::AxisCounts;
+use axes::axes;
 use cells::LEAST_CELL;
-use cells::axes;
 use cells::cells as cells_section;
 use cells::most_cell_words;
 use index::product_of;
-use layout::LITTLE;
 use layout::Step;
 use layout::number::left;
-use layout::number::peek;
-use layout::run::skip;
 use layout::slice::part as part_of;
-use sections::front;
-use sections::header::start;
-use sections::header::version as known_version;
+use lists::LARGE_LISTS;
+use lists::LARGER_LISTS;
+use lists::LARGEST_LISTS;
+use lists::MEDIUM_LISTS;
+use lists::SMALL_LISTS;
+use lists::SMALLEST_LISTS;
+use lists::has_room;
+use opening::Head;
+use opening::ending;
+use opening::opening;
 use sizes::CELL_AREA;
 use sizes::CELL_WORDS;
 use sizes::DIMENSION_AREA;
@@ -48,94 +53,11 @@ use table::Walk;
 use table::dimensions;
 use table::most_node_words;
 
-// The bytes, from the dimensions on, that are read with the lists of each step: these have room for the records that so many bytes hold at
-// most. From the second step on a list is about twice as long as the one before, so what is cleared goes with those bytes.
-pub const SMALLEST_LISTS: usize = 1024;
-
-pub const SMALL_LISTS: usize = 2560;
-
-pub const MEDIUM_LISTS: usize = 4608;
-
-pub const LARGE_LISTS: usize = 8192;
-
-pub const LARGER_LISTS: usize = 16384;
-
-pub const LARGEST_LISTS: usize = 32768;
-
-// The version of a member, and the place after what was read; or the refusal.
-enum Head {
-    Of(u64, usize),
-    Refused(u32, usize),
-}
-
 // What comes after the dimensions: the axes, or the refusal; how many cells there are; and the dimension numbers on the axes.
 struct Tail {
     pub axes: AxisCounts,
     pub cells: usize,
     pub order: [u32; MOST_DIMENSIONS],
-}
-
-// What reading a member answers. Unused entries are 0.
-pub struct Answer {
-    // document 01's refusal number, or 0, and its place
-    pub refusal: u32,
-    pub place: usize,
-    // how many dimensions, category nodes and cells there are
-    pub dims: u32,
-    pub nodes: u32,
-    pub cells: u32,
-    // for each dimension: the place and length of its name, its n and its first node
-    pub dimensions: [u32; DIMENSION_AREA],
-    // how many dimensions are on each axis, and the dimension numbers, in the order of the file
-    pub layers: u32,
-    pub rows: u32,
-    pub columns: u32,
-    pub order: [u32; MOST_DIMENSIONS],
-}
-
-// The Header as far as its version.
-fn header(s: &[u8]) -> Head
-    ensures { λ r. ⌜ HeaderRead (now (s .entry)) r ⌝ }
-{
-    let st = start(s, Step::Next(0));
-    let version = peek(s, st, LITTLE, 4);
-    match known_version(s, st) {
-        Step::Next(at) => Head::Of(version, at),
-        Step::Refused(r, p) => Head::Refused(r, p),
-    }
-}
-
-// The Header and the sections before the dimensions, of a member that is no longer than members are.
-fn opening(s: &[u8]) -> Head
-    ensures { λ r. ⌜ whole.OpeningRead (now (s .entry)) r ⌝ }
-{
-    if MEMBER_BYTES < s.len() {
-        return Head::Refused(1, 0);
-    }
-    match header(s) {
-        Head::Refused(r, p) => Head::Refused(r, p),
-        Head::Of(version, start) => match front(s, Step::Next(start), version) {
-            Step::Refused(r, p) => Head::Refused(r, p),
-            Step::Next(end) => Head::Of(version, end),
-        },
-    }
-}
-
-// The end of a member: an optional 01, and nothing after it.
-fn ending(s: &[u8], at: usize) -> Step
-    ensures { λ r. ⌜ r ≡ whole.endAt (now (s .entry)) at ⌝ }
-{
-    match skip(s, Step::Next(at), 0x01, 1) {
-        Step::Refused(r, p) => Step::Refused(r, p),
-        Step::Next(p) => {
-            let over = s.len() <= p;
-            if over {
-                Step::Next(at)
-            } else {
-                Step::Refused(11, p)
-            }
-        }
-    }
 }
 
 // The cells of a table of so many places, and the end.
@@ -204,24 +126,6 @@ fn after_dims(
     }
 }
 
-// A refusal, with the counts of nodes and cells.
-fn refused(refusal: u32, place: usize, nodes: u32, cells: u32) -> Answer
-    ensures { λ r. ⌜ r ≡ spec.refusal refusal place nodes cells ⌝ }
-{
-    Answer {
-        refusal,
-        place,
-        dims: 0,
-        nodes,
-        cells,
-        dimensions: [0u32; DIMENSION_AREA],
-        layers: 0,
-        rows: 0,
-        columns: 0,
-        order: [0u32; MOST_DIMENSIONS],
-    }
-}
-
 // The first n words of one list, over those of another.
 fn copy(from: &[u32], to: &mut [u32], n: usize)
     requires { ⌜ (n ≤ length (now from)) × (n ≤ length (now to)) ⌝ }
@@ -276,7 +180,7 @@ fn read_body(
     node_list: &mut [u32],
     cell_list: &mut [u32],
 ) -> Answer
-    requires { ⌜ LongEnough (now member) at (length (now «node_list»)) (length (now «cell_list»)) × whole.Opened (now member) version at ⌝ }
+    requires { ⌜ LongEnough (now member) at (length (now «node_list»)) (length (now «cell_list»)) × Opened (now member) version at ⌝ }
     ensures { λ r. ⌜ Stored (now («node_list» .entry)) (now («cell_list» .entry)) (checked (now (member .entry))) r (now («node_list» .exit)) (now («cell_list» .exit)) ⌝ }
 {
     let mut dims = [0u32; DIMENSION_AREA];
@@ -347,7 +251,7 @@ fn read_with_lists(
     nodes: &mut [u32],
     cells: &mut [u32],
 ) -> Answer
-    requires { ⌜ LongEnough (now member) at (length (now «node_list»)) (length (now «cell_list»)) × whole.Opened (now member) version at ⌝ }
+    requires { ⌜ LongEnough (now member) at (length (now «node_list»)) (length (now «cell_list»)) × Opened (now member) version at ⌝ }
     ensures { λ r. ⌜ Delivered (checked (now (member .entry))) (now (nodes .entry)) (now (cells .entry)) r (now (nodes .exit)) (now (cells .exit)) ⌝ }
 {
     let mut a = read_body(member, version, at, node_list, cell_list);
@@ -368,7 +272,7 @@ fn with_smallest_lists(
     nodes: &mut [u32],
     cells: &mut [u32],
 ) -> Answer
-    requires { ⌜ LongEnough (now member) at (needed node-records smallest-lists) (needed cell-records smallest-lists) × whole.Opened (now member) version at ⌝ }
+    requires { ⌜ LongEnough (now member) at (needed node-records smallest-lists) (needed cell-records smallest-lists) × Opened (now member) version at ⌝ }
     ensures { λ r. ⌜ Delivered (checked (now (member .entry))) (now (nodes .entry)) (now (cells .entry)) r (now (nodes .exit)) (now (cells .exit)) ⌝ }
 {
     let mut node_list = [0u32; SMALLEST_LISTS / LEAST_CATEGORY * NODE_WORDS];
@@ -392,7 +296,7 @@ fn with_small_lists(
     nodes: &mut [u32],
     cells: &mut [u32],
 ) -> Answer
-    requires { ⌜ LongEnough (now member) at (needed node-records small-lists) (needed cell-records small-lists) × whole.Opened (now member) version at ⌝ }
+    requires { ⌜ LongEnough (now member) at (needed node-records small-lists) (needed cell-records small-lists) × Opened (now member) version at ⌝ }
     ensures { λ r. ⌜ Delivered (checked (now (member .entry))) (now (nodes .entry)) (now (cells .entry)) r (now (nodes .exit)) (now (cells .exit)) ⌝ }
 {
     let mut node_list = [0u32; SMALL_LISTS / LEAST_CATEGORY * NODE_WORDS];
@@ -416,7 +320,7 @@ fn with_medium_lists(
     nodes: &mut [u32],
     cells: &mut [u32],
 ) -> Answer
-    requires { ⌜ LongEnough (now member) at (needed node-records medium-lists) (needed cell-records medium-lists) × whole.Opened (now member) version at ⌝ }
+    requires { ⌜ LongEnough (now member) at (needed node-records medium-lists) (needed cell-records medium-lists) × Opened (now member) version at ⌝ }
     ensures { λ r. ⌜ Delivered (checked (now (member .entry))) (now (nodes .entry)) (now (cells .entry)) r (now (nodes .exit)) (now (cells .exit)) ⌝ }
 {
     let mut node_list = [0u32; MEDIUM_LISTS / LEAST_CATEGORY * NODE_WORDS];
@@ -440,7 +344,7 @@ fn with_large_lists(
     nodes: &mut [u32],
     cells: &mut [u32],
 ) -> Answer
-    requires { ⌜ LongEnough (now member) at (needed node-records large-lists) (needed cell-records large-lists) × whole.Opened (now member) version at ⌝ }
+    requires { ⌜ LongEnough (now member) at (needed node-records large-lists) (needed cell-records large-lists) × Opened (now member) version at ⌝ }
     ensures { λ r. ⌜ Delivered (checked (now (member .entry))) (now (nodes .entry)) (now (cells .entry)) r (now (nodes .exit)) (now (cells .exit)) ⌝ }
 {
     let mut node_list = [0u32; LARGE_LISTS / LEAST_CATEGORY * NODE_WORDS];
@@ -464,7 +368,7 @@ fn with_larger_lists(
     nodes: &mut [u32],
     cells: &mut [u32],
 ) -> Answer
-    requires { ⌜ LongEnough (now member) at (needed node-records larger-lists) (needed cell-records larger-lists) × whole.Opened (now member) version at ⌝ }
+    requires { ⌜ LongEnough (now member) at (needed node-records larger-lists) (needed cell-records larger-lists) × Opened (now member) version at ⌝ }
     ensures { λ r. ⌜ Delivered (checked (now (member .entry))) (now (nodes .entry)) (now (cells .entry)) r (now (nodes .exit)) (now (cells .exit)) ⌝ }
 {
     let mut node_list = [0u32; LARGER_LISTS / LEAST_CATEGORY * NODE_WORDS];
@@ -488,7 +392,7 @@ fn with_largest_lists(
     nodes: &mut [u32],
     cells: &mut [u32],
 ) -> Answer
-    requires { ⌜ LongEnough (now member) at (needed node-records largest-lists) (needed cell-records largest-lists) × whole.Opened (now member) version at ⌝ }
+    requires { ⌜ LongEnough (now member) at (needed node-records largest-lists) (needed cell-records largest-lists) × Opened (now member) version at ⌝ }
     ensures { λ r. ⌜ Delivered (checked (now (member .entry))) (now (nodes .entry)) (now (cells .entry)) r (now (nodes .exit)) (now (cells .exit)) ⌝ }
 {
     let mut node_list = [0u32; LARGEST_LISTS / LEAST_CATEGORY * NODE_WORDS];
@@ -512,7 +416,7 @@ fn with_full_lists(
     nodes: &mut [u32],
     cells: &mut [u32],
 ) -> Answer
-    requires { ⌜ LongEnough (now member) at node-area cell-area × whole.Opened (now member) version at ⌝ }
+    requires { ⌜ LongEnough (now member) at node-area cell-area × Opened (now member) version at ⌝ }
     ensures { λ r. ⌜ Delivered (checked (now (member .entry))) (now (nodes .entry)) (now (cells .entry)) r (now (nodes .exit)) (now (cells .exit)) ⌝ }
 {
     let mut node_list = [0u32; NODE_AREA];
@@ -528,21 +432,6 @@ fn with_full_lists(
     )
 }
 
-// Whether the lists of a step have room for the records of so many bytes: from the smallest to the largest, and those of every other step.
-pub fn has_room(step: usize, bytes: usize) -> bool
-    ensures { λ r. ⌜ r ≡ lists.has-room step bytes ⌝ }
-{
-    match step {
-        0 => bytes <= SMALLEST_LISTS,
-        1 => bytes <= SMALL_LISTS,
-        2 => bytes <= MEDIUM_LISTS,
-        3 => bytes <= LARGE_LISTS,
-        4 => bytes <= LARGER_LISTS,
-        5 => bytes <= LARGEST_LISTS,
-        _ => true,
-    }
-}
-
 // Reads a member from its dimensions on at the first step, from that one on, whose lists have room for its records. It calls itself: into
 // such a function the compiler puts none that has long lists. So a small member is read on a small stack.
 fn read_from_step(
@@ -553,7 +442,7 @@ fn read_from_step(
     nodes: &mut [u32],
     cells: &mut [u32],
 ) -> Answer
-    requires { ⌜ whole.Opened (now member) version at ⌝ }
+    requires { ⌜ Opened (now member) version at ⌝ }
     ensures { λ r. ⌜ Delivered (checked (now (member .entry))) (now (nodes .entry)) (now (cells .entry)) r (now (nodes .exit)) (now (cells .exit)) ⌝ }
 {
     let room = has_room(step, left(member, at));

@@ -12,10 +12,10 @@ use Rattle.layout.specs.declared.Step.the-variants.{Next}
 use Rattle.sizes.specs.Basics.{pick}
 use Rattle.layout.specs.Words.{word32}
 use Rattle.layout.specs.Laws.Words.{word-same}
-use Rattle.member.specs.declared.Answer.{Answer}
+use Rattle.answer.specs.declared.Answer.{Answer}
 use Rattle.grammar.specs.Laws.Member.Checked.{checked}
-use Rattle.member.specs.Answer.{answerOf, Delivered}
-use Rattle.member.specs.Demand3.{Demand3}
+use Rattle.answer.specs.Answer.{answerOf, Delivered}
+use Rattle.answer.specs.Demand3.{Demand3}
 use Rattle.store.specs.Puts.{PutsWords}
 use Rattle.store.specs.Laws.Puts.{with-room, without-room}
 use Rattle.member_words.specs.MemberWords.{answerWords, MemberRead}

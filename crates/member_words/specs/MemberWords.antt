@@ -6,9 +6,9 @@ use lib.ListN.{length}
 use lib.Dec.{leb}
 use Rattle.sizes.specs.Sizes.{answer-words}
 use Rattle.sizes.specs.Basics.{pick}
-use Rattle.member.specs.declared.Answer.{Answer}
+use Rattle.answer.specs.declared.Answer.{Answer}
 use Rattle.grammar.specs.Laws.Member.Checked.{checked}
-use Rattle.member.specs.Answer.{answerOf, nodesAfter, cellsAfter}
+use Rattle.answer.specs.Answer.{answerOf, nodesAfter, cellsAfter}
 use Rattle.store.specs.Puts.{AtFront}
 
 -- 88 words: 0 refusal, 1 place, 2 dimensions, 3 nodes, 4 cells, 5 layers, 6 rows, 7 columns; from 8 on for each of 16 dimensions the

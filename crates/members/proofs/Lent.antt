@@ -6,9 +6,9 @@ use lib.ListN.{length, take, drop}
 use Rattle.sizes.specs.Sizes.{member-bytes}
 use Rattle.grammar.specs.Layout.{Tree}
 use Rattle.grammar.specs.Laws.Layout.Read.{Got}
-use Rattle.member.specs.declared.Answer.{Answer}
+use Rattle.answer.specs.declared.Answer.{Answer}
 use Rattle.grammar.specs.Member.{Member}
-use Rattle.member.specs.Answer.{Delivered}
+use Rattle.answer.specs.Answer.{Delivered}
 use Rattle.members.specs.Members.{withShare, shareAnswer, nodeShare, cellShare, InShare}
 use Rattle.members.specs.Laws.Shares.{share-inside, share-length, lent, back}
 

@@ -6,9 +6,9 @@ use lib.ListN.{length, take-append-drop}
 use lib.Seq.{drop-drop}
 use Rattle.sizes.specs.Sizes.{member-bytes}
 use Rattle.grammar.specs.Part.{partOf}
-use Rattle.member.specs.declared.Answer.{Answer}
+use Rattle.answer.specs.declared.Answer.{Answer}
 use Rattle.grammar.specs.Laws.Member.Checked.{checked}
-use Rattle.member.specs.Answer.{answerOf, nodesAfter, cellsAfter, Delivered}
+use Rattle.answer.specs.Answer.{answerOf, nodesAfter, cellsAfter, Delivered}
 use Rattle.members.specs.Members.{members, start, size, memberAt, shareOf, withShare, shareAnswer, nodeShare, cellShare, InShare}
 use Rattle.members.specs.Laws.Reading.{empty-refused, member-part, member-none}
 

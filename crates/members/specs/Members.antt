@@ -8,10 +8,10 @@ use Rattle.sizes.specs.Sizes.{member-bytes, most-members}
 use Rattle.sizes.specs.Basics.{pick}
 use Rattle.grammar.specs.Layout.{Tree}
 use Rattle.grammar.specs.Laws.Layout.Read.{Got, no}
-use Rattle.member.specs.declared.Answer.{Answer}
+use Rattle.answer.specs.declared.Answer.{Answer}
 use Rattle.grammar.specs.Member.{Member}
 use Rattle.grammar.specs.Laws.Member.Checked.{checked}
-use Rattle.member.specs.Answer.{answerOf, nodesAfter, cellsAfter}
+use Rattle.answer.specs.Answer.{answerOf, nodesAfter, cellsAfter}
 
 -- ---- the list
 

@@ -6,9 +6,9 @@ use lib.ListN.{length, take, drop}
 use borrow.Author.Tests.{le-leb}
 use Rattle.sizes.specs.Basics.{pick}
 use Rattle.grammar.specs.Layout.{Bytes}
-use Rattle.member.specs.Answer.{Delivered}
-use Rattle.member.specs.Demand3.{Demand3}
-use Rattle.member.specs.Laws.Holds.{demand3}
+use Rattle.answer.specs.Answer.{Delivered}
+use Rattle.answer.specs.Demand3.{Demand3}
+use Rattle.answer.specs.Laws.Holds.{demand3}
 use Rattle.members.specs.Members.{members, start, size, listRefusal, memberAt, shareOf, shareAnswer, nodeShare, cellShare, answerAt, nodesThen, cellsThen}
 use Rattle.members.specs.Laws.Shares.{share-inside, share-length}
 use Rattle.members.specs.Laws.Areas as areas

@@ -3,8 +3,8 @@ ghost use mathlib.Core.Path.{_≡_};
 ghost use Prim.Native.Nat.{_+_, _*_, _/_, _<_, _≤_};
 ghost use Rattle.grammar.specs.Laws.Member.Checked.{checked};
 ghost use Rattle.members.specs.Members.{members, listRefusal, memberAt, InShare};
+use answer::Answer;
 use layout::slice::part;
-use member::Answer;
 use member::read_member;
 use sizes::MOST_MEMBERS;
 

@@ -14,7 +14,7 @@ use Rattle.layout.specs.declared.Step.the-variants.{Next}
 use Rattle.sizes.specs.Basics.{pick}
 use Rattle.layout.specs.Words.{word32}
 use Rattle.layout.specs.Laws.Words.{word-same}
-use Rattle.member.specs.declared.Answer.{Answer}
+use Rattle.answer.specs.declared.Answer.{Answer}
 use Rattle.store.specs.Puts.{PutsWords}
 use Rattle.store.specs.Laws.Puts.{with-room}
 use Rattle.members.specs.Members.{members, listRefusal, memberAt, shareOf, withShare, InShare, joined, cut, nodesThen, cellsThen}

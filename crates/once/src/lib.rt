@@ -20,10 +20,6 @@ use sizes::NAME_PLACE;
 use sizes::NAME_TO_INDEX;
 use sizes::NODE_WORDS;
 
-mod repeats; // the first repeat
-
-pub use repeats::first_repeat;
-
 // Whether all leaf indexes are as they must be, or the place of the first that is not.
 pub enum Verdict {
     Fine,
@@ -40,32 +36,6 @@ pub struct Leaves {
 struct Numbered {
     pub holds: bool,
     pub count: usize,
-}
-
-// The place of the first number that stands at an earlier place too, or how many numbers there are where none does; and how many steps
-// it took to find.
-pub struct Repeat {
-    pub at: usize,
-    pub steps: u64,
-}
-
-// Whether a number stands at an earlier place, and how many steps it took to find out.
-struct Looked {
-    pub old: bool,
-    pub steps: u64,
-}
-
-// Whether numbers are in strictly ascending order, and how many steps it took to find out.
-struct Ascending {
-    pub holds: bool,
-    pub steps: u64,
-}
-
-// The first repeat where all numbers up to it are small, and how many steps it took.
-struct Marked {
-    pub small: bool,
-    pub at: usize,
-    pub steps: u64,
 }
 
 // ---- words

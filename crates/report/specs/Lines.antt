@@ -5,7 +5,7 @@ use mathlib.Core.List.{List, [], _∷_, _++_}
 use lib.Dec.{eqb}
 use lib.ListN.{length, take, drop}
 use Rattle.sizes.specs.Sizes.{dimension-words, node-words, cell-words}
-use Rattle.member.specs.declared.Answer.{Answer}
+use Rattle.answer.specs.declared.Answer.{Answer}
 use Rattle.report.specs.Text.{decimal}
 
 -- ---- the line of document 01's test program

@@ -3,8 +3,8 @@ use Prim.Native.Nat.{ℕ}
 use mathlib.Core.List.{List}
 use lib.ListN.{replicate}
 use Rattle.sizes.specs.Sizes.{node-area, cell-area}
-use Rattle.member.specs.declared.Answer.{Answer}
-use Rattle.member.specs.Demand3.{Demand3}
+use Rattle.answer.specs.declared.Answer.{Answer}
+use Rattle.answer.specs.Demand3.{Demand3}
 use Rattle.report.specs.Text.{Printed}
 use Rattle.report.specs.Lines.{lineOf, line-bytes}
 

@@ -14,7 +14,7 @@ use crate::rows::table;
 use crate::text::counted;
 use crate::text::number;
 use crate::text::put;
-use member::Answer;
+use answer::Answer;
 use sizes::CELL_AREA;
 use sizes::CELL_WORDS;
 use sizes::DIMENSION_WORDS;

@@ -7,8 +7,8 @@ use layout::Step;
 use layout::number::any;
 use layout::number::boolean;
 use layout::number::fixed;
-use layout::region::string;
 use layout::run::skip;
+use regions::region::string;
 
 fn font(s: &[u8], st: Step, index: u64) -> Step
     ensures { λ r. ⌜ Reads (grammar.AreaFont index) (now (s .entry)) st r ⌝ }

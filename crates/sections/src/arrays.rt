@@ -8,8 +8,8 @@ use layout::LITTLE;
 use layout::Step;
 use layout::number::any;
 use layout::number::peek;
-use layout::rows::fitting;
-use layout::rows::rows;
+use regions::rows::fitting;
+use regions::rows::rows;
 
 fn triple(s: &[u8], st: Step) -> Step
     ensures { λ r. ⌜ Reads grammar.Border (now (s .entry)) st r ⌝ }

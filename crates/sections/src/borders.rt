@@ -7,9 +7,9 @@ use layout::LITTLE;
 use layout::Step;
 use layout::number::boolean;
 use layout::number::fixed;
-use layout::region::bytes;
-use layout::region::close;
-use layout::region::part;
+use regions::region::bytes;
+use regions::region::close;
+use regions::region::part;
 
 fn content(s: &[u8], st: Step) -> Step
     ensures { λ r. ⌜ Reads grammar.BordersContent (now (s .entry)) st r ⌝ }

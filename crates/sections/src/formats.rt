@@ -11,15 +11,15 @@ use layout::number::any;
 use layout::number::boolean;
 use layout::number::fixed;
 use layout::number::peek;
-use layout::region::bytes;
-use layout::region::close;
-use layout::region::close_open;
-use layout::region::close_optional;
-use layout::region::many_strings;
-use layout::region::part;
-use layout::region::string;
-use layout::rows::fields;
-use layout::rows::many;
+use regions::region::bytes;
+use regions::region::close;
+use regions::region::close_open;
+use regions::region::close_optional;
+use regions::region::many_strings;
+use regions::region::part;
+use regions::region::string;
+use regions::rows::fields;
+use regions::rows::many;
 use value::style_pair;
 
 fn y0(s: &[u8], st: Step) -> Step

@@ -7,10 +7,10 @@ use layout::Step;
 use layout::number::any;
 use layout::number::boolean;
 use layout::number::fixed;
-use layout::region::bytes;
-use layout::region::close;
-use layout::region::part;
-use layout::region::string;
+use regions::region::bytes;
+use regions::region::close;
+use regions::region::part;
+use regions::region::string;
 
 fn content(s: &[u8], st: Step) -> Step
     ensures { λ r. ⌜ Reads grammar.PrintSettingsContent (now (s .entry)) st r ⌝ }

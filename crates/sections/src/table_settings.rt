@@ -10,12 +10,12 @@ use layout::Step;
 use layout::number::any;
 use layout::number::boolean;
 use layout::number::fixed;
-use layout::region::bytes;
-use layout::region::close;
-use layout::region::close_open;
-use layout::region::part;
-use layout::region::string;
-use layout::rows::many;
+use regions::region::bytes;
+use regions::region::close;
+use regions::region::close_open;
+use regions::region::part;
+use regions::region::string;
+use regions::rows::many;
 
 fn breaks_content(s: &[u8], st: Step) -> Step
     ensures { λ r. ⌜ Reads grammar.BreaksContent (now (s .entry)) st r ⌝ }

@@ -12,10 +12,10 @@ use Rattle.sizes.specs.Basics.{pick}
 use Rattle.grammar.specs.Layout.{Tree}
 use Rattle.grammar.specs.Laws.Layout.Read.{Got, got, no}
 use Rattle.grammar.specs.Member.{Member, dimensions, nodes, cells, ns}
-use Rattle.member.specs.Answer.{wide, long, nodesAfter, cellsAfter}
+use Rattle.answer.specs.Answer.{wide, long, nodesAfter, cellsAfter}
 use Rattle.grammar.specs.Laws.Member.Checked.{checked}
-use Rattle.member.specs.declared.Answer.{Answer}
-use Rattle.member.specs.Demand3.{Demand3, Accepted}
+use Rattle.answer.specs.declared.Answer.{Answer}
+use Rattle.answer.specs.Demand3.{Demand3, Accepted}
 use Rattle.total.specs.declared.sums.Sums.{Sums}
 use Rattle.total.specs.declared.LeafTotal.{LeafTotal}
 use Rattle.total.specs.declared.DimensionTotals.{DimensionTotals}

@@ -9,7 +9,7 @@ ghost use Rattle.total.specs.Laws.AllCall as laws;
 use crate::DimensionTotals;
 use crate::call::copy;
 use crate::rows::fill;
-use member::Answer;
+use answer::Answer;
 use member::read_into;
 use once::word;
 use sizes::CELL_WORDS;

@@ -1,19 +1,20 @@
 // Both calls, with lists by the length of the member: short ones are sooner cleared, and a small member takes a small stack.
 ghost use Prim.Native.Nat.{_≤_};
 ghost use lib.ListN.{length};
-ghost use Rattle.member.specs.Laws.IntoLists.{LongEnough, small-lists, medium-lists, large-lists, larger-lists, largest-lists};
+ghost use Rattle.lists.specs.Lists.{small-lists, medium-lists, large-lists, larger-lists, largest-lists};
+ghost use Rattle.member.specs.Laws.IntoLists.{LongEnough};
 ghost use Rattle.total.specs.Laws.Asked.{Answered};
 use crate::DimensionTotals;
 use crate::LeafTotal;
 use crate::all::all_with_lists;
 use crate::call::with_lists;
 use cells::LEAST_CELL;
-use member::LARGE_LISTS;
-use member::LARGER_LISTS;
-use member::LARGEST_LISTS;
-use member::MEDIUM_LISTS;
-use member::SMALL_LISTS;
-use member::has_room;
+use lists::LARGE_LISTS;
+use lists::LARGER_LISTS;
+use lists::LARGEST_LISTS;
+use lists::MEDIUM_LISTS;
+use lists::SMALL_LISTS;
+use lists::has_room;
 use sizes::CELL_AREA;
 use sizes::CELL_WORDS;
 use sizes::NODE_AREA;

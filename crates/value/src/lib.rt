@@ -12,10 +12,10 @@ use layout::number::boolean;
 use layout::number::field;
 use layout::number::fixed;
 use layout::number::peek;
-use layout::region::nothing;
-use layout::region::string;
 use layout::run::past;
 use layout::slice::whole;
+use regions::region::nothing;
+use regions::region::string;
 use sizes::BELOW_VALUE;
 use sizes::VALUE_DEPTH;
 

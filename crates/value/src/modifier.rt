@@ -12,14 +12,14 @@ use layout::number::fixed;
 use layout::number::one_of_two;
 use layout::number::one_of_two_but;
 use layout::number::peek;
-use layout::region::bytes;
-use layout::region::close;
-use layout::region::close_optional;
-use layout::region::many_strings;
-use layout::region::part;
-use layout::region::string;
-use layout::rows::many;
 use layout::slice::whole;
+use regions::region::bytes;
+use regions::region::close;
+use regions::region::close_optional;
+use regions::region::many_strings;
+use regions::region::part;
+use regions::region::string;
+use regions::rows::many;
 
 fn font_style(s: &[u8], st: Step) -> Step
     ensures { λ r. ⌜ Reads value.FontStyle (now (s .entry)) st r ⌝ }

@@ -8,10 +8,10 @@ use layout::Span;
 use layout::Step;
 use layout::number::any;
 use layout::number::peek;
-use layout::region::bytes;
-use layout::region::part;
 use libc::STDIN_FILENO;
 use libc::STDOUT_FILENO;
+use regions::region::bytes;
+use regions::region::part;
 use store::Name;
 
 fn text(s: &[u8]) {

@@ -13,7 +13,8 @@ use Rattle.layout.specs.Words.{word32}
 use Rattle.store.specs.Puts.{PutsWords}
 use Rattle.store.specs.Laws.Puts.{with-room, without-room}
 use Rattle.codepages.specs.declared.Answer.{Answer}
-use Rattle.codepages.specs.Convert.{Outcome, refused, written, answer as answerOf, after}
+use Rattle.codepages.specs.Answer.{answer as answerOf}
+use Rattle.convert.specs.Convert.{Outcome, refused, written, after}
 use Rattle.written_words.specs.Encodings.{outcomeWords, Converted}
 
 -- the words that the code stores of an answer

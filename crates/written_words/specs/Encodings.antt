@@ -8,7 +8,7 @@ use Rattle.sizes.specs.Sizes.{write-answer-words}
 use Rattle.sizes.specs.Basics.{pick}
 use Rattle.layout.specs.Words.{word32}
 use Rattle.store.specs.Puts.{AtFront}
-use Rattle.codepages.specs.Convert.{Outcome, refused, written, after}
+use Rattle.convert.specs.Convert.{Outcome, refused, written, after}
 
 -- three words, as of a look that is written (our rule): the refusal, 0 if there is none, its place, and the length; of a place and a length the lowest 32 bits, which is all of them for a text and an output
 -- of less than 4 GiB (`place-kept` and `length-kept` in Laws/Encodings.antt)

@@ -1,6 +1,6 @@
 // Text in old code pages, converted; and what was written as words.
 ghost use lib.ListN.{length};
-ghost use Rattle.codepages.specs.Convert.{to, from, converted};
+ghost use Rattle.convert.specs.Convert.{to, from, converted};
 ghost use Rattle.written_words.specs.Encodings.{Converted};
 use crate::step_words;
 use codepages::from_utf8;

@@ -39,7 +39,7 @@ use Rattle.grammar.specs.Laws.Table.LeastBytes.{cell-bytes, least-cell}
 use Rattle.table.specs.Laws.Within.{RecordSizes, needed, Room}
 use Rattle.cells.specs.declared.CellRead.{CellRead}
 use Rattle.cells.specs.declared.CellRead.the-variants.{Whole, BadIndex, BadValue}
-use Rattle.cells.specs.Laws.Rows.{Kind, Row, Rows, all-rows, rowOf, after, before, first-set, second-set}
+use Rattle.axes.specs.Laws.Rows.{Kind, Row, Rows, all-rows, rowOf, after, before, first-set, second-set}
 
 -- the cell records
 abbrev pub cell-records : RecordSizes

@@ -1,8 +1,8 @@
 use borrow.Author.Needs.{needs}
 use Rattle.codepages.specs.Laws.Branches.{decode-one, decode-two, decode-three, decode-four}
 use mathlib.Core.Path.{refl, ap, _∙_}
-use Rattle.codepages.specs.Pages.{byte}
-use Rattle.codepages.specs.Utf8.{row-two, row-three}
+use Rattle.convert.specs.Pages.{byte}
+use Rattle.convert.specs.Utf8.{row-two, row-three}
 use Rattle.codepages.proofs.character.Statement.{statement}
 use Rattle.codepages.proofs.character.Tie as tie
 

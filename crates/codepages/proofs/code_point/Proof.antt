@@ -2,7 +2,7 @@ use borrow.Author.Needs.{needs}
 use native.Mathlib.Omega.{arith}
 use Rattle.codepages.specs.Laws.Branches.{point-none, point-entry}
 use mathlib.Core.Path.{sym}
-use Rattle.codepages.specs.Laws.Pages.{point-low}
+use Rattle.convert.specs.Laws.Pages.{point-low}
 use Rattle.codepages.proofs.code_point.Statement.{statement}
 use Rattle.codepages.proofs.code_point.Tie as tie
 

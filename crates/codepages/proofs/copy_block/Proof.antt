@@ -5,7 +5,7 @@ use mathlib.Core.List.{List, [], _++_, append-nil}
 use Prim.Native.Nat.{ℕ, _+_, _-_, _≤_}
 use lib.ListN.{length, take, drop, replicate, length-drop, length-replicate, drop-of-length-le}
 use lib.Seq.{length-take-le, take-length, take-all, sets}
-use Rattle.codepages.specs.Laws.Passes.{block}
+use Rattle.ascii.specs.Runs.{block}
 use Rattle.codepages.proofs.copy_block.Statement.{statement}
 use Rattle.codepages.proofs.copy_block.Tie as tie
 

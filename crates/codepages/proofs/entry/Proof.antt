@@ -3,7 +3,7 @@ use mathlib.Core.Path.{ap, _∙_}
 use mathlib.Core.List.{List}
 use Prim.Native.Nat.{ℕ}
 use lib.ListN.{getD, length}
-use Rattle.codepages.specs.Laws.Pages.{length-page}
+use Rattle.convert.specs.Laws.Pages.{length-page}
 use Rattle.codepages.proofs.entry.Statement.{statement}
 use Rattle.codepages.proofs.entry.Tie as tie
 

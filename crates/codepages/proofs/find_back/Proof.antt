@@ -2,7 +2,7 @@ use borrow.Author.Needs.{needs}
 use native.Mathlib.Omega.{arith}
 use mathlib.Core.Bool.{true}
 use mathlib.Core.Path.{refl}
-use Rattle.codepages.specs.Convert.{way}
+use Rattle.convert.specs.Convert.{way}
 use Rattle.codepages.specs.Laws.Branches.{run-found, from-none, from-found}
 use Rattle.codepages.specs.Laws.Passes.{found-none, found-some}
 use Rattle.codepages.proofs.find_back.Statement.{statement}

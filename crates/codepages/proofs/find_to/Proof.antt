@@ -3,7 +3,7 @@ use native.Mathlib.Omega.{arith}
 use mathlib.Core.Path.{_≡_}
 use mathlib.Core.Bool.{false}
 use Prim.Native.Nat.{_+_, _-_}
-use Rattle.codepages.specs.Convert.{way}
+use Rattle.convert.specs.Convert.{way}
 use Rattle.codepages.specs.Laws.Passes.{skips-more, found-some}
 use Rattle.codepages.specs.Laws.Branches.{run-skips}
 use Rattle.codepages.proofs.find_to.Statement.{statement}

@@ -3,7 +3,7 @@ use native.Mathlib.Omega.{arith}
 use mathlib.Core.Path.{_≡_}
 use Prim.Native.Nat.{_+_, _-_, _*_}
 use lib.ListN.{length}
-use Rattle.codepages.specs.Convert.{from}
+use Rattle.convert.specs.Convert.{from}
 use Rattle.codepages.specs.Laws.Passes.{Skips, skips-more}
 use Rattle.codepages.specs.Laws.Usual.{skips-none}
 use Rattle.codepages.proofs.find_twos.Statement.{statement}

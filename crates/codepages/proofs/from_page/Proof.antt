@@ -1,9 +1,9 @@
 use borrow.Author.Needs.{needs}
 use native.Mathlib.Omega.{arith}
+use mathlib.Core.Bool.{true≢false}
 use mathlib.Core.Path.{_≡_, refl}
-use Prim.Native.Nat.{ℕ}
-use Rattle.codepages.specs.Laws.Places.{rowsOf}
-use Rattle.codepages.specs.Convert.{way}
+use Rattle.convert.specs.Laws.Places.{rowsOf}
+use Rattle.convert.specs.Convert.{way}
 use Rattle.codepages.proofs.from_page.Statement.{statement}
 use Rattle.codepages.proofs.from_page.Tie as tie
 
@@ -14,17 +14,17 @@ from-page-spec = tie.close (tie.spec
     (λ c κs.
     let s = c .before .before .before .before .before .before in
     let e : s .args .k ≡ 0 = omega arith in
-    (s .pre, (λ z. let n : _≡_ {A = ℕ} 0 1 = cc in absurd (omega arith)), (λ _. rw e)))
+    (s .pre, (λ z. absurd (true≢false z)), (λ _. rw e)))
     (λ c. search needs) (λ c. c .before .before .in-page .ensures)
     (λ c. refl) (λ c. refl)
     (λ c κs.
     let s = c .before .before .before .before .before .before .before in
     let e : s .args .k ≡ 1 = omega arith in
-    (s .pre, (λ z. let n : _≡_ {A = ℕ} 0 1 = cc in absurd (omega arith)), (λ _. rw e)))
+    (s .pre, (λ z. absurd (true≢false z)), (λ _. rw e)))
     (λ c. search needs) (λ c. c .before .before .in-page2 .ensures)
     (λ c. refl) (λ c. refl)
     (λ c κs.
     let s = c .before .before .before .before .before .before .before in
     let e : s .args .k ≡ 2 = omega (arith, s .pre) in
-    (s .pre, (λ z. let n : _≡_ {A = ℕ} 0 1 = cc in absurd (omega arith)), (λ _. rw e)))
+    (s .pre, (λ z. absurd (true≢false z)), (λ _. rw e)))
     (λ c. search needs) (λ c. c .before .before .in-page3 .ensures))

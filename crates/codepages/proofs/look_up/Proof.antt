@@ -3,7 +3,7 @@ use mathlib.Core.Path.{ap, _∙_}
 use mathlib.Core.List.{List}
 use Prim.Native.Nat.{ℕ}
 use lib.ListN.{getD, length}
-use Rattle.codepages.specs.Laws.Places.{look, length-rows, row-below}
+use Rattle.convert.specs.Laws.Places.{look, length-rows, row-below}
 use Rattle.codepages.proofs.look_up.Statement.{statement}
 use Rattle.codepages.proofs.look_up.Tie as tie
 

@@ -2,7 +2,7 @@ use borrow.Author.Needs.{needs}
 use native.Mathlib.Omega.{arith}
 use Prim.Native.Nat.{_-_, _<_}
 use lib.ListN.{length}
-use Rattle.codepages.specs.Convert.{way}
+use Rattle.convert.specs.Convert.{way}
 use Rattle.codepages.specs.Laws.Branches.{first-tally}
 use Rattle.codepages.specs.Laws.Passes.{half, Tally, tally-step, tally-refused, tally-end}
 use Rattle.codepages.proofs.measure.Statement.{statement}

@@ -1,5 +1,5 @@
 use mathlib.Core.Path.{refl}
-use Rattle.codepages.specs.Convert.{answer}
+use Rattle.codepages.specs.Answer.{answer}
 use Rattle.codepages.proofs.refuse.Statement.{statement}
 use Rattle.codepages.proofs.refuse.Tie as tie
 

@@ -1,10 +1,10 @@
 use borrow.Author.Needs.{needs}
 use native.Mathlib.Omega.{arith}
-use mathlib.Core.Path.{_≡_, refl}
-use Prim.Native.Nat.{ℕ}
-use Rattle.codepages.specs.Table.{entries}
-use Rattle.codepages.specs.Pages.{page}
-use Rattle.codepages.specs.Convert.{way}
+use mathlib.Core.Bool.{true≢false}
+use mathlib.Core.Path.{_≡_, refl, sym}
+use Rattle.convert.specs.Table.{entries}
+use Rattle.convert.specs.Pages.{page}
+use Rattle.convert.specs.Convert.{way}
 use Rattle.codepages.proofs.to_page.Statement.{statement}
 use Rattle.codepages.proofs.to_page.Tie as tie
 
@@ -15,17 +15,17 @@ to-page-spec = tie.close (tie.spec
     (λ c κs.
     let s = c .before .before .before .before .before .before .before .before in
     let e : s .args .k ≡ 0 = omega arith in
-    (s .pre, (λ _. rw e), (λ z. let n : _≡_ {A = ℕ} 0 1 = cc in absurd (omega arith))))
+    (s .pre, (λ _. rw e), (λ z. absurd (true≢false (sym z)))))
     (λ c. search needs) (λ c. c .before .before .in-page .ensures)
     (λ c. search needs) (λ c. refl) (λ c. refl)
     (λ c κs.
     let s = c .before .before .before .before .before .before .before .before .before in
     let e : s .args .k ≡ 1 = omega arith in
-    (s .pre, (λ _. rw e), (λ z. let n : _≡_ {A = ℕ} 0 1 = cc in absurd (omega arith))))
+    (s .pre, (λ _. rw e), (λ z. absurd (true≢false (sym z)))))
     (λ c. search needs) (λ c. c .before .before .in-page2 .ensures)
     (λ c. search needs) (λ c. refl) (λ c. refl)
     (λ c κs.
     let s = c .before .before .before .before .before .before .before .before .before in
     let e : s .args .k ≡ 2 = omega (arith, s .pre) in
-    (s .pre, (λ _. rw e), (λ z. let n : _≡_ {A = ℕ} 0 1 = cc in absurd (omega arith))))
+    (s .pre, (λ _. rw e), (λ z. absurd (true≢false (sym z)))))
     (λ c. search needs) (λ c. c .before .before .in-page3 .ensures))

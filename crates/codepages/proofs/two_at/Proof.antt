@@ -1,7 +1,7 @@
 use borrow.Author.Needs.{needs}
 use native.Mathlib.Omega.{arith}
-use mathlib.Core.Path.{_≡_}
-use Prim.Native.Nat.{ℕ}
+use mathlib.Core.Bool.{true≢false}
+use mathlib.Core.Path.{sym}
 use borrow.Author.Tests.{ltb-true}
 use Rattle.codepages.specs.Laws.Branches.{from-found, lead-two}
 use Rattle.codepages.proofs.two_at.Statement.{statement}
@@ -9,7 +9,7 @@ use Rattle.codepages.proofs.two_at.Tie as tie
 
 pub two-at-spec : {M : Type 1} → statement M
 two-at-spec = tie.close (tie.spec
-    (λ c. (λ e. let z : _≡_ {A = ℕ} 0 1 = cc in absurd (omega arith)))
+    (λ c. (λ e. absurd (true≢false (sym e))))
     (λ c. omega arith)
     (λ c κs. let s = c .before .before .before .before .before in (s .pre .0, omega arith, s .pre .1))
     (λ c.
@@ -18,4 +18,4 @@ two-at-spec = tie.close (tie.spec
     let s = t .before .before .before .before .before in
     let a = s .args in
     from-found (a .k) (a .input .now) (a .j) _ _ (s .pre .0) (omega arith) (c .character .ensures) (lead-two _ (omega arith) (omega arith)) (ltb-true _ _ e) .passed (omega arith)))
-    (λ c. (λ e. let z : _≡_ {A = ℕ} 0 1 = cc in absurd (omega arith))))
+    (λ c. (λ e. absurd (true≢false (sym e)))))

@@ -1,7 +1,7 @@
 use native.Mathlib.Omega.{arith}
 use mathlib.Core.Path.{_≡_, refl}
 use Prim.Native.Nat.{_+_, _-_, _≤_}
-use Rattle.codepages.specs.Convert.{to}
+use Rattle.convert.specs.Convert.{to}
 use Rattle.codepages.specs.Laws.Passes.{Skips}
 use Rattle.codepages.specs.Laws.Usual.{skips-none, usual-more, or-none}
 use Rattle.codepages.proofs.usual.Statement.{statement}

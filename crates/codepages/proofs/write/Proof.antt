@@ -2,7 +2,7 @@ use native.Mathlib.Omega.{arith}
 use mathlib.Core.Path.{_≡_, _∙_}
 use Prim.Native.Nat.{_+_, _-_, _<_}
 use lib.ListN.{length, drop}
-use Rattle.codepages.specs.Convert.{way, output}
+use Rattle.convert.specs.Convert.{way, output}
 use Rattle.codepages.specs.Laws.Passes.{half, Writing, writing, writing-step, writing-end}
 use Rattle.codepages.proofs.write.Statement.{statement}
 use Rattle.codepages.proofs.write.Tie as tie

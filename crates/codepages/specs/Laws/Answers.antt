@@ -1,37 +1,16 @@
 -- The order of the refusals, as the code tests for them, and the answers.
 use mathlib.Core.Path.{_≡_, refl}
 use mathlib.Core.List.{List, _++_}
-use Prim.Native.Nat.{ℕ, _-_, _≤_, _<_}
+use Prim.Native.Nat.{ℕ, _≤_, _<_}
 use native.Mathlib.Omega.{arith}
 use lib.ListN.{length, drop}
 use borrow.Author.Tests.{lt-ltb, le-ltb}
 use Rattle.sizes.specs.Basics.{pick}
 use Rattle.codepages.specs.declared.Answer.{Answer}
-use Rattle.codepages.specs.Pages.{first-page, page-count}
-use Rattle.codepages.specs.Convert.{Step, valid-up-to, output, unknown-page, no-character, output-short, Outcome, refused, written, outcome, converted, answer, after}
-use Rattle.codepages.specs.Laws.Steps.{up-to-most}
-use Rattle.codepages.specs.Laws.SameText.{page-known}
+use Rattle.convert.specs.Convert.{Step, valid-up-to, output, no-character, output-short, Outcome, refused, written, outcome, after}
+use Rattle.convert.specs.Laws.Steps.{up-to-most}
+use Rattle.codepages.specs.Answer.{answer}
 use Rattle.codepages.specs.Laws.Passes.{Counts}
-
-module _ (f : ℕ → List ℕ → Step) (page room : ℕ) (u : List ℕ) where
-  pub page-low : page < first-page → converted f page room u ≡ refused unknown-page 0
-  unfolding converted pick
-  page-low h = rw (lt-ltb page first-page h)
-
-  pub page-high : first-page ≤ page → page-count ≤ page - first-page → converted f page room u ≡ refused unknown-page 0
-  unfolding converted pick
-  page-high l h = rw (le-ltb page first-page l, le-ltb (page - first-page) page-count h)
-
--- r is the number of the page, or there is none
-pub record Numbered (page r : ℕ) : Type 0 where
-  pub known : r < page-count → (f : ℕ → List ℕ → Step) (room : ℕ) (u : List ℕ) → converted f page room u ≡ outcome (f r) room u
-  pub unknown : page-count ≤ r → (f : ℕ → List ℕ → Step) (room : ℕ) (u : List ℕ) → converted f page room u ≡ refused unknown-page 0
-
-pub none-numbered : (page : ℕ) → ((f : ℕ → List ℕ → Step) (room : ℕ) (u : List ℕ) → converted f page room u ≡ refused unknown-page 0) → Numbered page page-count
-none-numbered page e = record { known = λ h. absurd (omega arith); unknown = λ _. e }
-
-pub numbered : (page : ℕ) → first-page ≤ page → page - first-page < page-count → Numbered page (page - first-page)
-numbered page l h = record { known = λ _ f room u. page-known f page room u l h; unknown = λ m. absurd (omega arith) }
 
 module _ (f : List ℕ → Step) (room : ℕ) (u : List ℕ) (p n : ℕ) (t : (p ≡ valid-up-to f 0 0 u) × Counts room n (length (output f 0 u))) where
   pub has-none : p < length u → outcome f room u ≡ refused no-character p

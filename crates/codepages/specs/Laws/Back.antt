@@ -8,12 +8,12 @@ use lib.Dec.{eqb}
 use lib.ListN.{length, getD, drop, set}
 use borrow.Author.Tests.{ne-eqb}
 use Rattle.sizes.specs.Basics.{pick}
-use Rattle.codepages.specs.Pages.{page-count, ascii, no-byte, byte}
-use Rattle.codepages.specs.Utf8.{row-two, row-three, row, decode}
-use Rattle.codepages.specs.Laws.Pages.{side, byte-most, byte-below}
-use Rattle.codepages.specs.Laws.Utf8.{Decoded, from-one, from-two, from-three, from-four, decoded-by, row-two-is, row-three-is, two-is, three-is, scalar-below}
-use Rattle.codepages.specs.Laws.Places.{groups, look, groupOf, point, point-low, point-high, look-some, look-none, reach, group-point, lowest-point}
-use Rattle.codepages.specs.Convert.{from}
+use Rattle.convert.specs.Pages.{page-count, ascii, no-byte, byte}
+use Rattle.convert.specs.Utf8.{row-two, row-three, row, decode}
+use Rattle.convert.specs.Laws.Pages.{side, byte-most, byte-below}
+use Rattle.convert.specs.Laws.Utf8.{Decoded, from-one, from-two, from-three, from-four, decoded-by, row-two-is, row-three-is, two-is, three-is, scalar-below}
+use Rattle.convert.specs.Laws.Places.{groups, look, groupOf, point, point-low, point-high, look-some, look-none, reach, group-point, lowest-point}
+use Rattle.convert.specs.Convert.{from}
 use Rattle.codepages.specs.Laws.Passes.{Ready, fits, Wrote, wrote}
 use Rattle.codepages.specs.Laws.Branches.{past, decode-two, decode-three, decode-four, leadSize, from-at, from-some, from-ready}
 

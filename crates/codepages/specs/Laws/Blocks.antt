@@ -6,8 +6,9 @@ use Prim.Native.Nat.{ℕ, _+_, _-_, _≤_}
 use native.Mathlib.Omega.{arith}
 use lib.ListN.{length, take, drop, length-drop}
 use lib.Seq.{sets, length-sets, length-take-le, take-add}
-use Rattle.codepages.specs.Convert.{way, output}
-use Rattle.codepages.specs.Laws.Passes.{block, Ascii, passes-ascii, Passes, Skips, skips, skips-more, sets-append, overwritten, Ready, Wrote}
+use Rattle.convert.specs.Convert.{way, output}
+use Rattle.ascii.specs.Runs.{block, Ascii}
+use Rattle.codepages.specs.Laws.Passes.{passes-ascii, Passes, Skips, skips, skips-more, sets-append, overwritten, Ready, Wrote}
 
 module _ (back : Bool) (k : ℕ) (u : List ℕ) (i n : ℕ) (o : List ℕ) (w : ℕ) (o′ : List ℕ) (h : i + block ≤ length u) (c : (n ≤ block) × Ascii u i n) (t : Ready (way back k) u i o w)
     (m : block ≤ length (output (way back k) 0 (drop i u))) (e : o′ ≡ sets o w (take block (drop i u))) where

@@ -12,13 +12,15 @@ use lib.ListN.{length, getD, take, drop, set, length-drop, List·getD-eq-default
 use lib.Seq.{getD-drop, sets, sets-eq, length-sets, length-take-le}
 use borrow.Author.Tests.{lt-ltb, le-ltb, ne-eqb}
 use Rattle.sizes.specs.Basics.{pick}
-use Rattle.codepages.specs.Pages.{page-count, ascii, no-code-point, no-byte, page, listed, code-point, byte}
-use Rattle.codepages.specs.Utf8.{two-bytes, three-bytes, four-bytes, surrogates, encode, row-two, row-three, decode}
-use Rattle.codepages.specs.Convert.{invalid, converts, to, from, way, valid-up-to, output}
-use Rattle.codepages.specs.Laws.Pages.{side, point-high, point-byte, byte-low, byte-below, byte-none}
-use Rattle.codepages.specs.Laws.Utf8.{encode-one, encode-two, encode-three, encode-four, encode-length, row-one-is, row-two-is, row-three-is, decoded-by, Decoded, from-one, from-two, from-three, from-four, encode-decode}
-use Rattle.codepages.specs.Laws.Steps.{to-converts, to-invalid, from-converts, from-invalid}
-use Rattle.codepages.specs.Laws.Passes.{half, Run, Tally, tally, tally-step, Grown, sets-append, ascii-one, ascii-more, passes-ascii, Passes, passes-one, Skips, skips, Found, found-some, Ready, not-refused, fits, Wrote, wrote}
+use Rattle.convert.specs.Pages.{page-count, ascii, no-code-point, no-byte, page, listed, code-point, byte}
+use Rattle.convert.specs.Utf8.{two-bytes, three-bytes, four-bytes, surrogates, encode, row-two, row-three, decode}
+use Rattle.convert.specs.Convert.{invalid, converts, to, from, way, valid-up-to, output}
+use Rattle.convert.specs.Laws.Pages.{side, point-high, point-byte, byte-low, byte-below, byte-none}
+use Rattle.convert.specs.Laws.Utf8.{encode-one, encode-two, encode-three, encode-four, encode-length, row-one-is, row-two-is, row-three-is, decoded-by, Decoded, from-one, from-two, from-three, from-four, encode-decode}
+use Rattle.convert.specs.Laws.Steps.{to-converts, to-invalid, from-converts, from-invalid}
+use Rattle.ascii.specs.Runs.{Run}
+use Rattle.ascii.specs.Laws.{ascii-one, ascii-more}
+use Rattle.codepages.specs.Laws.Passes.{half, Tally, tally, tally-step, Grown, sets-append, passes-ascii, Passes, passes-one, Skips, skips, Found, found-some, Ready, not-refused, fits, Wrote, wrote}
 
 pub past : (u : List ℕ) (i : ℕ) → length u ≤ i → 0 ≡ getD u i 0
 past u i h = sym (List·getD-eq-default u 0 {n = i} h)

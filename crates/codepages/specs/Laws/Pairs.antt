@@ -10,11 +10,11 @@ use lib.ListN.{length, getD, drop, set, length-set}
 use lib.Seq.{sets}
 use borrow.Author.Tests.{lt-ltb, le-ltb}
 use Rattle.sizes.specs.Basics.{pick}
-use Rattle.codepages.specs.Pages.{page-count, ascii, no-byte, page, code-point}
-use Rattle.codepages.specs.Utf8.{two-bytes, three-bytes, four-bytes, encode}
-use Rattle.codepages.specs.Convert.{to, output}
-use Rattle.codepages.specs.Laws.Pages.{side, rule, point-low}
-use Rattle.codepages.specs.Laws.Utf8.{encode-one, encode-two, encode-length}
+use Rattle.convert.specs.Pages.{page-count, ascii, no-byte, page, code-point}
+use Rattle.convert.specs.Utf8.{two-bytes, three-bytes, four-bytes, encode}
+use Rattle.convert.specs.Convert.{to, output}
+use Rattle.convert.specs.Laws.Pages.{side, rule, point-low}
+use Rattle.convert.specs.Laws.Utf8.{encode-one, encode-two, encode-length}
 use Rattle.codepages.specs.Laws.Passes.{Passes, skips, overwritten, Ready, Wrote, wrote}
 use Rattle.codepages.specs.Laws.Branches.{point-none, point-entry, put-two, to-ready}
 

@@ -7,21 +7,17 @@ use Prim.Native.Nat.{ℕ, zero, suc, _+_, _-_, _≤_, _<_}
 use native.Mathlib.Omega.{arith}
 use lib.ListN.{length, getD, take, drop, set, length-append, length-drop, drop-of-length-le}
 use lib.Seq.{drop-drop, drop-cons, sets, length-sets}
-use lib.Bits.{bitOr, or-add-and, and-le-l, and-le-r}
-use Rattle.codepages.specs.Pages.{ascii, byte}
-use Rattle.codepages.specs.Utf8.{decode}
-use Rattle.codepages.specs.Convert.{Step, invalid, converts, to, from, way, valid-up-to, output}
-use Rattle.codepages.specs.Laws.Pages.{side, point-low, byte-low}
-use Rattle.codepages.specs.Laws.Utf8.{encode-one, row-one-is}
-use Rattle.codepages.specs.Laws.Steps.{up-to-step, output-step, up-to-invalid, output-invalid, up-to-end, output-end, to-converts, from-converts}
+use Rattle.convert.specs.Pages.{ascii, byte}
+use Rattle.convert.specs.Utf8.{decode}
+use Rattle.convert.specs.Convert.{Step, invalid, converts, to, from, way, valid-up-to, output}
+use Rattle.convert.specs.Laws.Pages.{side, point-low, byte-low}
+use Rattle.convert.specs.Laws.Utf8.{encode-one, row-one-is}
+use Rattle.convert.specs.Laws.Steps.{up-to-step, output-step, up-to-invalid, output-invalid, up-to-end, output-end, to-converts, from-converts}
+use Rattle.ascii.specs.Runs.{Ascii}
 
 -- a slice is shorter than that
 abbrev pub half : ℕ
 half = 9223372036854775808
-
--- bytes that are stored together
-abbrev pub block : ℕ
-block = 64
 
 -- ---- characters at a place
 
@@ -38,51 +34,6 @@ passes-one {f} {u} {i} m o e h =
     record { inside = h; goes = rw d at (up-to-step f i (drop i u) m o e l); writes = rw d at (output-step f (drop i u) m o e l) }
 
 -- ---- runs of bytes under 128
-
--- the n bytes at place i are under 128
-pub record Ascii (u : List ℕ) (i n : ℕ) : Type 0 where
-  pub under : (j : ℕ) → j < n → getD u (i + j) 0 < ascii
-
--- from `start` to r, inside the text if `start` is
-pub record Run (u : List ℕ) (start r : ℕ) : Type 0 where
-  pub onward : start ≤ r
-  pub inside : start ≤ length u → r ≤ length u
-  pub all : Ascii u start (r - start)
-
-pub ascii-none : (u : List ℕ) (i : ℕ) → Ascii u i 0
-ascii-none u i = record { under = λ j h. absurd (omega arith) }
-
-pub ascii-one : (u : List ℕ) (i : ℕ) → getD u i 0 < ascii → Ascii u i 1
-ascii-one u i h = record { under = λ j l. let z : i + j ≡ i = omega arith in rw z h }
-
-pub ascii-more : (u : List ℕ) (i n m : ℕ) → Ascii u i n → Ascii u (i + n) m → Ascii u i (n + m)
-ascii-more u i n m a b = record {
-  under = λ j h. ⊎-elim (λ (l : j < n). a .under j l) (λ (l : n ≤ j). let z : i + j ≡ i + n + (j - n) = omega arith in rw z (b .under (j - n) (omega arith))) (side j n);
-}
-
--- a run from `start` to i goes on
-pub ascii-on : (u : List ℕ) (start i n : ℕ) → start ≤ i → Ascii u start (i - start) → Ascii u i n → Ascii u start (i + n - start)
-ascii-on u start i n h a b =
-    let z : i + n - start ≡ i - start + n = omega arith in
-    let y : start + (i - start) ≡ i = omega arith in
-    rw z (ascii-more u start (i - start) n a (rw y b))
-
-pub ascii-start : (u : List ℕ) (i : ℕ) → Ascii u i (i - i)
-ascii-start u i = let z : i - i ≡ 0 = omega arith in rw z (ascii-none u i)
-
-pub run-none : (u : List ℕ) (i : ℕ) → Run u i i
-run-none u i = record { onward = omega arith; inside = λ h. h; all = ascii-start u i }
-
-pub run-more : {u : List ℕ} {start i n : ℕ} → Run u start i → (i + n ≤ length u) × Ascii u i n → Run u start (i + n)
-run-more {u} {start} {i} {n} t s =
-    record { onward = omega (arith, t .onward); inside = λ _. s .0; all = ascii-on u start i n (t .onward) (t .all) (s .1) }
-
--- the `or` of two numbers is under 128 only if both are: a run goes on by one byte
-pub ascii-or : (u : List ℕ) (i n bits : ℕ) → (bits < ascii → Ascii u i n) → bitOr bits (getD u (i + n) 0) < ascii → Ascii u i (n + 1)
-ascii-or u i n bits a h =
-    let b = getD u (i + n) 0 in
-    let s = or-add-and bits b in
-    ascii-more u i n 1 (a (omega (arith, s, and-le-r bits b))) (ascii-one u (i + n) (omega (arith, s, and-le-l bits b)))
 
 -- in either direction such a byte stands for itself
 pub plain : (back : Bool) (k a : ℕ) (u : List ℕ) → a < ascii → way back k (a ∷ u) ≡ converts 0 (a ∷ [])

@@ -10,12 +10,12 @@ use lib.ListN.{length, getD}
 use lib.Bits.{bitOr, or-add-and, and-le-l, and-le-r}
 use borrow.Author.Tests.{leb-true, ltb-true, eqb-false, ne-eqb, le-ltb}
 use Rattle.sizes.specs.Basics.{pick}
-use Rattle.codepages.specs.Table.{entries}
-use Rattle.codepages.specs.Pages.{page-count, ascii, no-code-point, no-byte, page, listed, code-point}
-use Rattle.codepages.specs.Utf8.{two-bytes, three-bytes, encode}
-use Rattle.codepages.specs.Convert.{Step, to}
-use Rattle.codepages.specs.Laws.Pages.{side, both, both-left, both-right, is-true, every, at-each, length-page, point-low, point-high}
-use Rattle.codepages.specs.Laws.Utf8.{encode-one, encode-two}
+use Rattle.convert.specs.Table.{entries}
+use Rattle.convert.specs.Pages.{page-count, ascii, no-code-point, no-byte, page, listed, code-point}
+use Rattle.convert.specs.Utf8.{two-bytes, three-bytes, encode}
+use Rattle.convert.specs.Convert.{Step, to}
+use Rattle.convert.specs.Laws.Pages.{side, both, both-left, both-right, is-true, every, at-each, length-page, point-low, point-high}
+use Rattle.convert.specs.Laws.Utf8.{encode-one, encode-two}
 use Rattle.codepages.specs.Laws.Passes.{Skips, skips, skips-more}
 use Rattle.codepages.specs.Laws.Branches.{to-at}
 

@@ -9,3 +9,5 @@ pub mod RefusedExactly
 pub mod RecordsSpelt
 pub mod NodesBelow
 pub mod NoCells
+-- a member by computation
+pub mod AcceptedExample

@@ -4,13 +4,14 @@ use Prim.Native.Nat.{ℕ, _-_, _<_}
 use native.Mathlib.Omega.{arith}
 use borrow.Author.Needs.{needs}
 use borrow.Fn.PlainCycle.{Measures, is, falls, and}
-use Rattle.member.specs.Laws.IntoLists.{smallest-lists, small-lists, medium-lists, large-lists, larger-lists, largest-lists, has-room}
-use Rattle.member.specs.Laws.Whole.{not-last, enough-for, enough-always}
+use Rattle.lists.specs.Lists.{smallest-lists, small-lists, medium-lists, large-lists, larger-lists, largest-lists, has-room}
+use Rattle.lists.specs.Laws.{not-last}
+use Rattle.member.specs.Laws.Whole.{enough-for, enough-always}
 use Rattle.member.proofs.read_from_step.Reads as step
 use Rattle.member.proofs.read_from_step.Kinds as step-kinds
 use Rattle.member.proofs.+read_from_step.Lts-read_from_step as step-lts
 use Rattle.layout.proofs.number.left.Reads as left-reads
-use Rattle.member.proofs.has_room.Reads as has-room-reads
+use Rattle.lists.proofs.has_room.Reads as has-room-reads
 use Rattle.member.proofs.with_smallest_lists.Reads as smallest-reads
 use Rattle.member.proofs.with_small_lists.Reads as small-reads
 use Rattle.member.proofs.with_medium_lists.Reads as medium-reads

@@ -2,7 +2,7 @@ use borrow.Author.Needs.{needs}
 use lib.ListN.{length}
 use Rattle.table.specs.Laws.Within.{is-within}
 use Rattle.cells.specs.Laws.Cells.{cell-records}
-use Rattle.member.specs.Laws.Whole.{end-off, end-left, end-there}
+use Rattle.opening.specs.Laws.Ends.{end-off, end-left, end-there}
 use Rattle.member.proofs.cells_and_end.Statement.{statement}
 use Rattle.member.proofs.cells_and_end.Tie as tie
 

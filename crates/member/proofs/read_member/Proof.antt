@@ -1,7 +1,7 @@
 use borrow.Author.Needs.{needs}
 use Rattle.layout.specs.Steps.Slices.{bytes-of}
 use Rattle.member.specs.Laws.Whole.{not-delivered}
-use Rattle.member.specs.Laws.Holds.{demand3}
+use Rattle.answer.specs.Laws.Holds.{demand3}
 use Rattle.member.proofs.read_member.Statement.{statement}
 use Rattle.member.proofs.read_member.Tie as tie
 

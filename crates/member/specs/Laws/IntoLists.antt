@@ -1,4 +1,4 @@
--- What `read_into` answers, and what its two lists then hold; and lists in steps by the bytes that are left.
+-- What `read_into` answers, and what its two lists then hold.
 use mathlib.Core.Path.{_≡_}
 use mathlib.Core.Bool.{Bool, true}
 use mathlib.Core.List.{List, _++_}
@@ -11,10 +11,10 @@ use Rattle.grammar.specs.Laws.Layout.Read.{Got, got, no}
 use Rattle.table.specs.Laws.Within.{needed, within, Scratch}
 use Rattle.table.specs.Laws.Dims.{node-records}
 use Rattle.cells.specs.Laws.Cells.{cell-records}
-use Rattle.member.specs.declared.Answer.{Answer}
+use Rattle.answer.specs.declared.Answer.{Answer}
 use Rattle.grammar.specs.Member.{Member, cells, nodes, nodeRecords, cellRecords}
 use Rattle.grammar.specs.Laws.Member.Checked.{checked}
-use Rattle.member.specs.Answer.{refusal, accepted}
+use Rattle.answer.specs.Answer.{refusal, accepted}
 
 -- lists of those lengths have room for the records of all that the bytes from the place `at` on can hold
 abbrev pub LongEnough : List ℕ → ℕ → ℕ → ℕ → Type 0
@@ -29,32 +29,3 @@ pub data Stored (node-list cell-list : List ℕ) : Got (Tree Member) → Answer 
   all-stored : {t : Tree Member} {r : List ℕ} {p : ℕ} {a : Answer} {ms vs : List ℕ} → a ≡ accepted t → ms ≡ nodeRecords t ++ drop (node-words * nodes t) node-list
       → vs ≡ cellRecords t ++ drop (cell-words * length (cells t)) cell-list → Stored node-list cell-list (got t r p) a ms vs
   not-stored : {n p : ℕ} {a : Answer} {ms vs : List ℕ} → a ≡ refusal n p 0 0 → Scratch node-list ms → Scratch cell-list vs → Stored node-list cell-list (no n p) a ms vs
-
--- the bytes that are read with the lists of each step
-abbrev pub smallest-lists : ℕ
-smallest-lists = 1024
-
-abbrev pub small-lists : ℕ
-small-lists = 2560
-
-abbrev pub medium-lists : ℕ
-medium-lists = 4608
-
-abbrev pub large-lists : ℕ
-large-lists = 8192
-
-abbrev pub larger-lists : ℕ
-larger-lists = 16384
-
-abbrev pub largest-lists : ℕ
-largest-lists = 32768
-
--- the lists of step 0 to 5 are these; those of every other have room for each member
-unfoldable pub has-room : ℕ → ℕ → Bool
-has-room zero n = leb n smallest-lists
-has-room (suc zero) n = leb n small-lists
-has-room (suc (suc zero)) n = leb n medium-lists
-has-room (suc (suc (suc zero))) n = leb n large-lists
-has-room (suc (suc (suc (suc zero)))) n = leb n larger-lists
-has-room (suc (suc (suc (suc (suc zero))))) n = leb n largest-lists
-has-room (suc (suc (suc (suc (suc (suc k)))))) n = true

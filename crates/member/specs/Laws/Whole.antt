@@ -2,25 +2,21 @@
 use mathlib.Core.Path.{_≡_, refl, sym, ap, _∙_}
 use mathlib.Core.Bool.{Bool, true, false}
 use mathlib.Core.List.{List, [], _∷_, _++_, map}
-use Prim.Native.Nat.{ℕ, zero, suc, _+_, _-_, _*_, _^_, _≤_, _<_, min}
+use Prim.Native.Nat.{ℕ, zero, suc, _+_, _-_, _*_, _^_, _≤_, min}
 use native.Mathlib.Nat.{zero-add, sub-zero, zero-sub, suc-sub-suc}
 use native.Mathlib.Omega.{arith}
-use lib.ListN.{length, take, drop, getD, replicate, length-append, length-drop, length-replicate, length-map}
+use lib.ListN.{length, take, drop, getD, replicate, length-append, length-replicate, length-map}
 use lib.Seq.{sets, sets-eq, take-at, drop-drop, getD-drop}
 use lib.Dec.{eqb, leb}
 use borrow.Author.Tests.{leb-true, leb-false, le-leb, lt-leb, eq-eqb, ne-eqb}
 use Rattle.sizes.specs.Sizes.{member-bytes, most-dimensions, most-cells, most-places, node-words, cell-words, dimension-words, node-area, cell-area, dimension-area, dimension-n}
-use Rattle.layout.specs.declared.Step.{Step}
-use Rattle.layout.specs.declared.Step.the-variants.{Next, Refused}
 use Rattle.sizes.specs.Basics.{pick}
 use Rattle.grammar.specs.Layout.{Tree, spell, passes, Bytes, Valid, size}
-use Rattle.grammar.specs.Laws.Layout.Read.{Got, got, no, bind, lead, read}
+use Rattle.grammar.specs.Laws.Layout.Read.{Got, got, no, bind, read}
 use Rattle.grammar.specs.Laws.Layout.Check.{check}
-use Rattle.layout.specs.Reads.{Reads}
-use Rattle.layout.specs.Keeps.{Out, on, off, Keeps, keeps-on, keeps-off}
+use Rattle.layout.specs.Keeps.{Out, on, off, Keeps}
 use Rattle.layout.specs.Steps.Keeping.{Reached, kept-on, kept-off}
-use Rattle.layout.specs.Steps.Spelt.{Found, found-by, Read, read-on, read-off, stays-inside}
-use Rattle.grammar.specs.Laws.Layout.Binds.{bind-assoc}
+use Rattle.layout.specs.Steps.Spelt.{Found, found-by, Read, stays-inside}
 use Rattle.layout.specs.Words.{word32}
 use Rattle.layout.specs.Laws.Words.{word-same}
 use Rattle.grammar.specs.Sections.{Front}
@@ -31,73 +27,22 @@ use Rattle.grammar.specs.Records.{dimNodes, dimLeaves, dimEntry, dimsWords, dim
 use Rattle.grammar.specs.Rules.{dimensionsRule, placesOf, countsRule, axesRule, cellsRule}
 use Rattle.grammar.specs.Laws.Table.Lengths.{size-all}
 use Rattle.grammar.specs.Laws.Table.LeastBytes.{cells-bytes, least-cell}
-use Rattle.grammar.specs.Laws.Table.Words.{width-rows}
 use Rattle.table.specs.Laws.Within.{needed, within, is-within, Scratch}
 use Rattle.table.specs.Laws.Dims.{Kept, kept, AllDims, node-records, node-room}
-use Rattle.grammar.specs.Laws.Table.Words.{width-dims, width-entries}
-use Rattle.cells.specs.declared.AxisCounts.the-variants as counts
-use Rattle.cells.specs.Laws.Axes.{Order, AllAxes}
+use Rattle.grammar.specs.Laws.Table.Words.{width-rows, width-dims, width-entries}
+use Rattle.axes.specs.declared.AxisCounts.the-variants as counts
+use Rattle.axes.specs.Laws.Axes.{Order, AllAxes}
 use Rattle.cells.specs.Laws.Cells.{AllCells, cell-records, cell-room}
-use Rattle.member.specs.declared.Answer.{Answer}
-use Rattle.member.specs.declared.Head.{Head}
-use Rattle.member.specs.declared.Head.the-variants as head
+use Rattle.answer.specs.declared.Answer.{Answer}
 use Rattle.member.specs.declared.Tail.{Tail}
 use Rattle.grammar.specs.Member.{Member, version as memberVersion, body-at, dimensions, dimensionsAt, order, cells, nodes, cellsStart, nodeRecords, dimensionEntries, cellRecords, frontSection, dimensionsSection, axesSection}
-use Rattle.grammar.specs.Refused.{bodyRule, memberRule}
+use Rattle.grammar.specs.Refused.{memberRule}
 use Rattle.grammar.specs.Laws.Member.Checked.{ended, checked}
-use Rattle.member.specs.Answer.{zeros, refusal, accepted, answerOf, nodesAfter, cellsAfter, Delivered}
-use Rattle.member.specs.Laws.IntoLists.{has-room, LongEnough, intoLists, Stored, all-stored, not-stored}
+use Rattle.answer.specs.Answer.{zeros, refusal, accepted, answerOf, nodesAfter, cellsAfter, Delivered}
+use Rattle.member.specs.Laws.IntoLists.{LongEnough, intoLists, Stored, all-stored, not-stored}
 use Rattle.grammar.specs.Laws.Member.Demanded.{ended-got}
-use Rattle.member.specs.Laws.Header.{Bound}
-
--- ---- the end
-
--- the end, from a position: no byte is left but for an optional 01; or the refusal
-unfoldable pub endAt : List ℕ → ℕ → Step
-endAt s at = let k = lead 0x01 1 (drop at s) in pick (leb (length (drop at s)) k) (Next at) (Refused 11 (at + k))
-
--- one byte more or none
-end-test : (n q k : ℕ) → leb (n - q) k ≡ leb n (q + k)
-end-test n q k = go (leb (n - q) k) refl
-  where
-    go : (b : Bool) → leb (n - q) k ≡ b → b ≡ leb n (q + k)
-    go true t = sym (le-leb n (q + k) (omega (arith, leb-true (n - q) k t)))
-    go false t = sym (lt-leb n (q + k) (omega (arith, leb-false (n - q) k t)))
-
-pub end-is : (s : List ℕ) (at : ℕ) → let p = at + lead 0x01 1 (drop at s) in endAt s at ≡ pick (leb (length s) p) (Next at) (Refused 11 p)
-unfolding endAt
-end-is s at = rw (length-drop at s, end-test (length s) at (lead 0x01 1 (drop at s)))
-
-module _ {A : Type 0} (s : List ℕ) (q : ℕ) (t : A) where
-  abbrev lead-01 : ℕ
-  lead-01 = lead 0x01 1 (drop q s)
-
-  by-end : (b : Bool) → leb (length (drop q s)) lead-01 ≡ b → (st : Step) → st ≡ pick b (Next q) (Refused 11 (q + lead-01))
-      → ((p : ℕ) → st ≡ Next p → ended (got t (drop q s) q) ≡ got t (drop q s) q) × ((n p : ℕ) → st ≡ Refused n p → ended (got t (drop q s) q) ≡ no n p)
-  unfolding ended pick
-  by-end true e st h = (λ p f. rw e, λ n p f. absurd (let z : _≡_ {A = ℕ} 0 1 = cc in omega arith))
-  by-end false e st h = (λ p f. absurd (let z : _≡_ {A = ℕ} 0 1 = cc in omega arith), λ n p f. let a : 11 ≡ n = cc in let c : q + lead-01 ≡ p = cc in rw (e, a, c))
-
-  pub ended-on : {p : ℕ} → endAt s q ≡ Next p → ended (got t (drop q s) q) ≡ got t (drop q s) q
-  unfolding endAt
-  ended-on {p} = by-end (leb (length (drop q s)) lead-01) refl (endAt s q) refl .0 p
-
-  pub ended-off : {n p : ℕ} → endAt s q ≡ Refused n p → ended (got t (drop q s) q) ≡ no n p
-  unfolding endAt
-  ended-off {n} {p} = by-end (leb (length (drop q s)) lead-01) refl (endAt s q) refl .1 n p
-
--- the end after a section
-pub end-off : {A X : Type 0} {s : List ℕ} {Q : A → ℕ → X → Type 0} {y : Got A} {n p : ℕ} → Keeps s Q y (off n p) → Keeps s Q (ended y) (off n p)
-unfolding ended
-end-off keeps-off = keeps-off
-
-pub end-there : {A X : Type 0} {s : List ℕ} {Q : A → ℕ → X → Type 0} {y : Got A} {q : ℕ} {x : X} → Keeps s Q y (on q x)
-    → {st : Step} → st ≡ endAt s q → {p : ℕ} → st ≡ Next p → Keeps s Q (ended y) (on q x)
-end-there {s = s} {q = q} k₀ e f = let k = kept-on k₀ in rw (k .is, ended-on s q (k .tree) (sym e ∙ f)) (keeps-on refl (k .keeps))
-
-pub end-left : {A X : Type 0} {s : List ℕ} {Q : A → ℕ → X → Type 0} {y : Got A} {q : ℕ} {x : X} → Keeps s Q y (on q x)
-    → {st : Step} → st ≡ endAt s q → {n p : ℕ} → st ≡ Refused n p → Keeps s Q (ended y) (off n p)
-end-left {s = s} {q = q} k₀ e f = let k = kept-on k₀ in rw (k .is, ended-off s q (k .tree) (sym e ∙ f)) keeps-off
+use Rattle.opening.specs.Laws.Header.{Bound}
+use Rattle.opening.specs.Laws.Opening.{Opened, afterDims, in-sections}
 
 -- ---- the n of the dimensions, from their entries
 
@@ -116,39 +61,6 @@ sizes-drop ws (suc k) i =
 
 -- ---- the whole
 
--- the last step, and every other that has no room for a member
-pub room-last : (k n : ℕ) → 5 < k → has-room k n ≡ true
-unfolding has-room
-room-last zero n h = absurd (omega arith)
-room-last (suc zero) n h = absurd (omega arith)
-room-last (suc (suc zero)) n h = absurd (omega arith)
-room-last (suc (suc (suc zero))) n h = absurd (omega arith)
-room-last (suc (suc (suc (suc zero)))) n h = absurd (omega arith)
-room-last (suc (suc (suc (suc (suc zero))))) n h = absurd (omega arith)
-room-last (suc (suc (suc (suc (suc (suc k)))))) n h = refl
-
-pub not-last : (k n : ℕ) → has-room k n ≡ false → k < 6
-unfolding has-room
-not-last zero n e = omega arith
-not-last (suc zero) n e = omega arith
-not-last (suc (suc zero)) n e = omega arith
-not-last (suc (suc (suc zero))) n e = omega arith
-not-last (suc (suc (suc (suc zero)))) n e = omega arith
-not-last (suc (suc (suc (suc (suc zero))))) n e = omega arith
-not-last (suc (suc (suc (suc (suc (suc k)))))) n e = absurd (let z : _≡_ {A = ℕ} 0 1 = cc in omega arith)
-
--- a member that is no longer than members are, of that version, whose sections before its dimensions end at a place
-pub record Opened (s : List ℕ) (version at : ℕ) : Type 0 where
-  pub short : length s ≤ member-bytes
-  pub from : ℕ
-  pub header : Bound s version from
-  pub front : Read (Front version) s from at
-
--- what the code gives
-abbrev pub OpeningRead : List ℕ → Head → Type 0
-OpeningRead s (head.Of version at) = Opened s version at
-OpeningRead s (head.Refused n p) = checked s ≡ no n p
-
 -- lists that are long enough for all bytes are so for those from a place on
 pub enough-later : (s : List ℕ) (at : ℕ) {n m : ℕ} → LongEnough s 0 n m → LongEnough s at n m
 enough-later s at h = (omega (arith, h .0), omega (arith, h .1))
@@ -164,21 +76,6 @@ enough-always s at = (omega arith, omega arith)
 -- where the axes end
 pub axes-later : (s : List ℕ) → Bytes s → (at d : ℕ) {next : ℕ} {x : Order} → Keeps s AllAxes (check (countsRule d) (drop at s) at) (on next x) → at ≤ next
 axes-later s b at d {next} k = let r = kept-on k in omega (arith, found-by (countsRule d) s b at (r .tree) (drop next s) next (r .is) .place)
-
--- the end after what comes after something
-ended-after : {A B : Type 0} (x : Got A) (f g : A → List ℕ → ℕ → Got B) → ((t : A) (s : List ℕ) (at : ℕ) → ended (f t s at) ≡ g t s at) → ended (bind x f) ≡ bind x g
-unfolding ended bind
-ended-after (got t s at) f g h = h t s at
-ended-after (no n p) f g h = refl
-
-ended-bind : {A B : Type 0} (x : Got A) (f : A → B) → ended (bind x (λ t s at. got (f t) s at)) ≡ bind (ended x) (λ t s at. got (f t) s at)
-unfolding ended bind pick
-ended-bind (no n p) f = refl
-ended-bind (got t s at) f = go (leb (length s) (lead 0x01 1 s))
-  where
-    go : (b : Bool) → pick b (got (f t) s at) (no 11 (at + lead 0x01 1 s)) ≡ bind (pick b (got t s at) (no 11 (at + lead 0x01 1 s))) (λ t s at. got (f t) s at)
-    go true = refl
-    go false = refl
 
 -- words in front of a list, and of zeros
 drop-zeros : (k n : ℕ) → drop k (replicate {A = ℕ} n 0) ≡ replicate (n - k) 0
@@ -213,15 +110,6 @@ pub record Filled (k m : ℕ) (node-list cell-list nodes cells : List ℕ) (n : 
 pub not-delivered : (s : List ℕ) {n p : ℕ} → checked s ≡ no n p → {N C : List ℕ} → Delivered (checked s) N C (refusal n p 0 0) N C
 unfolding answerOf nodesAfter cellsAfter
 not-delivered s e = rw e (record { answer = refl; node-area = refl; cell-area = refl })
-
--- what is refused by its Header is refused
-pub no-header : (s : List ℕ) → length s ≤ member-bytes → {n p : ℕ} → check memberRule s 0 ≡ no n p → checked s ≡ no n p
-unfolding checked ended pick
-no-header s h e = rw (le-leb (length s) member-bytes h, e)
-
-pub longer : (s : List ℕ) → member-bytes < length s → checked s ≡ no 1 0
-unfolding checked pick
-longer s h = rw (lt-leb (length s) member-bytes h)
 
 -- where the cells start
 cells-start : (t : Tree Member) → let v = memberVersion t in cellsStart t ≡ body-at + size (Front v) (frontSection t) + size (Dimensions v) (dimensionsSection t) + size Axes (axesSection t) + 4
@@ -303,12 +191,6 @@ as-checked s {k} {m} h = go (leb (length s) member-bytes)
     go false = refl
 
 module _ (version : ℕ) where
-  -- ---- after the dimensions
-
-  -- the axes and the cells of a table with the dimensions ts, and the end
-  unfoldable pub afterDims : List (Tree (Dimension version)) → List ℕ → ℕ → Got (Tree Axes × Tree (Cells version))
-  afterDims ts s at = bind (check (axesRule version ts) s at) (λ a s₁ at₁. bind (ended (check (cellsRule version (placesOf version ts)) s₁ at₁)) (λ c s₂ at₂. got (a, c) s₂ at₂))
-
   -- what is kept of them, from the place `at` on
   pub record Kept-tail (s : List ℕ) (at : ℕ) (ws : List ℕ) (a : Tree Axes) (c : Tree (Cells version)) (layers rows columns : ℕ) (t : Tail) (vs : List ℕ) : Type 0 where
     pub on-layers : layers ≡ axisLayers a
@@ -340,7 +222,7 @@ module _ (version : ℕ) where
   abbrev pub TailRead : List ℕ → ℕ → ℕ → List ℕ → List ℕ → Tail → List ℕ → Type 0
   TailRead s at d ds ws t vs =
       (ts : List (Tree (Dimension version))) → length ts ≤ most-dimensions → d ≡ length ts → sizes ds 0 d ≡ map (λ t. length (dimLeaves version t)) ts → at ≤ length s
-      → TailIs s at ws (afterDims ts (drop at s) at) t vs
+      → TailIs s at ws (afterDims version ts (drop at s) at) t vs
 
   module _ (s : List ℕ) (b : Bytes s) (at d : ℕ) (ds : List ℕ) {places : ℕ} (p-is : places ≡ min (product (sizes ds 0 (min d most-dimensions))) (2 ^ 32))
       (ts : List (Tree (Dimension version))) (few : length ts ≤ most-dimensions) (d-is : d ≡ length ts) (ns : sizes ds 0 d ≡ map (λ t. length (dimLeaves version t)) ts) (inside : at ≤ length s) where
@@ -350,7 +232,7 @@ module _ (version : ℕ) where
     capped : places ≡ min (placesOf version ts) (2 ^ 32)
     capped = p-is ∙ rw (d-few, ns)
 
-    pub too-many-places : leb places most-places ≡ false → {t : Tail} {ws vs : List ℕ} → t .axes ≡ counts.Refused 7 at → TailIs s at ws (afterDims ts (drop at s) at) t vs
+    pub too-many-places : leb places most-places ≡ false → {t : Tail} {ws vs : List ℕ} → t .axes ≡ counts.Refused 7 at → TailIs s at ws (afterDims version ts (drop at s) at) t vs
     unfolding afterDims axesRule check bind pick
     too-many-places e h =
         let l : leb (placesOf version ts) most-places ≡ false = lt-leb (placesOf version ts) most-places (omega (arith, leb-false places most-places e, capped)) in
@@ -368,7 +250,7 @@ module _ (version : ℕ) where
           rw (l, n)
 
       pub no-axes : {n p : ℕ} → Keeps s AllAxes (check (countsRule (min d most-dimensions)) (drop at s) at) (off n p) → {t : Tail} {ws vs : List ℕ} → t .axes ≡ counts.Refused n p
-          → TailIs s at ws (afterDims ts (drop at s) at) t vs
+          → TailIs s at ws (afterDims version ts (drop at s) at) t vs
       unfolding afterDims bind
       no-axes k h = rw (by-counts, kept-off k) (tail-off h)
 
@@ -380,14 +262,14 @@ module _ (version : ℕ) where
         axes-found = found-by (countsRule (min d most-dimensions)) s b at (axes-read .tree) (drop next s) next (axes-read .is)
 
         pub no-cells : {ws : List ℕ} {n p : ℕ} → Keeps s (AllCells version next ws) (ended (check (cellsRule version places) (drop next s) next)) (off n p) → {t : Tail} {vs : List ℕ} → t .axes ≡ counts.Refused n p
-            → TailIs s at ws (afterDims ts (drop at s) at) t vs
+            → TailIs s at ws (afterDims version ts (drop at s) at) t vs
         unfolding afterDims bind
         no-cells k h =
             let k′ = rw places-is at (kept-off k) in
             rw (by-counts, axes-read .is, k′) (tail-off h)
 
         pub with-cells : {ws : List ℕ} {q m : ℕ} {vs : List ℕ} → Keeps s (AllCells version next ws) (ended (check (cellsRule version places) (drop next s) next)) (on q (m, vs)) → {t : Tail}
-            → t .axes ≡ counts.Of (x .layers) (x .rows) (x .columns) q → t .cells ≡ m → t .order ≡ x .order → TailIs s at ws (afterDims ts (drop at s) at) t vs
+            → t .axes ≡ counts.Of (x .layers) (x .rows) (x .columns) q → t .cells ≡ m → t .order ≡ x .order → TailIs s at ws (afterDims version ts (drop at s) at) t vs
         unfolding afterDims bind
         with-cells {ws} {q} {m} {vs} k₀ {t} h₁ h₂ h₃ =
             let k = kept-on k₀ in
@@ -425,24 +307,6 @@ module _ (version : ℕ) where
       sizes-drop (sets (replicate dimension-area 0) 0 W) (length ts) 0
       ∙ rw (sets-eq W (replicate dimension-area 0) 0 fit) (sizes-entries 0 at ts (drop (0 + length W) (replicate dimension-area 0)))
 
-  in-sections : (s : List ℕ) → length s ≤ member-bytes → {at : ℕ} (h : Bound s version at)
-      → checked s ≡ bind (read (Front version) (drop at s) at) (λ f s₁ at₁. bind (check (dimensionsRule version) s₁ at₁) (λ d s₂ at₂. bind (afterDims (d .1) s₂ at₂) (λ x s₃ at₃. got (h .start, (version, (((f, d), x .0), x .1))) s₃ at₃)))
-  unfolding checked bodyRule check afterDims pick bind
-  in-sections s l {at} h =
-      rw (le-leb (length s) member-bytes l, h .is)
-      (simp bind-assoc
-      (ended-after (read (Front version) (drop at s) at) _ _ (λ f s₁ at₁. ended-after (check (dimensionsRule version) s₁ at₁) _ _ (λ d s₂ at₂. ended-after (check (axesRule version (d .1)) s₂ at₂) _ _ (λ a s₃ at₃.
-      ended-bind (check (cellsRule version (placesOf version (d .1))) s₃ at₃) (λ c. (h .start, (version, (((f, d), a), c)))))))))
-
-  -- the sections before the dimensions
-  module _ (s : List ℕ) (b : Bytes s) (short : length s ≤ member-bytes) {st : Step} {from : ℕ} (hd : Bound s version from) (fr : Reads (Front version) s (Next from) st) where
-    pub no-front : {n p : ℕ} → st ≡ Refused n p → checked s ≡ no n p
-    unfolding bind
-    no-front e = rw (in-sections s short hd, read-off fr e)
-
-    pub opened : {at : ℕ} → st ≡ Next at → Opened s version at
-    opened e = record { short = short; from = from; header = hd; front = read-on b fr e }
-
   -- the dimensions and what follows them
   module _ (s : List ℕ) (b : Bytes s) (ns cs : List ℕ) {at : ℕ} (o : Opened s version at) (room : LongEnough s at (length ns) (length cs)) where
     abbrev hd : Bound s version (o .from)
@@ -458,7 +322,7 @@ module _ (version : ℕ) where
     unfolding bind
     no-dims k =
         let k′ = rw (is-within node-records s at (length ns) (check (dimensionsRule version) (drop at s) at) (o .short) (room .0)) at k in
-        rw (in-sections s (o .short) hd, start .is, kept-off k′)
+        rw (in-sections version s (o .short) hd, start .is, kept-off k′)
 
     module _ {next d used : ℕ} {ms es : List ℕ} (k : Dimensioned (on next (kept d used ms es))) where
       dims : Reached s (AllDims version at ns (replicate dimension-area 0)) (check (dimensionsRule version) (drop at s) at) next (kept d used ms es)
@@ -480,7 +344,7 @@ module _ (version : ℕ) where
       inside : next ≤ length s
       inside = stays-inside there (stays-inside (start .there) (hd .inside))
 
-      tail-of : {t : Tail} {vs : List ℕ} → TailRead s next d es cs t vs → TailIs s next cs (afterDims ts (drop next s) next) t vs
+      tail-of : {t : Tail} {vs : List ℕ} → TailRead s next d es cs t vs → TailIs s next cs (afterDims version ts (drop next s) next) t vs
       unfolding ts
       tail-of h =
           let n-is = dims .keeps .number in
@@ -490,18 +354,18 @@ module _ (version : ℕ) where
       unfolding bind ts
       no-tail h {n} {p} e₁ = go (tail-of h) refl e₁
         where
-          go : {y : Got (Tree Axes × Tree (Cells version))} {t : Tail} {vs : List ℕ} → TailIs s next cs y t vs → afterDims ts (drop next s) next ≡ y → t .axes ≡ counts.Refused n p → checked s ≡ no n p
+          go : {y : Got (Tree Axes × Tree (Cells version))} {t : Tail} {vs : List ℕ} → TailIs s next cs y t vs → afterDims version ts (drop next s) next ≡ y → t .axes ≡ counts.Refused n p → checked s ≡ no n p
           go (tail-on l r c q x y) f g = absurd (let z : _≡_ {A = ℕ} 0 1 = cc in omega arith)
           go (tail-off {n = m} {p = q} x) f g =
               let m-is : m ≡ n = cc in
               let q-is : q ≡ p = cc in
-              rw (in-sections s (o .short) hd, start .is, dims .is, f, m-is, q-is)
+              rw (in-sections version s (o .short) hd, start .is, dims .is, f, m-is, q-is)
 
       pub with-tail : {t : Tail} {vs : List ℕ} → TailRead s next d es cs t vs → {l r c q : ℕ} → t .axes ≡ counts.Of l r c q → Stored ns cs (checked s) (answered d used t es l r c) ms vs
       unfolding bind ts zeros accepted
       with-tail h {l} {r} {c} {q} e₁ = go (tail-of h) refl e₁
         where
-          go : {y : Got (Tree Axes × Tree (Cells version))} {t : Tail} {vs : List ℕ} → TailIs s next cs y t vs → afterDims ts (drop next s) next ≡ y → t .axes ≡ counts.Of l r c q
+          go : {y : Got (Tree Axes × Tree (Cells version))} {t : Tail} {vs : List ℕ} → TailIs s next cs y t vs → afterDims version ts (drop next s) next ≡ y → t .axes ≡ counts.Of l r c q
               → Stored ns cs (checked s) (answered d used t es l r c) ms vs
           go (tail-on {a = a} {c = x} {r = rest} {p = p} {t = t} {vs = vs} l′ r′ c′ q′ axes-are k) f g =
               let l-is : l′ ≡ l = cc in
@@ -524,7 +388,7 @@ module _ (version : ℕ) where
               k .order ∙ in-front most-dimensions (map entryIndex (axisEntries a)) (omega (arith, length-map (axisEntries a) entryIndex, k .few-entries)) in
               let node-fit : node-words * nodes tree ≤ length ns = node-room s at (length ns) (room .0) .enough (nodes tree) (omega arith) (omega arith) in
               let cell-fit : cell-words * length (cells tree) ≤ length cs = cell-room s at (length cs) (room .1) .enough (length (cells tree)) (k .few) (omega (arith, k .bytes, there .place)) in
-              let is : checked s ≡ got tree rest p = rw (in-sections s (o .short) hd, start .is, dims .is, f) in
+              let is : checked s ≡ got tree rest p = rw (in-sections version s (o .short) hd, start .is, dims .is, f) in
               rw is
               (all-stored
               (same-answer (word-same d (omega arith) ∙ d-is) (word-same used (omega arith) ∙ used-is) (word-same (t .cells) (omega (arith, k .count, k .few)) ∙ k .count) entries-is

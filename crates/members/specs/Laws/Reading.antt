@@ -21,7 +21,7 @@ use Rattle.grammar.specs.Laws.Table.Words.{width-rows}
 use Rattle.grammar.specs.Member.{Member, version, dimensions, dimensionsAt, cells, cellsStart, nodes, nodeRecords, cellRecords}
 use Rattle.grammar.specs.Refused.{memberRule, bodyRule}
 use Rattle.grammar.specs.Laws.Member.Checked.{ended, checked}
-use Rattle.member.specs.Answer.{wide, long, nodesAfter, cellsAfter}
+use Rattle.answer.specs.Answer.{wide, long, nodesAfter, cellsAfter}
 use Rattle.members.specs.Members.{members, listRefusal, start, size as lengthOf, memberAt, shareOf, nodeShare, cellShare}
 use Rattle.members.specs.Laws.Shares.{share-inside, share-length}
 

@@ -5,7 +5,7 @@ use mathlib.Core.List.{List}
 use Prim.Native.Nat.{ℕ, _+_, _/_, _≤_, _<_}
 use native.Mathlib.Omega.{arith}
 use lib.ListN.{length}
-use Rattle.member.specs.declared.Answer.{Answer}
+use Rattle.answer.specs.declared.Answer.{Answer}
 use Rattle.members.specs.Members.{members, memberAt, nodeShare, cellShare, InShare, answerAt}
 use Rattle.members.specs.Laws.Shares.{shares-inside, Filled, none-filled, same-length, same-share, one-more}
 use Rattle.members.specs.Laws.Reading.{node-share-length, cell-share-length}

@@ -5,7 +5,7 @@ use Prim.Native.Nat.{ℕ, _+_, _*_, _≤_, _<_}
 use native.Mathlib.Omega.{arith}
 use lib.ListN.{length}
 use Rattle.sizes.specs.Sizes.{answer-words}
-use Rattle.member.specs.declared.Answer.{Answer}
+use Rattle.answer.specs.declared.Answer.{Answer}
 use Rattle.members.specs.Members.{members, memberAt, withShare, InShare}
 use Rattle.members.specs.Laws.Shares.{Filled, none-filled, same-length, one-more}
 use Rattle.members.specs.Laws.Turns.{UpTo, none-read, its-answer, one-more-read}

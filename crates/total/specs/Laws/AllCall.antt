@@ -12,10 +12,10 @@ use Rattle.sizes.specs.Basics.{pick}
 use Rattle.grammar.specs.Layout.{Bytes, Tree}
 use Rattle.grammar.specs.Laws.Layout.Read.{no}
 use Rattle.grammar.specs.RecordWords.{word}
-use Rattle.member.specs.declared.Answer.{Answer}
+use Rattle.answer.specs.declared.Answer.{Answer}
 use Rattle.grammar.specs.Member.{Member, dimensions, nodes, cells, cellRecords, MemberDerivation, AsDemanded}
 use Rattle.grammar.specs.Laws.Member.Checked.{checked}
-use Rattle.member.specs.Answer.{accepted}
+use Rattle.answer.specs.Answer.{accepted}
 use Rattle.grammar.specs.Laws.Member.Demanded.{derivation-checked}
 use Rattle.total.specs.declared.DimensionTotals.{DimensionTotals}
 use Rattle.total.specs.Words.{leafWords, rows}

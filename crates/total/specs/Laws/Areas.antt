@@ -20,10 +20,10 @@ use Rattle.grammar.specs.Table.{Cell}
 use Rattle.grammar.specs.Records.{cellWords}
 use Rattle.grammar.specs.Laws.Table.Words.{width-rows}
 use Rattle.grammar.specs.Laws.Table.Words.{width-dims}
-use Rattle.member.specs.declared.Answer.{Answer}
+use Rattle.answer.specs.declared.Answer.{Answer}
 use Rattle.grammar.specs.Member.{Member, version, dimensions, dimensionsAt, cellsStart, nodes, cells, nodeRecords, cellRecords, MemberDerivation, AsDemanded}
 use Rattle.grammar.specs.Laws.Member.Checked.{checked}
-use Rattle.member.specs.Answer.{accepted, wide, long, nodesAfter, cellsAfter}
+use Rattle.answer.specs.Answer.{accepted, wide, long, nodesAfter, cellsAfter}
 use Rattle.grammar.specs.Laws.Member.Demanded.{derivation-checked}
 use Rattle.total.specs.Laws.Reading.{Taken}
 

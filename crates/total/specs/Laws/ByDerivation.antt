@@ -10,12 +10,12 @@ use Rattle.sizes.specs.Sizes.{node-words, cell-words}
 use Rattle.sizes.specs.Basics.{pick}
 use Rattle.grammar.specs.Layout.{Bytes, Tree}
 use Rattle.grammar.specs.Laws.Layout.Read.{Got, got, no}
-use Rattle.member.specs.declared.Answer.{Answer}
+use Rattle.answer.specs.declared.Answer.{Answer}
 use Rattle.grammar.specs.Member.{Member, nodes, cells}
 use Rattle.grammar.specs.Laws.Member.Checked.{checked}
-use Rattle.member.specs.Answer.{wide, long, refusal, accepted, answerOf, nodesAfter, cellsAfter}
-use Rattle.member.specs.Demand3.{Demand3, Accepted}
-use Rattle.member.specs.Laws.Holds.{demand3}
+use Rattle.answer.specs.Answer.{wide, long, refusal, accepted, answerOf, nodesAfter, cellsAfter}
+use Rattle.answer.specs.Demand3.{Demand3, Accepted}
+use Rattle.answer.specs.Laws.Holds.{demand3}
 use Rattle.grammar.specs.Laws.Member.Demanded.{derivation-checked}
 use Rattle.total.specs.declared.LeafTotal.{LeafTotal}
 use Rattle.total.specs.declared.DimensionTotals.{DimensionTotals}

@@ -8,10 +8,10 @@ use Rattle.sizes.specs.Sizes.{node-words, cell-words}
 use Rattle.sizes.specs.Basics.{pick}
 use Rattle.grammar.specs.Layout.{Bytes}
 use Rattle.grammar.specs.Laws.Layout.Read.{no}
-use Rattle.member.specs.declared.Answer.{Answer}
+use Rattle.answer.specs.declared.Answer.{Answer}
 use Rattle.grammar.specs.Member.{cellRecords, MemberDerivation, AsDemanded}
 use Rattle.grammar.specs.Laws.Member.Checked.{checked}
-use Rattle.member.specs.Answer.{accepted}
+use Rattle.answer.specs.Answer.{accepted}
 use Rattle.grammar.specs.Laws.Member.Demanded.{derivation-checked}
 use Rattle.total.specs.declared.LeafTotal.{LeafTotal}
 use Rattle.total.specs.Answers.{memberFirst, refused, totalAnswer, Totalled}

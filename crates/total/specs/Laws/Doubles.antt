@@ -7,7 +7,7 @@ use Rattle.sizes.specs.Basics.{pick}
 use Rattle.grammar.specs.Layout.{Tree}
 use Rattle.grammar.specs.Laws.Layout.Read.{Got, got, no}
 use Rattle.grammar.specs.Member.{Member}
-use Rattle.member.specs.Answer.{wide, long}
+use Rattle.answer.specs.Answer.{wide, long}
 use Rattle.total.specs.declared.sums.Sums.{Sums}
 use Rattle.total.specs.declared.LeafTotal.{LeafTotal}
 use Rattle.total.specs.Total.{leafSums}

@@ -15,11 +15,12 @@ use Rattle.grammar.specs.RecordWords.{word, sizes}
 use Rattle.grammar.specs.Index.{product}
 use Rattle.grammar.specs.Records.{dimLeaves}
 use Rattle.grammar.specs.Member.{version, dimensionsSection, cellsSection, dimensions, dimensionsAt, dimensionEntries, cells, nodes, ns, places, cellRecords, MemberDerivation, AsDemanded}
-use Rattle.member.specs.Answer.{accepted, zeros}
+use Rattle.answer.specs.Answer.{accepted, zeros}
 use Rattle.total.specs.Total.{sums, leafSums}
 use Rattle.total.specs.Answers.{answered, refused, there, leafAnswer}
 use Rattle.total.specs.Laws.Words.{recordsSay, underBy}
-use Rattle.total.specs.Laws.Leaf.{versionOf, placesOf, gridOf, wordSums, thereOf, wordAnswer}
+use Rattle.grid.specs.Grid.{versionOf, placesOf, gridOf, thereOf}
+use Rattle.total.specs.Laws.Leaf.{wordSums, wordAnswer}
 use Rattle.total.specs.Laws.LeafSums.{member-cells, later-product, leaf-sums}
 use Rattle.total.specs.Laws.Dims.{sizes-are, sizes-from, size-at, version-is}
 

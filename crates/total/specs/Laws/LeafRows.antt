@@ -15,15 +15,16 @@ use Rattle.sizes.specs.Basics.{pick}
 use Rattle.layout.specs.Words.{word32}
 use Rattle.store.specs.Values.{bit}
 use Rattle.grammar.specs.RecordWords.{word}
-use Rattle.member.specs.declared.Answer.{Answer}
-use Rattle.total.specs.declared.leaf.Grid.{Grid}
+use Rattle.answer.specs.declared.Answer.{Answer}
+use Rattle.grid.specs.declared.Grid.{Grid}
 use Rattle.total.specs.declared.sums.Sums.{Sums}
 use Rattle.total.specs.Total.{CellSays, addCell, withCell, no-sums, sums}
 use Rattle.total.specs.Words.{leafWords, rows}
 use Rattle.total.specs.Answers.{answered}
 use Rattle.total.specs.Laws.Sums.{Within}
 use Rattle.total.specs.Laws.Words.{underBy, recordSays, recordsSay, records-within}
-use Rattle.total.specs.Laws.Leaf.{gridOf, wordSums}
+use Rattle.grid.specs.Grid.{gridOf}
+use Rattle.total.specs.Laws.Leaf.{wordSums}
 use Rattle.total.specs.Laws.Rows.{rows-same, row-word, but, row-set, last-row, rows-length}
 
 -- sums as a row of words

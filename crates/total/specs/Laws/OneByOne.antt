@@ -12,7 +12,7 @@ use Rattle.grammar.specs.Layout.{Tree}
 use Rattle.grammar.specs.Laws.Layout.Read.{Got, got, no}
 use Rattle.grammar.specs.Member.{Member, dimensions, nodes, cells}
 use Rattle.grammar.specs.Laws.Member.Checked.{checked}
-use Rattle.member.specs.Answer.{wide, long}
+use Rattle.answer.specs.Answer.{wide, long}
 use Rattle.total.specs.declared.DimensionTotals.{DimensionTotals}
 use Rattle.total.specs.Words.{leafWords, rows}
 use Rattle.total.specs.Answers.{memberFirst, leafAnswer, totalAnswer, refusedAll, leaves, dimensionAnswer, totalsAnswer, totalsAfter, AllTotalled}

@@ -15,9 +15,9 @@ use Rattle.grammar.specs.Table.{Cell}
 use Rattle.grammar.specs.Laws.Table.LeastBytes.{cell-bytes}
 use Rattle.grammar.specs.Member.{Member, version, cells, cellsStart, nodes, final}
 use Rattle.grammar.specs.Laws.Member.Checked.{checked}
-use Rattle.member.specs.Answer.{wide, long, refusal, answerOf, nodesAfter, cellsAfter}
-use Rattle.member.specs.Demand3.{Demand3}
-use Rattle.member.specs.Laws.Holds.{demand3}
+use Rattle.answer.specs.Answer.{wide, long, refusal, answerOf, nodesAfter, cellsAfter}
+use Rattle.answer.specs.Demand3.{Demand3}
+use Rattle.answer.specs.Laws.Holds.{demand3}
 use Rattle.grammar.specs.Laws.Member.Demanded as demanded
 use Rattle.grammar.specs.Laws.Member.RecordsSpelt.{cells-there}
 use Rattle.counts.specs.declared.Kind.{Kind}

@@ -6,13 +6,13 @@ use lib.ListN.{length, drop}
 use Rattle.sizes.specs.Sizes.{node-words, cell-words}
 use Rattle.grammar.specs.Layout.{Bytes, Tree}
 use Rattle.grammar.specs.Laws.Layout.Read.{Got, got, no}
-use Rattle.member.specs.declared.Answer.{Answer}
+use Rattle.answer.specs.declared.Answer.{Answer}
 use Rattle.grammar.specs.Member.{Member, nodes, cells, nodeRecords, cellRecords, MemberDerivation, AsDemanded}
 use Rattle.grammar.specs.Laws.Member.Checked.{checked}
-use Rattle.member.specs.Answer.{refusal, accepted}
+use Rattle.answer.specs.Answer.{refusal, accepted}
 use Rattle.member.specs.Laws.IntoLists.{LongEnough, intoLists, Stored, all-stored, not-stored}
 use Rattle.grammar.specs.Laws.Member.Demanded as demanded
-use Rattle.member.specs.Laws.Holds.{not-zero}
+use Rattle.answer.specs.Laws.Holds.{not-zero}
 use Rattle.member.specs.Laws.Whole.{as-checked}
 
 -- it was accepted with the answer a, and the lists begin with its records

@@ -42,8 +42,8 @@ use Rattle.layout.proofs.number.any.Reads as any-reads
 use Rattle.layout.proofs.number.field.Reads as field-reads
 use Rattle.layout.proofs.number.fixed.Reads as fixed-reads
 use Rattle.layout.proofs.number.peek.Reads as peek-reads
-use Rattle.layout.proofs.region.nothing.Reads as nothing-reads
-use Rattle.layout.proofs.region.string.Reads as string-reads
+use Rattle.regions.proofs.region.nothing.Reads as nothing-reads
+use Rattle.regions.proofs.region.string.Reads as string-reads
 use Rattle.layout.proofs.run.past.Reads as past-reads
 use Rattle.layout.proofs.slice.whole.Reads as whole-reads
 use Rattle.value.proofs.form_01.Reads as form-01-reads

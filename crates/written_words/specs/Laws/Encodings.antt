@@ -10,9 +10,9 @@ use borrow.Author.Tests.{ltb-false}
 use Rattle.sizes.specs.Basics.{pick}
 use Rattle.layout.specs.Words.{word32}
 use Rattle.layout.specs.Laws.Words.{word-same}
-use Rattle.codepages.specs.Pages.{first-page, page-count}
-use Rattle.codepages.specs.Convert.{Step, valid-up-to, output, unknown-page, no-character, output-short, Outcome, refused, written, outcome, converted}
-use Rattle.codepages.specs.Laws.Steps.{up-to-most}
+use Rattle.convert.specs.Pages.{first-page, page-count}
+use Rattle.convert.specs.Convert.{Step, valid-up-to, output, unknown-page, no-character, output-short, Outcome, refused, written, outcome, converted}
+use Rattle.convert.specs.Laws.Steps.{up-to-most}
 
 -- the number that an outcome gives of a text of that length, for an output of `room` bytes
 Within : ℕ → ℕ → Outcome → Type 0

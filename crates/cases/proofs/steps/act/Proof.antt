@@ -2,7 +2,7 @@
 use mathlib.Core.Path.{refl, sym, ap, _∙_}
 use borrow.Author.Needs.{needs}
 use native.Mathlib.Omega.{arith}
-use Rattle.cases.specs.Steps.{said}
+use Rattle.case_codes.specs.Codes.{said}
 use Rattle.cases.specs.Laws.Agree.{skipping, finishing, refusing, giving, place-in}
 use Rattle.cases.specs.Laws.Quick.{steps-at}
 use Rattle.cases.proofs.steps.act.Statement.{statement}

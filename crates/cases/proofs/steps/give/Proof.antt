@@ -3,7 +3,7 @@ use mathlib.Core.Path.{sym, ap, _∙_}
 use borrow.Author.Needs.{needs}
 use borrow.Author.Tests.{eqb-true, ne-eqb}
 use native.Mathlib.Omega.{arith}
-use Rattle.cases.specs.Steps.{said}
+use Rattle.case_codes.specs.Codes.{said}
 use Rattle.cases.specs.Laws.Agree.{giving, place-in}
 use Rattle.cases.specs.Laws.Quick.{given, not-given}
 use Rattle.cases.proofs.steps.give.Statement.{statement}

@@ -6,7 +6,7 @@ use Rattle.layout.specs.Steps.Slices.{bytes-of}
 use Rattle.layout.specs.Steps.Numbered.{in-limit, ends-at, no-number, no-items, the-items}
 use Rattle.grammar.specs.Rules.{cellRule, cellsRule}
 use Rattle.table.specs.Laws.Within.{room-after}
-use Rattle.cells.specs.Laws.Rows.{after}
+use Rattle.axes.specs.Laws.Rows.{after}
 use Rattle.cells.specs.Laws.Cells.{cell-records, cell-kind, cellOf, AllCells, the-cells}
 use Rattle.cells.proofs.cell.section.Statement.{statement}
 use Rattle.cells.proofs.cell.section.Tie as tie

@@ -6,9 +6,9 @@ use borrow.Author.Needs.{needs}
 use borrow.Author.Tests.{leb-true}
 use borrow.Fn.PlainCycle.{Measures, is, falls, and}
 use lib.ListN.{length}
-use Rattle.member.specs.Laws.IntoLists.{small-lists, medium-lists, large-lists, larger-lists, largest-lists, has-room}
-use Rattle.member.specs.Laws.Whole.{not-last}
-use Rattle.member.proofs.has_room.Reads as has-room-reads
+use Rattle.lists.specs.Lists.{small-lists, medium-lists, large-lists, larger-lists, largest-lists, has-room}
+use Rattle.lists.specs.Laws.{not-last}
+use Rattle.lists.proofs.has_room.Reads as has-room-reads
 use Rattle.total.proofs.steps.from_step.Reads as step
 use Rattle.total.proofs.steps.from_step.Kinds as step-kinds
 use Rattle.total.proofs.steps.+from_step.Lts-from_step as step-lts

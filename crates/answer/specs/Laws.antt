@@ -1,0 +1,2 @@
+-- Demand 3 holds of what is answered by a reading.
+pub mod Holds

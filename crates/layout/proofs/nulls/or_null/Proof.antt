@@ -1,8 +1,0 @@
-use Rattle.layout.proofs.nulls.or_null.Statement.{statement}
-use Rattle.layout.proofs.nulls.or_null.Tie as tie
-
-pub or-null-spec : {M : Type 1} → statement M
-or-null-spec =
-    tie.close
-    (tie.spec
-    (λ c. rw (c .if1 .taken)) (λ c. rw (c .if1 .left)))

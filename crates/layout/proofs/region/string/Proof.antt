@@ -1,9 +1,0 @@
-use Rattle.layout.specs.Steps.Counted.{string-of}
-use Rattle.layout.proofs.region.string.Statement.{statement}
-use Rattle.layout.proofs.region.string.Tie as tie
-
-pub string-spec : {M : Type 1} → statement M
-string-spec =
-    tie.close
-    (tie.spec
-    (λ _ _. tt) (λ _ _. tt) (λ _ _. tt) (λ c. string-of (rw (c .before .width .ensures) at (c .past .ensures)) (c .before .before .part .ensures)))

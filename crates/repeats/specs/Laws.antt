@@ -1,0 +1,3 @@
+-- The laws by which the first repeat is found.
+pub mod Repeats
+pub mod Places
