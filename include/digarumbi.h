@@ -633,7 +633,7 @@ size_t digarumbi_from_utf8(uint32_t page, const uint8_t *in, size_t in_length, u
  *
  * The missing double is minus the largest finite one. */
 
-/* Words of a state. They are opaque: the caller keeps them and hands them back. Words that no start and no calls leave are refused, 21. */
+/* Words of a state. They are opaque: the caller keeps them and hands them back. Words whose numbers do not fit together are refused, 21. */
 #define DIGARUMBI_CASES_STATE 268
 
 /* Kinds of elements. */

@@ -9,7 +9,7 @@
 -- And document 01: "A refusal is given exactly in its case."
 --
 -- The grammar is `Member`, and a derivation `MemberDerivation`, in grammar's Member.antt; which refusal is given where stands in its Refused.antt. A call of
--- `read_member` ensures `Demand3`, below.
+-- `read_member` ensures `Demand3`, below; the statements after it are proved in Laws/Theorems.antt.
 use mathlib.Core.Path.{_≡_}
 use mathlib.Core.Logic.{_↔_, _⊎_}
 use mathlib.Core.List.{List, _++_}
@@ -17,16 +17,12 @@ use Prim.Native.Nat.{ℕ, _*_, _-_, _≤_}
 use lib.ListN.{length, drop}
 use Rattle.sizes.specs.Sizes.{member-bytes, most-dimensions, node-words, cell-words, dimension-area}
 use Rattle.grammar.specs.Layout.{Tree, All}
-use Rattle.grammar.specs.Strings.{strings, NoZero}
+use Rattle.grammar.specs.Strings.{Free}
 use Rattle.grammar.specs.Value.{Value, CellValue}
 use Rattle.answer.specs.declared.Answer.{Answer}
-use Rattle.grammar.specs.Member.{Member, version, dimensions, layers, rows, columns, order, cells, nodes, nodeRecords, dimensionEntries, cellRecords, MemberDerivation, AsDemanded, LargeEnough}
+use Rattle.grammar.specs.Member.{Member, version, dimensions, layers, rows, columns, order, cells, nodes, nodeRecords, dimensionEntries, cellRecords, nodeNames, dimensionNames, cellValues, MemberDerivation, AsDemanded, LargeEnough}
 use Rattle.grammar.specs.Refused.{RefusedWith}
 use Rattle.answer.specs.Answer.{zeros}
-use Rattle.grammar.specs.Laws.Member.Demanded as demanded
-use Rattle.grammar.specs.Laws.Member.RecordsSpelt.{nodeNames, dimensionNames, cellValues}
-use Rattle.grammar.specs.Laws.Member.ValidValues.{nodes-valid, dimensions-valid, cells-valid}
-use Rattle.grammar.specs.Laws.Member.NoZeroInside.{Free, member-free, values-free, cell-values-free}
 
 -- a derivation that is as demanded, for which areas of these lengths are large enough
 pub record Accepted (bs : List ℕ) (node-length cell-length : ℕ) : Type 0 where
@@ -70,19 +66,19 @@ pub record Demand3 (bs nodes₀ cells₀ : List ℕ) (r : Answer) (nodes₁ cell
   pub no-counts : (r .refusal ≡ 0 → ⊥) → (r .refusal ≡ 12 → ⊥) → (r .refusal ≡ 13 → ⊥) → (r .nodes ≡ 0) × (r .cells ≡ 0)
   -- The place is in the bytes, or right after them, and 0 where they are too many.
   pub place : (r .place ≤ length bs) × (r .place ≤ member-bytes)
+  -- An accepted member has the place 0.
+  pub no-place : r .refusal ≡ 0 → r .place ≡ 0
 
 -- No run of bytes has two derivations, accepted or not.
-pub one-derivation : (bs : List ℕ) (m m′ : MemberDerivation bs) → (m .tree ≡ m′ .tree) × (m .ends ≡ m′ .ends)
-one-derivation = demanded.one-derivation
+abbrev pub OneDerivation : Type 0
+OneDerivation = (bs : List ℕ) (m m′ : MemberDerivation bs) → (m .tree ≡ m′ .tree) × (m .ends ≡ m′ .ends)
 
 -- No string of a derivation holds a zero byte (document 02, T-06) ..
-pub no-zero-inside : {bs : List ℕ} (m : MemberDerivation bs) → All NoZero (strings Member (m .tree))
-no-zero-inside m = member-free (m .tree) (m .valid)
+abbrev pub NoZeroInside : Type 0
+NoZeroInside = (bs : List ℕ) (m : MemberDerivation bs) → Free Member (m .tree)
 
--- .. and so none of the Values that the records of an accepted member point to (`Laws.RecordsSpelt`): names of nodes and dimensions, cells.
-pub values-no-zero-inside : {bs : List ℕ} (m : MemberDerivation bs)
+-- .. and so none of the Values that the records of an accepted member point to: names of nodes and dimensions, cells.
+abbrev pub ValuesNoZeroInside : Type 0
+ValuesNoZeroInside = (bs : List ℕ) (m : MemberDerivation bs)
     → let v = version (m .tree) in
     All (Free (Value v)) (nodeNames (m .tree)) × All (Free (Value v)) (dimensionNames (m .tree)) × All (Free (CellValue v)) (cellValues (m .tree))
-values-no-zero-inside m =
-    let v = version (m .tree) in
-    (values-free v (nodes-valid (m .tree) (m .valid)), values-free v (dimensions-valid (m .tree) (m .valid)), cell-values-free v (cells-valid (m .tree) (m .valid)))

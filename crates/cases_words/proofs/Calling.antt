@@ -1,6 +1,6 @@
 -- Calls with areas that are long enough, and calls with one that is too short.
 use mathlib.Core.Path.{_≡_, refl, sym, ap, _∙_}
-use mathlib.Core.Bool.{Bool, true, false, not}
+use mathlib.Core.Bool.{Bool, true, false, not, true≢false}
 use mathlib.Core.List.{List, [], _∷_, _++_}
 use Prim.Native.Nat.{ℕ, _≤_, _<_}
 use native.Mathlib.Omega.{arith}
@@ -64,11 +64,12 @@ module _ (state input output answer : List ℕ) where
         answers = rw (t, ← (f .is)) (at-front call-answer (callWords c) answer refl (answer-room (length state) (length answer) call-answer t) (rw (a, b) at x));
         leaves = rw (t, ← (f .is)) k;
         writes = rw t (f .output);
+        called = λ _. rw (f .is) at f;
       }
 
   pub not-fed : roomy (length state) (length answer) call-answer ≡ false → Fed state input output answer 0 state output answer
   unfolding pick
-  not-fed t = record { gives = rw t; answers = rw t; leaves = rw t; writes = rw t }
+  not-fed t = record { gives = rw t; answers = rw t; leaves = rw t; writes = rw t; called = λ u. absurd (true≢false (sym u ∙ t)) }
 
 module _ (state answer : List ℕ) where
   pub ended : (a : Answer) {answer′ : List ℕ} {r : Step} → roomy (length state) (length answer) short-answer ≡ true → a ≡ finish-of (stateOf state)

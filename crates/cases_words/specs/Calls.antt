@@ -8,7 +8,7 @@ use lib.Dec.{eqb, leb}
 use Rattle.sizes.specs.Basics.{pick}
 use Rattle.cases.specs.declared.Answer.{Answer}
 use Rattle.cases.specs.declared.Call.{Call}
-use Rattle.cases.specs.Answers.{start-of, call-of, output-of, finish-of}
+use Rattle.cases.specs.Answers.{start-of, call-of, output-of, finish-of, Called}
 use Rattle.cases_words.specs.StateWords.{state-words, stateWords, stateOf}
 
 -- the words of an answer
@@ -46,6 +46,8 @@ pub record Fed (state input output answer : List ℕ) (n : ℕ) (state′ output
   pub leaves : state′ ≡ pick (roomy (length state) (length answer) call-answer)
       (front (not (eqb (call-of (stateOf state) input (length output) .answer .refusal) 21)) state-words (stateWords (call-of (stateOf state) input (length output) .state)) state) state
   pub writes : output′ ≡ pick (roomy (length state) (length answer) call-answer) (output-of (stateOf state) input output) output
+  -- it is a call of `feed`: what it leaves stands for the machine's state, and is no state that is 21
+  pub called : roomy (length state) (length answer) call-answer ≡ true → Called (stateOf state) input output output′ (call-of (stateOf state) input (length output))
 
 -- of `end_words`
 pub record Ended (state answer : List ℕ) (n : ℕ) (answer′ : List ℕ) : Type 0 where

@@ -1,2 +1,3 @@
 -- The laws of states as words.
 pub mod Arrays
+pub mod Back

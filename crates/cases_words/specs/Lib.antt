@@ -1,3 +1,4 @@
 pub mod StateWords
 pub mod Calls
 pub mod Laws
+pub mod Theorem

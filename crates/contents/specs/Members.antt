@@ -20,8 +20,8 @@ use Rattle.grammar.specs.Value.{Value, CellValue, RawValueOf, ValueIn, cell-zer
 use Rattle.grammar.specs.Sections.{versions}
 use Rattle.grammar.specs.RecordWords.{word}
 use Rattle.grammar.specs.Laws.Table.RecordsPoint.{Points, record-of}
-use Rattle.grammar.specs.Member.{Member, version, nodeRecords, dimensionEntries, cellRecords, MemberDerivation}
-use Rattle.grammar.specs.Laws.Member.RecordsSpelt.{nodeNames, dimensionNames, cellValues, nodes-point, dimensions-point, values-point, part-of}
+use Rattle.grammar.specs.Member.{Member, version, nodeRecords, dimensionEntries, cellRecords, MemberDerivation, nodeNames, dimensionNames, cellValues}
+use Rattle.grammar.specs.Laws.Member.RecordsSpelt.{nodes-point, dimensions-point, values-point, part-of}
 use Rattle.grammar.specs.Laws.Member.ValidValues.{nodes-valid, dimensions-valid, cells-valid}
 use Rattle.contents.specs.declared.Contents.{Contents}
 use Rattle.contents.specs.Contents.{contents}

@@ -1,2 +1,3 @@
 -- The laws of counts.
 pub mod Value
+pub mod Whole

@@ -2,16 +2,17 @@
 -- reader in it. Then what a derivation says: its dimensions, category nodes and cells, and what demand 3 asks of it.
 use mathlib.Core.Path.{_≡_}
 use mathlib.Core.Bool.{Bool, true, false}
-use mathlib.Core.List.{List, [], _∷_, _++_, map}
+use mathlib.Core.List.{List, [], _∷_, _++_, map, flatMap}
 use Prim.Native.Nat.{ℕ, _+_, _*_, _≤_}
 use lib.ListN.{length}
 use Rattle.sizes.specs.Sizes.{member-bytes, most-nodes, most-places, node-words, cell-words}
 use Rattle.grammar.specs.Layout.{little, a-version, Layout, number, _▸_, Tree, spell, Valid, All, size}
+use Rattle.grammar.specs.Value.{Value, CellValue}
 use Rattle.grammar.specs.Sections.{HeaderStart, versions, Front}
 use Rattle.grammar.specs.Once.{OnceEach}
 use Rattle.grammar.specs.Index.{product}
 use Rattle.grammar.specs.Table.{Dimension, Dimensions, Axes, Cell, Cells}
-use Rattle.grammar.specs.Records.{dimNodes, dimLeaves, LeavesOnce, dimsWords, dimsEntries, entryIndex, cellIndex, cellWords, rowsWords, sum, dimsOf, axisLayers, axisRows, axisColumns, axisEntries, cellsOf}
+use Rattle.grammar.specs.Records.{dimNodes, dimLeaves, LeavesOnce, dimsWords, dimsEntries, entryIndex, cellIndex, cellWords, rowsWords, sum, dimsOf, axisLayers, axisRows, axisColumns, axisEntries, cellsOf, dimName, cellValue, categoryNames}
 
 -- ---- the grammar
 
@@ -96,6 +97,16 @@ dimensionEntries t = dimsEntries (version t) 0 (dimensionsAt t) (dimensions t)
 
 abbrev pub cellRecords : Tree Member → List ℕ
 cellRecords t = rowsWords (size (Cell (version t))) (cellWords (version t)) (cellsStart t) (cells t)
+
+-- the Values that they point to, in file order: the names of the category nodes and of the dimensions, and those of the cells
+abbrev pub nodeNames : (t : Tree Member) → List (Tree (Value (version t)))
+nodeNames t = flatMap (categoryNames (version t)) (dimensions t)
+
+abbrev pub dimensionNames : (t : Tree Member) → List (Tree (Value (version t)))
+dimensionNames t = map (dimName (version t)) (dimensions t)
+
+abbrev pub cellValues : (t : Tree Member) → List (Tree (CellValue (version t)))
+cellValues t = map (cellValue (version t)) (cells t)
 
 -- ---- derivations
 

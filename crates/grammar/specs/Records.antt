@@ -1,5 +1,5 @@
 -- What a derivation of a category says: its node records, in file order (document 01, "What the caller gets"), and its leaf indexes.
-use mathlib.Core.List.{List, [], _∷_, _++_}
+use mathlib.Core.List.{List, [], _∷_, _++_, flatMap}
 use Prim.Native.Nat.{ℕ, zero, suc, _+_}
 use lib.ListN.{length}
 use Rattle.sizes.specs.Sizes.{category-depth, no-parent}
@@ -180,3 +180,14 @@ module _ (version : ℕ) where
   -- those of a cell at the place `at`: its index takes 8 bytes
   abbrev pub cellWords : ℕ → Tree (Cell version) → List ℕ
   cellWords at t = cellRecord (cellIndex t) (at + 8) (size (CellValue version) (cellValue t))
+
+  -- ---- the Values that records point to, in file order
+
+  -- the names of a category and of those below it
+  unfoldable pub treeNames : (d : ℕ) → Tree (CategoryIn version d) → List (Tree (Value version))
+  treeNames zero t = []
+  treeNames (suc d) t = headName (front d t) ∷ flatMap (treeNames d) (children d t)
+
+  -- the names of a dimension's categories
+  unfoldable pub categoryNames : Tree (Dimension version) → List (Tree (Value version))
+  categoryNames t = flatMap (treeNames category-depth) (dimCategories t)

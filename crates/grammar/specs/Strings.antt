@@ -25,3 +25,7 @@ strings nothing t = absurd t
 -- none of the bytes is 0 (003: "a null byte (a valid string never will)")
 abbrev pub NoZero : List ℕ → Type 0
 NoZero xs = All (λ b. ¬ (b ≡ 0)) xs
+
+-- no string of a tree holds a zero byte
+abbrev pub Free : (g : Layout) → Tree g → Type 0
+Free g t = All NoZero (strings g t)

@@ -1,6 +1,6 @@
 -- A call that read a member, and one whose area for the answer was too short.
-use mathlib.Core.Path.{_≡_}
-use mathlib.Core.Bool.{true, false}
+use mathlib.Core.Path.{_≡_, sym, _∙_}
+use mathlib.Core.Bool.{true, false, true≢false}
 use mathlib.Core.List.{List}
 use Prim.Native.Nat.{ℕ}
 use native.Mathlib.Omega.{arith}
@@ -31,6 +31,7 @@ module _ (member answer nodes cells : List ℕ) where
         words = rw (← (d .answer)) (with-room answer-words (answerWords (a .place) a) answer (rw p at l) t (rw p at x));
         node-area = rw t (d .node-area);
         cell-area = rw t (d .cell-area);
+        demands = λ _. rw (d .answer) at m;
       }
 
   pub without-answer : leb answer-words (length answer) ≡ false → MemberRead member answer nodes cells 0 answer nodes cells
@@ -40,4 +41,5 @@ module _ (member answer nodes cells : List ℕ) where
         words = let a = answerOf (checked member) (length nodes) (length cells) in without-room answer-words (answerWords (a .place) a) answer t;
         node-area = rw t;
         cell-area = rw t;
+        demands = λ u. absurd (true≢false (sym u ∙ t));
       }

@@ -10,12 +10,14 @@ use Rattle.sizes.specs.Sizes.{total-answer-words, totals-answer-words}
 use Rattle.store.specs.Puts.{AtFront}
 use Rattle.grammar.specs.Laws.Member.Checked.{checked}
 use Rattle.total.specs.Words.{answerWords, dimensionWords}
-use Rattle.total.specs.Answers.{totalAnswer, Totalled, totalsAnswer, AllTotalled}
+use Rattle.total.specs.Answers.{totalAnswer, Totalled, ByDerivation, totalsAnswer, AllTotalled, AllByDerivation}
 
 -- a leaf, by a call that gave n
 pub record TotalRead (bs answer nodes cells : List ℕ) (dimension leaf n : ℕ) (answer′ nodes′ cells′ : List ℕ) : Type 0 where
   pub words : AtFront total-answer-words (answerWords (totalAnswer (checked bs) (length nodes) (length cells) dimension leaf)) answer n answer′
   pub called : leb total-answer-words (length answer) ≡ true → Totalled bs nodes cells dimension leaf (totalAnswer (checked bs) (length nodes) (length cells) dimension leaf) nodes′ cells′
+  -- and by demand 3's derivation, as of a call of `total`
+  pub demands : leb total-answer-words (length answer) ≡ true → ByDerivation bs nodes cells dimension leaf (totalAnswer (checked bs) (length nodes) (length cells) dimension leaf) nodes′ cells′
   pub not-called : leb total-answer-words (length answer) ≡ false → (nodes′ ≡ nodes) × (cells′ ≡ cells)
 
 -- all leaves of a dimension
@@ -23,4 +25,6 @@ pub record TotalsRead (bs answer totals nodes cells : List ℕ) (dimension n : �
   pub words : AtFront totals-answer-words (dimensionWords (totalsAnswer (checked bs) dimension (length totals) (length nodes) (length cells))) answer n answer′
   pub called : leb totals-answer-words (length answer) ≡ true
       → AllTotalled bs totals nodes cells dimension (totalsAnswer (checked bs) dimension (length totals) (length nodes) (length cells)) totals′ nodes′ cells′
+  pub demands : leb totals-answer-words (length answer) ≡ true
+      → AllByDerivation bs totals nodes cells dimension (totalsAnswer (checked bs) dimension (length totals) (length nodes) (length cells)) totals′ nodes′ cells′
   pub not-called : leb totals-answer-words (length answer) ≡ false → (totals′ ≡ totals) × (nodes′ ≡ nodes) × (cells′ ≡ cells)

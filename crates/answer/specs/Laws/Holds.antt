@@ -66,6 +66,7 @@ module _ (bs : List ℕ) (b : Bytes bs) (N C : List ℕ) where
         counts = λ h m. absurd (neither k h);
         no-counts = λ x y z. (refl, refl);
         place = (place-inside f, place-short f);
+        no-place = λ z. absurd (zero z);
       }
     where
       neither : among n memberNumbers ≡ true → (n ≡ 12) ⊎ (n ≡ 13) → ⊥
@@ -113,6 +114,7 @@ module _ (bs : List ℕ) (b : Bytes bs) (N C : List ℕ) where
           counts = λ h m′. (same-nodes m′, same-cells m′);
           no-counts = λ x y z. absurd (neither which y z);
           place = (omega arith, omega arith);
+          no-place = λ z. refl;
         }
       where
         real : (n ≡ 12) ⊎ (n ≡ 13) → n ≡ 0 → ⊥
@@ -151,6 +153,7 @@ module _ (bs : List ℕ) (b : Bytes bs) (N C : List ℕ) where
       counts = λ x. absurd (real x);
       no-counts = λ x. absurd (x refl);
       place = (omega arith, omega arith);
+      no-place = λ z. refl;
     }
       where
         none : (k q : ℕ) → RefusedWith bs (length N) (length C) k q → ⊥

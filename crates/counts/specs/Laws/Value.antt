@@ -27,7 +27,7 @@ whole (fin t m k) s a n d h e v =
 -- ---- the fields of the bits
 
 -- a double with the exponent x + 1, which is not the largest
-normal : (s : Bool) (x t : ℕ) → x < 2046 → ofFields binary64 s (suc x) t ≡ odd (prec binary64) s (2 ^ 52 + t) x (low binary64)
+pub normal : (s : Bool) (x t : ℕ) → x < 2046 → ofFields binary64 s (suc x) t ≡ odd (prec binary64) s (2 ^ 52 + t) x (low binary64)
 unfolding ofFields
 normal s x t h = rw (ne-eqb (suc x) 2047 (λ e. omega arith))
 
@@ -40,11 +40,11 @@ both true b e = (refl, e)
 both false b e = absurd (let z : _≡_ {A = ℕ} 0 1 = cc in omega arith)
 
 module _ (bits : ℕ) where
-  fields : ofBits binary64 bits ≡ ofFields binary64 (leb (2 ^ 63) bits) (exponent bits) (bits % 2 ^ 52)
+  pub fields : ofBits binary64 bits ≡ ofFields binary64 (leb (2 ^ 63) bits) (exponent bits) (bits % 2 ^ 52)
   unfolding ofBits
   fields = refl
 
-  zero-value : bits % 2 ^ 63 ≡ 0 → HasValue (ofBits binary64 bits) (leb (2 ^ 63) bits) 0 1
+  pub zero-value : bits % 2 ^ 63 ≡ 0 → HasValue (ofBits binary64 bits) (leb (2 ^ 63) bits) 0 1
   zero-value e =
       let none : exponent bits ≡ 0 = rw e in
       let empty : bits % 2 ^ 52 ≡ 0 = omega (arith, e) in

@@ -21,7 +21,7 @@ use Rattle.grammar.specs.Table.{DimProperties}
 use Rattle.grammar.specs.Records.{sum, nodes as categoryNodes, leafIndexes, dimNodes, dimLeaves, nodeRecord, dimRecord, wordsAll, treeWords, dimWords, dimsWords, dimEntry, dimsEntries}
 use Rattle.grammar.specs.Rules.{categoryRule, leavesAll, treeLeaves, leavesOf, dimensionRule, dimensionsRule, entryRule, axesRule, cellRule, cellsRule}
 use Rattle.grammar.specs.Member.{Member, dimensions, nodes, cells, nodeRecords, dimensionEntries, MemberDerivation, AsDemanded}
-use Rattle.grammar.specs.Refused.{bodyRule, memberRule}
+use Rattle.grammar.specs.Refused.{bodyRule, memberRule, RefusedWith, few-node-words}
 use Rattle.grammar.specs.Laws.Member.Checked.{ended, checked}
 use Rattle.grammar.specs.Laws.Member.Demanded.{accepted}
 
@@ -148,7 +148,7 @@ toLine (got t r p) = accepted-with (length (dimensions t)) (nodes t) (length (ce
 toLine (no n p) = refused-at n p
 
 -- with all that it takes to compute it
-unfoldable computed : List ℕ → Got (Tree Member)
+unfoldable pub computed : List ℕ → Got (Tree Member)
 unfolding checked ended check read passes suits among refusal pick lead spell digits le spellAll spellFill
     HeaderStart HeaderRest Front HeaderFlags HeaderNumbers Titles Footnote Footnotes AreaFont AreaColors AreaMargins Area EightAreas
     Areas BordersContent Borders PrintSettingsContent PrintSettings BreaksContent TableFlags TableSettingsContent TableSettings
@@ -188,6 +188,10 @@ line-demanded bs b d n c e = go (checked bs) refl e
 pub member-demanded : HasTable member 2 5 2
 unfolding member line computed below256
 member-demanded = line-demanded member (are-bytes member refl) 2 5 2 refl
+
+-- Example: 12 comes before 13 (document 01, "then 11, 12, 13"). It has 5 nodes and 2 cells, so 34 words are too few for its node records and 5 for those of its cells
+pub both-too-short : RefusedWith member 34 5 12 0
+both-too-short = few-node-words (member-demanded .derivation) (member-demanded .demanded) (omega (arith, member-demanded .counts .1))
 
 -- the node records, where nothing is refused
 unfoldable pub nodesRead : Got (Tree Member) → List ℕ

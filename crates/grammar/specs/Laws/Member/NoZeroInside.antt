@@ -2,18 +2,14 @@
 use mathlib.Core.List.{List}
 use Prim.Native.Nat.{ℕ}
 use Rattle.grammar.specs.Layout.{Layout, Tree, All, all-none, all-more, Valid}
-use Rattle.grammar.specs.Strings.{strings, NoZero}
+use Rattle.grammar.specs.Strings.{Free}
 use Rattle.grammar.specs.Laws.Layout.{strings-free}
 use Rattle.grammar.specs.Value.{Value, CellValue}
 use Rattle.grammar.specs.Member.{Member}
 use Rattle.grammar.specs.Laws.Member.MemberUses as member-uses
 
-pub member-free : (t : Tree Member) → Valid Member t → All NoZero (strings Member t)
+pub member-free : (t : Tree Member) → Valid Member t → Free Member t
 member-free = strings-free member-uses.member
-
--- of a tree of g
-abbrev pub Free : (g : Layout) → Tree g → Type 0
-Free g v = All NoZero (strings g v)
 
 all-free : {g : Layout} → member-uses.Fine g → {vs : List (Tree g)} → All (Valid g) vs → All (Free g) vs
 all-free u all-none = all-none

@@ -20,24 +20,13 @@ use Rattle.grammar.specs.Sections.{HeaderStart, Front}
 use Rattle.grammar.specs.RecordWords.{word}
 use Rattle.grammar.specs.Table.{Dimension, Dimensions, Axes, Cell, Cells}
 use Rattle.grammar.specs.Records.{cellWords, dimName, cellValue}
-use Rattle.grammar.specs.Laws.Table.RecordsPoint.{categoryNames, all-names, Points, Pointing, record-of, after-digits, dims-point, entries-point, cells-point}
-use Rattle.grammar.specs.Member.{Member, final, version, body-at, dimensions, cells, nodes, dimensionsAt, cellsStart, nodeRecords, dimensionEntries, cellRecords, MemberDerivation, frontSection, axesSection, cellsSection}
+use Rattle.grammar.specs.Laws.Table.RecordsPoint.{all-names, Points, Pointing, record-of, after-digits, dims-point, entries-point, cells-point}
+use Rattle.grammar.specs.Member.{Member, final, version, body-at, dimensions, cells, nodes, dimensionsAt, cellsStart, nodeRecords, dimensionEntries, cellRecords, nodeNames, dimensionNames, cellValues, MemberDerivation, frontSection, axesSection, cellsSection}
 use Rattle.grammar.specs.Part.{partOf}
 use Rattle.grammar.specs.Laws.Table.Words.{width-entries, width-dims}
 use Rattle.grammar.specs.Laws.Table.Words.{width-rows}
 
--- ---- the Values of a derivation, in file order
-
--- the names of the category nodes: there are as many as nodes (`names-of-nodes`)
-abbrev pub nodeNames : (t : Tree Member) → List (Tree (Value (version t)))
-nodeNames t = flatMap (categoryNames (version t)) (dimensions t)
-
-abbrev pub dimensionNames : (t : Tree Member) → List (Tree (Value (version t)))
-dimensionNames t = map (dimName (version t)) (dimensions t)
-
-abbrev pub cellValues : (t : Tree Member) → List (Tree (CellValue (version t)))
-cellValues t = map (cellValue (version t)) (cells t)
-
+-- there are as many names as nodes
 pub names-of-nodes : (t : Tree Member) → length (nodeNames t) ≡ nodes t
 names-of-nodes t = all-names (version t) (dimensions t)
 

@@ -6,10 +6,8 @@ use Rattle.grammar.specs.Layout.{Tree, All, all-none, all-more, Valid}
 use Rattle.grammar.specs.Laws.Layout.Strings.{all-flat}
 use Rattle.grammar.specs.Value.{Value, CellValue}
 use Rattle.grammar.specs.Table.{CategoryIn, Dimension}
-use Rattle.grammar.specs.Records.{dimName, cellValue}
-use Rattle.grammar.specs.Laws.Table.RecordsPoint.{treeNames, categoryNames}
-use Rattle.grammar.specs.Member.{Member, version}
-use Rattle.grammar.specs.Laws.Member.RecordsSpelt.{nodeNames, dimensionNames, cellValues}
+use Rattle.grammar.specs.Records.{dimName, cellValue, treeNames, categoryNames}
+use Rattle.grammar.specs.Member.{Member, version, nodeNames, dimensionNames, cellValues}
 
 all-map : {A B : Type 0} {P : A → Type 0} {Q : B → Type 0} (f : A → B) → ((x : A) → P x → Q (f x)) → {xs : List A} → All P xs → All Q (map f xs)
 unfolding map

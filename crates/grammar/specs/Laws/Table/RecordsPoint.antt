@@ -13,7 +13,7 @@ use Rattle.grammar.specs.Laws.Layout.{digits-length}
 use Rattle.grammar.specs.Laws.Layout.Spelt.{after}
 use Rattle.grammar.specs.Value.{Value, CellValue}
 use Rattle.grammar.specs.Table.{kinds, KindOf, CategoryIn, DimProperties, Dimension, Cell, Category}
-use Rattle.grammar.specs.Records.{Head, front, children, sum, nodes, wordsAll, nodeWords, treeWords, dimNodes, dimWords, dimEntry, dimsWords, dimsEntries, cellWords, rowsWords, headName, dimOwn, dimName, dimCategories, cellValue}
+use Rattle.grammar.specs.Records.{Head, front, children, sum, nodes, wordsAll, nodeWords, treeWords, dimNodes, dimWords, dimEntry, dimsWords, dimsEntries, cellWords, rowsWords, headName, dimOwn, dimName, dimCategories, cellValue, treeNames, categoryNames}
 use Rattle.grammar.specs.Laws.Table.Lengths.{spell-category, spell-dimension}
 
 -- a word of the first record, and of those after it
@@ -73,31 +73,20 @@ module _ {g : Layout} {s : List ℕ} {n j k : ℕ} where
       (record-of hj hk ps i v e)
 
 module _ (version : ℕ) where
-  -- ---- the Values, in file order
-
-  -- the names of a category and of those below it
-  unfoldable pub treeNames : (d : ℕ) → Tree (CategoryIn version d) → List (Tree (Value version))
-  treeNames zero t = []
-  treeNames (suc d) t = headName version (front version d t) ∷ flatMap (treeNames d) (children version d t)
-
-  -- the names of a dimension's categories
-  unfoldable pub categoryNames : Tree (Dimension version) → List (Tree (Value version))
-  categoryNames t = flatMap (treeNames category-depth) (dimCategories version t)
-
   -- there are as many names as nodes
   length-flat : {A : Type 0} (f : A → List (Tree (Value version))) (count : A → ℕ) → ((t : A) → length (f t) ≡ count t) → (ts : List A) → length (flatMap f ts) ≡ sum count ts
   unfolding flatMap sum
   length-flat f count h [] = refl
   length-flat f count h (t ∷ ts) = rw (length-append, h t, length-flat f count h ts)
 
-  names-nodes : (d : ℕ) (t : Tree (CategoryIn version d)) → length (treeNames d t) ≡ nodes version d t
+  names-nodes : (d : ℕ) (t : Tree (CategoryIn version d)) → length (treeNames version d t) ≡ nodes version d t
   unfolding treeNames nodes
   names-nodes zero t = refl
-  names-nodes (suc d) t = rw (length-flat (treeNames d) (nodes version d) (names-nodes d) (children version d t)) (omega arith)
+  names-nodes (suc d) t = rw (length-flat (treeNames version d) (nodes version d) (names-nodes d) (children version d t)) (omega arith)
 
-  pub all-names : (ts : List (Tree (Dimension version))) → length (flatMap categoryNames ts) ≡ sum (dimNodes version) ts
+  pub all-names : (ts : List (Tree (Dimension version))) → length (flatMap (categoryNames version) ts) ≡ sum (dimNodes version) ts
   unfolding categoryNames dimNodes
-  all-names ts = length-flat categoryNames (dimNodes version) (λ t. length-flat (treeNames category-depth) (nodes version category-depth) (names-nodes category-depth) (dimCategories version t)) ts
+  all-names ts = length-flat (categoryNames version) (dimNodes version) (λ t. length-flat (treeNames version category-depth) (nodes version category-depth) (names-nodes category-depth) (dimCategories version t)) ts
 
   -- a Value that stands first
   first-points : (s : List ℕ) (at : ℕ) (b : Layout) (t : Tree ((Value version) ▸ b)) (r : List ℕ) → drop at s ≡ spell ((Value version) ▸ b) t ++ r → Points (Value version) s at (size (Value version) (t .0)) (t .0)
@@ -119,14 +108,14 @@ module _ (version : ℕ) where
   node-point s at h r e = first-points s at (number little 3 (one-of kinds) (KindOf (λ _. empty))) h r e
 
   tree-point : (s : List ℕ) (d dim par used at : ℕ) (t : Tree (CategoryIn version d)) (r : List ℕ) → drop at s ≡ spell (CategoryIn version d) t ++ r
-      → Pointing (Value version) s node-words name-place name-length (treeWords version d dim par used at t) (treeNames d t)
+      → Pointing (Value version) s node-words name-place name-length (treeWords version d dim par used at t) (treeNames version d t)
   unfolding treeWords treeNames size
   tree-point s zero dim par used at t r e = no-records
   tree-point s (suc d) dim par used at t r e =
       let below = spellAll (spell (CategoryIn version d)) (children version d t) in
       let h : drop at s ≡ spell (Head version) (front version d t) ++ (below ++ r) = e ∙ (ap (λ (xs : List ℕ). xs ++ r) (spell-category version d t) ∙ append-assoc (spell (Head version) (front version d t)) below r) in
       one-record (nodeWords version dim par at (nodes version (suc d) t) (front version d t)) refl (node-point s at (front version d t) (below ++ r) h)
-      (all-point s (CategoryIn version d) (treeNames d) (nodes version d) (treeWords version d dim used) (λ u a x q k. tree-point s d dim used u a x q k)
+      (all-point s (CategoryIn version d) (treeNames version d) (nodes version d) (treeWords version d dim used) (λ u a x q k. tree-point s d dim used u a x q k)
       (used + 1) (at + size (Head version) (front version d t)) (children version d t) r (after s at (spell (Head version) (front version d t)) (below ++ r) h))
 
   -- ---- dimensions
@@ -136,18 +125,18 @@ module _ (version : ℕ) where
       → drop at s ≡ spell ((Value version) ▸ DimProperties) (dimOwn version t) ++ (digits little 4 (t .1 .0) ++ (spellAll (spell (Category version)) (dimCategories version t) ++ r))
   own-part s at t r e = e ∙ (ap (λ (xs : List ℕ). xs ++ r) (spell-dimension version t) ∙ simp append-assoc)
 
-  dim-point : (s : List ℕ) (i used at : ℕ) (t : Tree (Dimension version)) (r : List ℕ) → drop at s ≡ spell (Dimension version) t ++ r → Pointing (Value version) s node-words name-place name-length (dimWords version i used at t) (categoryNames t)
+  dim-point : (s : List ℕ) (i used at : ℕ) (t : Tree (Dimension version)) (r : List ℕ) → drop at s ≡ spell (Dimension version) t ++ r → Pointing (Value version) s node-words name-place name-length (dimWords version i used at t) (categoryNames version t)
   unfolding dimWords categoryNames size
   dim-point s i used at t r e =
       let own = spell ((Value version) ▸ DimProperties) (dimOwn version t) in
       let below = spellAll (spell (Category version)) (dimCategories version t) in
-      all-point s (Category version) (treeNames category-depth) (nodes version category-depth) (treeWords version category-depth i no-parent) (λ u a x q k. tree-point s category-depth i no-parent u a x q k)
+      all-point s (Category version) (treeNames version category-depth) (nodes version category-depth) (treeWords version category-depth i no-parent) (λ u a x q k. tree-point s category-depth i no-parent u a x q k)
       used (at + size ((Value version) ▸ DimProperties) (dimOwn version t) + 4) (dimCategories version t) r
       (after-digits s (at + length own) little 4 (t .1 .0) (below ++ r) (after s at own (digits little 4 (t .1 .0) ++ (below ++ r)) (own-part s at t r e)))
 
   -- the node records of dimensions that follow each other
   pub dims-point : (s : List ℕ) (i used at : ℕ) (ts : List (Tree (Dimension version))) (r : List ℕ) → drop at s ≡ spellAll (spell (Dimension version)) ts ++ r
-      → Pointing (Value version) s node-words name-place name-length (dimsWords version i used at ts) (flatMap categoryNames ts)
+      → Pointing (Value version) s node-words name-place name-length (dimsWords version i used at ts) (flatMap (categoryNames version) ts)
   unfolding dimsWords flatMap
   dims-point s i used at [] r e = no-records
   dims-point s i used at (t ∷ ts) r e =
