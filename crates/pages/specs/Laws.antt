@@ -8,19 +8,26 @@ use Rattle.sizes.specs.Basics.{pick}
 use Rattle.convert.specs.Pages.{first-page, page-count}
 use Rattle.convert.specs.Convert.{Step, unknown-page, refused, converted}
 use Rattle.convert.specs.Laws.SameText.{page-known}
-use Rattle.pages.specs.Numbers.{Numbered}
+use Rattle.pages.specs.Numbers.{numberOf, Numbered}
 
 module _ (f : ℕ → List ℕ → Step) (page room : ℕ) (u : List ℕ) where
-  pub page-low : page < first-page → converted f page room u ≡ refused unknown-page 0
+  low-converted : page < first-page → converted f page room u ≡ refused unknown-page 0
   unfolding converted pick
-  page-low h = rw (lt-ltb page first-page h)
+  low-converted h = rw (lt-ltb page first-page h)
 
-  pub page-high : first-page ≤ page → page-count ≤ page - first-page → converted f page room u ≡ refused unknown-page 0
+  high-converted : first-page ≤ page → page-count ≤ page - first-page → converted f page room u ≡ refused unknown-page 0
   unfolding converted pick
-  page-high l h = rw (le-ltb page first-page l, le-ltb (page - first-page) page-count h)
+  high-converted l h = rw (le-ltb page first-page l, le-ltb (page - first-page) page-count h)
 
-pub none-numbered : (page : ℕ) → ((f : ℕ → List ℕ → Step) (room : ℕ) (u : List ℕ) → converted f page room u ≡ refused unknown-page 0) → Numbered page page-count
-none-numbered page e = record { known = λ h. absurd (omega arith); unknown = λ _. e }
+-- a page before the first, one after the last, and one that is known
+pub page-low : (page : ℕ) → page < first-page → Numbered page page-count
+unfolding numberOf pick
+page-low page h = record { is = rw (lt-ltb page first-page h); known = λ m. absurd (omega arith); unknown = λ _ f room u. low-converted f page room u h }
+
+pub page-high : (page : ℕ) → first-page ≤ page → page-count ≤ page - first-page → Numbered page page-count
+unfolding numberOf pick
+page-high page l h = record { is = rw (le-ltb page first-page l) (omega arith); known = λ m. absurd (omega arith); unknown = λ _ f room u. high-converted f page room u l h }
 
 pub numbered : (page : ℕ) → first-page ≤ page → page - first-page < page-count → Numbered page (page - first-page)
-numbered page l h = record { known = λ _ f room u. page-known f page room u l h; unknown = λ m. absurd (omega arith) }
+unfolding numberOf pick
+numbered page l h = record { is = rw (le-ltb page first-page l) (omega arith); known = λ _ f room u. page-known f page room u l h; unknown = λ m. absurd (omega arith) }
