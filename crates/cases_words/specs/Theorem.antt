@@ -1,7 +1,7 @@
 -- T-05's theorem of the functions for other languages, over chains of their calls: each is lent the words that the call before it left.
 use mathlib.Core.Path.{_≡_, refl, sym, ap, _∙_}
 use mathlib.Core.Bool.{Bool, true, false}
-use mathlib.Core.List.{List, [], _∷_, _++_}
+use mathlib.Core.List.{List, [], _++_}
 use Prim.Native.Nat.{ℕ, _-_, _≤_}
 use native.Mathlib.Omega.{arith}
 use lib.Dec.{eqb}
@@ -16,10 +16,9 @@ use Rattle.case_state.specs.declared.Cursor.{Cursor}
 use Rattle.case_state.specs.declared.State.{State}
 use Rattle.case_state.specs.Cursor.{numbers, view}
 use Rattle.case_state.specs.Tests.{state-ok}
-use Rattle.case_state.specs.Laws.Tests.{both}
 use Rattle.cases.specs.declared.Answer.{Answer}
 use Rattle.cases.specs.declared.Call.{Call}
-use Rattle.cases.specs.Laws.Lasting.{start-is, start-lasts}
+use Rattle.cases.specs.Laws.Lasting.{start-parts, start-is, start-lasts}
 use Rattle.cases.specs.Answers.{padded, cursor₀, start-ok, start-of, refusal-of, state-after, not-taken, elements, fed-of, answered, call-of, Called}
 use Rattle.cases.specs.Theorem as code
 use Rattle.cases.specs.Theorem.{with-it}
@@ -184,10 +183,6 @@ padded-long : (l : List ℕ) → length l ≤ 256 → length (padded (length l) 
 unfolding padded
 padded-long l h = rw (length-append, length-replicate, length-take-le (length l) l (omega arith)) (omega arith)
 
-few-kinds : (l : List ℕ) (bias : ℕ) → start-ok l bias ≡ true → length l ≤ 256
-unfolding start-ok
-few-kinds l bias ok = leb-true (length l) 256 (both _ _ (both _ _ ok .1) .0)
-
 -- From a start that is not refused: they are those of the whole stream's meaning.
 pub means-of : (l : List ℕ) (bias : ℕ) → start-ok l bias ≡ true → {state answer state′ answer′ : List ℕ} → roomy (length state) (length answer) short-answer ≡ true
     → Started l bias state answer short-answer state′ answer′ → {s ws′ rest : List ℕ} {es : List Element} → Ended state′ s ws′ rest es
@@ -195,7 +190,7 @@ pub means-of : (l : List ℕ) (bias : ℕ) → start-ok l bias ≡ true → {sta
 unfolding start-of pick
 means-of l bias ok {state} {answer} {state′} room f {ws′ = ws′} {rest = rest} {es = es} x =
     let k = padded (length l) l in
-    let long = padded-long l (few-kinds l bias ok) in
+    let long = padded-long l (leb-true (length l) 256 (start-parts l bias ok .1)) in
     let fine : state-ok (with-it k (length l) bias cursor₀) ≡ true = rw (start-is l bias ok) at (start-lasts l bias ok) in
     let words : state′ ≡ stateWords (with-it k (length l) bias cursor₀) ++ drop state-words state = rw (room, ok) at (f .settles) in
     let is : stateOf state′ ≡ with-it k (length l) bias cursor₀ = rw words (state-back (with-it k (length l) bias cursor₀) fine (drop state-words state) long) in

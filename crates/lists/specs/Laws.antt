@@ -5,7 +5,7 @@ use Prim.Native.Nat.{ℕ, zero, suc, _<_}
 use native.Mathlib.Omega.{arith}
 use Rattle.lists.specs.Lists.{has-room}
 
--- the last step, and every other that has no room for a member
+-- every step after the sixth has room; so one that has none is among the first six
 pub room-last : (k n : ℕ) → 5 < k → has-room k n ≡ true
 unfolding has-room
 room-last zero n h = absurd (omega arith)

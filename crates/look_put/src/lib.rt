@@ -12,7 +12,6 @@ use look::Area;
 use look::AreaColor;
 use look::AreaStyle;
 use look::Font;
-use look::Frame;
 use look::Frames;
 use look::Lines;
 use look::Look;

@@ -28,7 +28,7 @@ with-cursor s c e g = let p = state-parts s e in rw (p .few, p .bias-in, p .know
 
 -- ---- the start
 
-start-parts : (l : List ℕ) (bias : ℕ) → start-ok l bias ≡ true → (ltb 0 (length l) ≡ true) × (leb (length l) most-kinds ≡ true) × (leb bias most-bias ≡ true) × (kinds-ok (length l) (padded (length l) l) ≡ true)
+pub start-parts : (l : List ℕ) (bias : ℕ) → start-ok l bias ≡ true → (ltb 0 (length l) ≡ true) × (leb (length l) most-kinds ≡ true) × (leb bias most-bias ≡ true) × (kinds-ok (length l) (padded (length l) l) ≡ true)
 unfolding start-ok
 start-parts l bias e = let a = both _ _ e in let b = both _ _ (a .1) in let c = both _ _ (b .1) in (a .0, b .0, c .0, c .1)
 
@@ -68,7 +68,7 @@ start-lasts l bias e =
     rw (start-is l bias e) (rw (p .1, p .2, p .3, padded-rest l (leb-true (length l) most-kinds (p .1))) (first-ok (length l) (p .0)))
 
 -- the kinds of a state that was started are those of the list
-firsts-of : (l r : List ℕ) → firsts (length l) (l ++ r) ≡ l
+pub firsts-of : (l r : List ℕ) → firsts (length l) (l ++ r) ≡ l
 unfolding firsts
 firsts-of [] r = refl
 firsts-of (x ∷ l) r = ap (λ (k : List ℕ). x ∷ k) (firsts-of l r)

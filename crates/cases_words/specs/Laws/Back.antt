@@ -1,13 +1,13 @@
 -- Reading the words of a state back gives the state: so a call goes on where the one before it stopped.
-use mathlib.Core.Path.{_≡_, refl, ap, _∙_}
+use mathlib.Core.Path.{_≡_, refl, sym, _∙_}
 use mathlib.Core.Bool.{Bool, true, false}
-use mathlib.Core.List.{List, [], _∷_, _++_}
-use Prim.Native.Nat.{ℕ, zero, suc, _+_, _-_, _*_, _/_, _%_, _^_, _≤_, _<_, min}
+use mathlib.Core.List.{List, [], _∷_, _++_, append-nil}
+use Prim.Native.Nat.{ℕ, zero, suc, _+_, _-_, _/_, _%_, _^_, _≤_, _<_, min}
 use native.Mathlib.Omega.{arith}
 use lib.Dec.{eqb, leb}
 use lib.ListN.{length, getD}
 use borrow.Author.Tests.{eqb-true, eqb-false, leb-true, leb-false}
-use Rattle.layout.specs.Words.{word32}
+use Rattle.sizes.specs.Basics.{pick}
 use Rattle.layout.specs.Laws.Words.{word-same}
 use Rattle.case_state.specs.declared.Cursor.{Cursor}
 use Rattle.case_state.specs.declared.State.{State}
@@ -16,19 +16,10 @@ use Rattle.case_state.specs.Tests.{kinds-ok, rest-ok, state-ok}
 use Rattle.case_state.specs.Laws.Tests.{both}
 use Rattle.case_state.specs.Laws.Valid.{state-parts}
 use Rattle.cases.specs.Steps.{firsts}
+use Rattle.cases.specs.Laws.Lasting.{firsts-of}
 use Rattle.cases_words.specs.StateWords.{headWords, stateWords, joint, narrowed, kindsOf, cursorOf, stateOf}
 
 -- ---- kinds
-
-firsts-of : (l r : List ℕ) → firsts (length l) (l ++ r) ≡ l
-unfolding firsts
-firsts-of [] r = refl
-firsts-of (x ∷ l) r = ap (λ (k : List ℕ). x ∷ k) (firsts-of l r)
-
-firsts-all : (l : List ℕ) → firsts (length l) l ≡ l
-unfolding firsts
-firsts-all [] = refl
-firsts-all (x ∷ l) = ap (λ (k : List ℕ). x ∷ k) (firsts-all l)
 
 narrowed-same : (l : List ℕ) → ((i : ℕ) → i < length l → getD l i 0 ≤ 255) → narrowed l ≡ l
 unfolding narrowed
@@ -37,27 +28,24 @@ narrowed-same (x ∷ l) h =
     let first : min x 255 ≡ x = let k = h 0 (omega arith) in omega arith in
     rw (first, narrowed-same l (λ i k. h (suc i) (omega arith)))
 
+-- a test of each number below n, one after the other: so the tests of kinds are made
+each-passes : (test tests : ℕ → Bool) → ((n : ℕ) → tests (suc n) ≡ pick (test n) (tests n) false) → (n : ℕ) → tests n ≡ true → (i : ℕ) → i < n → test i ≡ true
+each-passes test tests step zero e i h = absurd (omega arith)
+each-passes test tests step (suc n) e i h =
+    let p = both (test n) (tests n) (sym (step n) ∙ e) in
+    go (eqb i n) refl (p .0) (λ k. each-passes test tests step n (p .1) i k)
+  where
+    go : (b : Bool) → eqb i n ≡ b → test n ≡ true → (i < n → test i ≡ true) → test i ≡ true
+    go true t p before = rw (eqb-true i n t) p
+    go false t p before = before (omega (arith, eqb-false i n t))
+
 known-at : (n : ℕ) (l : List ℕ) → kinds-ok n l ≡ true → (i : ℕ) → i < n → getD l i 0 ≤ 1
 unfolding kinds-ok
-known-at zero l e i h = absurd (omega arith)
-known-at (suc n) l e i h =
-    let p = both (leb (getD l n 0) 1) (kinds-ok n l) e in
-    go (eqb i n) refl (p .0) (λ k. known-at n l (p .1) i k)
-  where
-    go : (b : Bool) → eqb i n ≡ b → leb (getD l n 0) 1 ≡ true → (i < n → getD l i 0 ≤ 1) → getD l i 0 ≤ 1
-    go true t p before = rw (eqb-true i n t) (leb-true (getD l n 0) 1 p)
-    go false t p before = before (omega (arith, eqb-false i n t))
+known-at n l e i h = leb-true (getD l i 0) 1 (each-passes (λ j. leb (getD l j 0) 1) (λ k. kinds-ok k l) (λ k. refl) n e i h)
 
 none-at : (n : ℕ) (l : List ℕ) → rest-ok n l ≡ true → (j : ℕ) → j < n → getD l (256 - suc j) 0 ≡ 0
 unfolding rest-ok
-none-at zero l e j h = absurd (omega arith)
-none-at (suc n) l e j h =
-    let p = both (eqb (getD l (256 - suc n) 0) 0) (rest-ok n l) e in
-    go (eqb j n) refl (p .0) (λ k. none-at n l (p .1) j k)
-  where
-    go : (b : Bool) → eqb j n ≡ b → eqb (getD l (256 - suc n) 0) 0 ≡ true → (j < n → getD l (256 - suc j) 0 ≡ 0) → getD l (256 - suc j) 0 ≡ 0
-    go true t p before = rw (eqb-true j n t) (eqb-true (getD l (256 - suc n) 0) 0 p)
-    go false t p before = before (omega (arith, eqb-false j n t))
+none-at n l e j h = eqb-true (getD l (256 - suc j) 0) 0 (each-passes (λ j. eqb (getD l (256 - suc j) 0) 0) (λ k. rest-ok k l) (λ k. refl) n e j h)
 
 module _ (s : State) (ok : state-ok s ≡ true) where
   -- each kind is a byte
@@ -92,7 +80,7 @@ module _ (s : State) (ok : state-ok s ≡ true) where
   state-back rest n =
       let p = state-parts s ok in
       let few = leb-true (s .count) 256 (p .few) in
-      let all : firsts 256 (s .kinds) ≡ s .kinds = rw n at (firsts-all (s .kinds)) in
+      let all : firsts 256 (s .kinds) ≡ s .kinds = rw (n, append-nil) at (firsts-of (s .kinds) []) in
       let front : firsts 256 (s .kinds ++ rest) ≡ s .kinds = rw n at (firsts-of (s .kinds) rest) in
       let kinds-are : narrowed (firsts 256 (firsts 256 (s .kinds) ++ rest)) ≡ s .kinds = rw (all, front) (narrowed-same (s .kinds) (λ i h. small-kind i (omega (arith, h, n)))) in
       let count-is = word-same (s .count) (omega (arith, few)) in

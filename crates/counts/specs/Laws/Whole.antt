@@ -1,11 +1,11 @@
 -- The other half of Value.antt: every double that is a whole number from 0 to 4,294,967,295 has that count.
 use mathlib.Core.Path.{_≡_, refl, sym, ap, _∙_}
-use mathlib.Core.Bool.{Bool, true, false, _&&_, cond}
+use mathlib.Core.Bool.{Bool, true, false, cond}
 use Prim.Native.Nat.{ℕ, zero, suc, _+_, _-_, _*_, _/_, _%_, _^_, _≤_, _<_}
-use native.Mathlib.Nat.{mul-one, mul-assoc, mul-right-comm, mul-pos, suc-mul, mul-le-mul-right, le-mul-of-pos-right, eq-of-mul-eq-mul-right, mul-mod-left, mul-div-cancel}
+use native.Mathlib.Nat.{mul-one, mul-assoc, mul-right-comm, mul-pos, suc-mul, mul-le-mul-right, eq-of-mul-eq-mul-right, mul-mod-left, mul-div-cancel, pow-le-pow-right}
 use native.Mathlib.Omega.{arith}
 use lib.Dec.{eqb, leb, ltb}
-use borrow.Author.Tests.{eqb-true, eqb-false, eq-eqb, le-leb, lt-leb, lt-ltb, leb-true, leb-false}
+use borrow.Author.Tests.{eqb-true, eqb-false, eq-eqb, le-leb, lt-ltb, leb-true, leb-false}
 use lib.Pow.{pow-add, pow-pos, shl-lt}
 use lib.IntN.{ℤ, pos, negsuc}
 use lib.Ieee.{Float, nan, inf, fin, binary64, up, down, odd, ofFields, ofBits, low, prec}
@@ -28,20 +28,14 @@ same-size (fin u m k) s t a c b d v w =
     eq-of-mul-eq-mul-right (down k) (down-pos k) (a * d) (b * c)
     (mul-right-comm a d (down k) ∙ ap (λ (z : ℕ). z * d) (sym (v .1)) ∙ mul-right-comm (m * up k) c d ∙ ap (λ (z : ℕ). z * c) (w .1) ∙ mul-right-comm b (down k) c)
 
-pow-le : (i j : ℕ) → i ≤ j → 2 ^ i ≤ 2 ^ j
-pow-le i j h =
-    let e : j ≡ i + (j - i) = omega arith in
-    let q : 2 ^ j ≡ 2 ^ i * 2 ^ (j - i) = ap (λ (k : ℕ). 2 ^ k) e ∙ pow-add 2 i (j - i) in
-    rw q (le-mul-of-pos-right (2 ^ i) (pow-pos (j - i)))
-
 -- above 0 and below 1
 too-small : (s x n l : ℕ) → 0 < s → s < 2 ^ 53 → 53 + x ≤ l → s * 2 ^ x ≡ n * 2 ^ l → ⊥
 too-small s x zero l p h e q = omega (arith, mul-pos p (pow-pos x), q)
-too-small s x (suc n) l p h e q = omega (arith, shl-lt 53 x h, pow-le (53 + x) l e, suc-mul n (2 ^ l), q)
+too-small s x (suc n) l p h e q = omega (arith, shl-lt 53 x h, pow-le-pow-right {n = 2} (omega arith) e, suc-mul n (2 ^ l), q)
 
 -- 2 ^ 32 and above
 too-large : (s x n l : ℕ) → 2 ^ 52 ≤ s → n < 2 ^ 32 → 32 + l ≤ 52 + x → s * 2 ^ x ≡ n * 2 ^ l → ⊥
-too-large s x n l p h e q = omega (arith, shl-lt 32 l h, pow-le (32 + l) (52 + x) e, mul-le-mul-right (2 ^ x) p, pow-add 2 52 x, q)
+too-large s x n l p h e q = omega (arith, shl-lt 32 l h, pow-le-pow-right {n = 2} (omega arith) e, mul-le-mul-right (2 ^ x) p, pow-add 2 52 x, q)
 
 -- ---- a positive double that is the whole number n
 

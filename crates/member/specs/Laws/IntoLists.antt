@@ -1,10 +1,8 @@
 -- What `read_into` answers, and what its two lists then hold.
 use mathlib.Core.Path.{_≡_}
-use mathlib.Core.Bool.{Bool, true}
 use mathlib.Core.List.{List, _++_}
-use Prim.Native.Nat.{ℕ, zero, suc, _-_, _*_, _≤_}
+use Prim.Native.Nat.{ℕ, _-_, _*_, _≤_}
 use lib.ListN.{length, drop}
-use lib.Dec.{leb}
 use Rattle.sizes.specs.Sizes.{node-words, cell-words}
 use Rattle.grammar.specs.Layout.{Tree}
 use Rattle.grammar.specs.Laws.Layout.Read.{Got, got, no}

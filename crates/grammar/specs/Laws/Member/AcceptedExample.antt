@@ -193,30 +193,25 @@ member-demanded = line-demanded member (are-bytes member refl) 2 5 2 refl
 pub both-too-short : RefusedWith member 34 5 12 0
 both-too-short = few-node-words (member-demanded .derivation) (member-demanded .demanded) (omega (arith, member-demanded .counts .1))
 
--- the node records, where nothing is refused
-unfoldable pub nodesRead : Got (Tree Member) → List ℕ
-nodesRead (got t r p) = nodeRecords t
-nodesRead (no n p) = []
+-- what a tree says, where nothing is refused
+unfoldable pub wordsOf : (Tree Member → List ℕ) → Got (Tree Member) → List ℕ
+wordsOf words (got t r p) = words t
+wordsOf words (no n p) = []
 
 -- Example: its node records, as the reader of bench/ prints them. The group contains three nodes, each leaf itself (document 02, T-07)
-pub member-nodes : nodesRead (checked member)
+pub member-nodes : wordsOf nodeRecords (checked member)
     ≡ nodeRecord 1 0 no-parent 736 9 2 3
     ++ nodeRecord 0 0 0 760 9 1 1
     ++ nodeRecord 0 0 0 784 9 0 1
     ++ nodeRecord 0 1 no-parent 834 9 0 1
     ++ nodeRecord 0 1 no-parent 858 9 1 1
-unfolding member nodesRead computed wordsAll treeWords dimWords dimsWords
+unfolding member wordsOf computed wordsAll treeWords dimWords dimsWords
 member-nodes = refl
-
--- the entries of its dimensions
-unfoldable pub entriesRead : Got (Tree Member) → List ℕ
-entriesRead (got t r p) = dimensionEntries t
-entriesRead (no n p) = []
 
 -- Example: n of a dimension counts its leaves at any depth (document 01). The first has one category, a group of two leaves: n is 2, and the second
 -- dimension's first node is node 3
-pub member-dimensions : entriesRead (checked member) ≡ dimRecord 710 9 2 0 ++ dimRecord 808 9 2 3
-unfolding member entriesRead computed dimEntry dimsEntries
+pub member-dimensions : wordsOf dimensionEntries (checked member) ≡ dimRecord 710 9 2 0 ++ dimRecord 808 9 2 3
+unfolding member wordsOf computed dimEntry dimsEntries
 member-dimensions = refl
 
 -- Example: the region of X3 is free (document 01, our rule). Its count stands at 702, that of the region around it at 641; with two bytes in it

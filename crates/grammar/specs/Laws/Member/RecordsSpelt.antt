@@ -3,7 +3,7 @@
 use mathlib.Core.Path.{_≡_, refl, sym, ap, _∙_}
 use mathlib.Core.Bool.{Bool, true, false}
 use mathlib.Core.Option.{some}
-use mathlib.Core.List.{List, [], _∷_, _++_, append-assoc, map, flatMap}
+use mathlib.Core.List.{List, [], _∷_, _++_, append-assoc}
 use Prim.Native.Nat.{ℕ, suc, _+_, _*_, _-_}
 use native.Mathlib.Nat.{add-zero}
 use native.Mathlib.Omega.{arith}
@@ -19,7 +19,7 @@ use Rattle.grammar.specs.Value.{Value, CellValue}
 use Rattle.grammar.specs.Sections.{HeaderStart, Front}
 use Rattle.grammar.specs.RecordWords.{word}
 use Rattle.grammar.specs.Table.{Dimension, Dimensions, Axes, Cell, Cells}
-use Rattle.grammar.specs.Records.{cellWords, dimName, cellValue}
+use Rattle.grammar.specs.Records.{cellWords}
 use Rattle.grammar.specs.Laws.Table.RecordsPoint.{all-names, Points, Pointing, record-of, after-digits, dims-point, entries-point, cells-point}
 use Rattle.grammar.specs.Member.{Member, final, version, body-at, dimensions, cells, nodes, dimensionsAt, cellsStart, nodeRecords, dimensionEntries, cellRecords, nodeNames, dimensionNames, cellValues, MemberDerivation, frontSection, axesSection, cellsSection}
 use Rattle.grammar.specs.Part.{partOf}

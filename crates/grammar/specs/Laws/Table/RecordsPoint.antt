@@ -13,7 +13,7 @@ use Rattle.grammar.specs.Laws.Layout.{digits-length}
 use Rattle.grammar.specs.Laws.Layout.Spelt.{after}
 use Rattle.grammar.specs.Value.{Value, CellValue}
 use Rattle.grammar.specs.Table.{kinds, KindOf, CategoryIn, DimProperties, Dimension, Cell, Category}
-use Rattle.grammar.specs.Records.{Head, front, children, sum, nodes, wordsAll, nodeWords, treeWords, dimNodes, dimWords, dimEntry, dimsWords, dimsEntries, cellWords, rowsWords, headName, dimOwn, dimName, dimCategories, cellValue, treeNames, categoryNames}
+use Rattle.grammar.specs.Records.{Head, front, children, sum, nodes, wordsAll, nodeWords, treeWords, dimNodes, dimWords, dimEntry, dimsWords, dimsEntries, cellWords, rowsWords, dimOwn, dimName, dimCategories, cellValue, treeNames, categoryNames}
 use Rattle.grammar.specs.Laws.Table.Lengths.{spell-category, spell-dimension}
 
 -- a word of the first record, and of those after it

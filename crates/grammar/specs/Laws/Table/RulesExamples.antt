@@ -9,7 +9,6 @@ use Rattle.grammar.specs.Laws.Layout.Read.{Got, got, no, read, refusal}
 use Rattle.grammar.specs.Laws.Layout.Check.{check}
 use Rattle.grammar.specs.Value.{CellValue, ValueIn, RawValueOf, TemplateOf, ArgumentOf}
 use Rattle.grammar.specs.Once.{fresh}
-use Rattle.grammar.specs.Records.{}
 use Rattle.grammar.specs.Rules.{entryRule, countsRule, cellRule}
 
 data Line : Type 0 where
