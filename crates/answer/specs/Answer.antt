@@ -4,18 +4,15 @@ use mathlib.Core.Bool.{Bool}
 use mathlib.Core.List.{List, _++_}
 use mathlib.Core.Path.{_≡_}
 use Prim.Native.Nat.{ℕ, _-_, _*_}
-use lib.ListN.{length, drop, replicate}
+use lib.ListN.{length, drop}
 use lib.Dec.{leb}
 use Rattle.sizes.specs.Sizes.{most-dimensions, node-words, cell-words, dimension-area}
 use Rattle.sizes.specs.Basics.{pick}
 use Rattle.grammar.specs.Layout.{Tree}
 use Rattle.grammar.specs.Laws.Layout.Read.{Got, got, no}
 use Rattle.answer.specs.declared.Answer.{Answer}
+use Rattle.answer.specs.Demand3.{zeros}
 use Rattle.grammar.specs.Member.{Member, dimensions, layers, rows, columns, order, cells, nodes, nodeRecords, dimensionEntries, cellRecords}
-
--- words that are all 0
-unfoldable pub zeros : ℕ → List ℕ
-zeros n = replicate n 0
 
 -- a refusal, with the counts of nodes and cells, which are 0 but for 12 and 13; "everything else returned is 0"
 unfoldable pub refusal : ℕ → ℕ → ℕ → ℕ → Answer

@@ -14,7 +14,7 @@ use mathlib.Core.Path.{_≡_}
 use mathlib.Core.Logic.{_↔_, _⊎_}
 use mathlib.Core.List.{List, _++_}
 use Prim.Native.Nat.{ℕ, _*_, _-_, _≤_}
-use lib.ListN.{length, drop}
+use lib.ListN.{length, drop, replicate}
 use Rattle.sizes.specs.Sizes.{member-bytes, most-dimensions, node-words, cell-words, dimension-area}
 use Rattle.grammar.specs.Layout.{Tree, All}
 use Rattle.grammar.specs.Strings.{Free}
@@ -22,7 +22,10 @@ use Rattle.grammar.specs.Value.{Value, CellValue}
 use Rattle.answer.specs.declared.Answer.{Answer}
 use Rattle.grammar.specs.Member.{Member, version, dimensions, layers, rows, columns, order, cells, nodes, nodeRecords, dimensionEntries, cellRecords, nodeNames, dimensionNames, cellValues, MemberDerivation, AsDemanded, LargeEnough}
 use Rattle.grammar.specs.Refused.{RefusedWith}
-use Rattle.answer.specs.Answer.{zeros}
+
+-- words that are all 0
+unfoldable pub zeros : ℕ → List ℕ
+zeros n = replicate n 0
 
 -- a derivation that is as demanded, for which areas of these lengths are large enough
 pub record Accepted (bs : List ℕ) (node-length cell-length : ℕ) : Type 0 where

@@ -12,7 +12,7 @@ use borrow.Author.Tests.{leb-true, leb-false, le-leb, lt-leb, eq-eqb, ne-eqb}
 use Rattle.sizes.specs.Sizes.{member-bytes, most-dimensions, most-cells, most-places, node-words, cell-words, dimension-words, node-area, cell-area, dimension-area, dimension-n}
 use Rattle.sizes.specs.Basics.{pick}
 use Rattle.grammar.specs.Layout.{Tree, spell, passes, Bytes, Valid, size}
-use Rattle.grammar.specs.Laws.Layout.Read.{Got, got, no, bind, read}
+use Rattle.grammar.specs.Laws.Layout.Read.{Got, got, no, bind}
 use Rattle.grammar.specs.Laws.Layout.Check.{check}
 use Rattle.layout.specs.Keeps.{Out, on, off, Keeps}
 use Rattle.layout.specs.Steps.Keeping.{Reached, kept-on, kept-off}
@@ -38,7 +38,8 @@ use Rattle.member.specs.declared.Tail.{Tail}
 use Rattle.grammar.specs.Member.{Member, version as memberVersion, body-at, dimensions, dimensionsAt, order, cells, nodes, cellsStart, nodeRecords, dimensionEntries, cellRecords, frontSection, dimensionsSection, axesSection}
 use Rattle.grammar.specs.Refused.{memberRule}
 use Rattle.grammar.specs.Laws.Member.Checked.{ended, checked}
-use Rattle.answer.specs.Answer.{zeros, refusal, accepted, answerOf, nodesAfter, cellsAfter, Delivered}
+use Rattle.answer.specs.Demand3.{zeros}
+use Rattle.answer.specs.Answer.{refusal, accepted, answerOf, nodesAfter, cellsAfter, Delivered}
 use Rattle.member.specs.Laws.IntoLists.{LongEnough, intoLists, Stored, all-stored, not-stored}
 use Rattle.grammar.specs.Laws.Member.Demanded.{ended-got}
 use Rattle.opening.specs.Laws.Header.{Bound}

@@ -15,7 +15,8 @@ use Rattle.grammar.specs.RecordWords.{word, sizes}
 use Rattle.grammar.specs.Index.{product}
 use Rattle.grammar.specs.Records.{dimLeaves}
 use Rattle.grammar.specs.Member.{version, dimensionsSection, cellsSection, dimensions, dimensionsAt, dimensionEntries, cells, nodes, ns, places, cellRecords, MemberDerivation, AsDemanded}
-use Rattle.answer.specs.Answer.{accepted, zeros}
+use Rattle.answer.specs.Demand3.{zeros}
+use Rattle.answer.specs.Answer.{accepted}
 use Rattle.total.specs.Total.{sums, leafSums}
 use Rattle.total.specs.Answers.{answered, refused, there, leafAnswer}
 use Rattle.total.specs.Laws.Words.{recordsSay, underBy}
