@@ -42,9 +42,9 @@ PVTextStyle-name = 0x50 ∷ 0x56 ∷ 0x54 ∷ 0x65 ∷ 0x78 ∷ 0x74 ∷ 0x53 �
 abbrev pub settings : Layout
 settings = int16 ▸ fixed 0 ▸ fixed 0 ▸ bool ▸ fixed 0 ▸ bool ▸ fixed 0 ▸ i 54 ▸ i 18
 
--- PTTableLook, and the rest of the look, which goes by the version
-abbrev pub PTTableLook : (ℕ → Layout) → Layout
-PTTableLook rest = section PTTableLook-name ▸ number little 1 (a-version (0 ∷ 2 ∷ [])) (λ version. settings ▸ rest version)
+-- PTTableLook, of one of these versions, and the rest of the look, which goes by the version
+abbrev pub PTTableLook : List ℕ → (ℕ → Layout) → Layout
+PTTableLook versions rest = section PTTableLook-name ▸ number little 1 (a-version versions) (λ version. settings ▸ rest version)
 
 -- Separator: 00 00 | 01 00 int32[color] int16[style] int16[width], by the type; there is no third type
 abbrev pub undrawn : Layout
@@ -100,9 +100,14 @@ abbrev pub V2StylesIf : Bool → Layout
 V2StylesIf true = V2Styles
 V2StylesIf false = empty
 
--- TableLook, after PTTableLook
-abbrev pub sections : ℕ → Layout
-sections version = PVSeparatorStyle ▸ PVCellStyle ▸ PVTextStyle ▸ V2StylesIf (eqb version 2)
+-- TableLook, after PTTableLook: three sections, and the optional one
+abbrev pub sections : Layout → Layout
+sections v2 = PVSeparatorStyle ▸ PVCellStyle ▸ PVTextStyle ▸ v2
 
+-- the files that are read: "version is 00 or 02"
 abbrev pub TableLook : Layout
-TableLook = PTTableLook sections
+TableLook = PTTableLook (0 ∷ 2 ∷ []) (λ version. sections (V2StylesIf (eqb version 2)))
+
+-- those of version 02 alone, in which every look is answered and written (document 02, T-10)
+abbrev pub TableLook02 : Layout
+TableLook02 = PTTableLook (2 ∷ []) (λ version. sections V2Styles)

@@ -1,11 +1,9 @@
 -- The fields of a look, as the code holds it, in the order of the grammar: each field of 002 stands once.
-use mathlib.Core.Bool.{Bool, true, false}
 use mathlib.Core.List.{List, [], _∷_}
 use Prim.Native.Nat.{ℕ}
 use lib.ListN.{length}
-use lib.Dec.{eqb}
 use Rattle.grammar.specs.Layout.{big, undigits}
-use Rattle.store.specs.Fields.{lent, Fields}
+use Rattle.store.specs.Fields.{Text, lent, letters, Fields}
 use Rattle.store.specs.Values.{bit, twos}
 use Rattle.look.specs.declared.Separator.{Separator}
 use Rattle.look.specs.declared.Separator.the-variants.{NotDrawn, Drawn}
@@ -19,6 +17,8 @@ use Rattle.look.specs.declared.AreaStyle.{AreaStyle}
 use Rattle.look.specs.declared.Area.{Area}
 use Rattle.look.specs.declared.MostAreas.{MostAreas}
 use Rattle.look.specs.declared.Frames.{Frames}
+use Rattle.look.specs.declared.Continuation.{Continuation}
+use Rattle.look.specs.declared.Continuation.the-variants.{Default, Stored}
 use Rattle.look.specs.declared.V2Styles.{V2Styles}
 use Rattle.look.specs.declared.Look.{Look}
 use Rattle.look.specs.Look as grammar
@@ -33,11 +33,11 @@ abbrev pub num : ℕ → ℕ × Unit {0}
 num n = (n, tt)
 
 -- a class name: its length, and its letters as one number
-abbrev pub quoted : (letters : List ℕ) → Fields (grammar.quoted letters)
-quoted letters = num (length letters) & num (undigits big letters)
+abbrev pub quoted : (name : List ℕ) → Fields (grammar.quoted name)
+quoted name = num (length name) & num (undigits big name)
 
-abbrev pub section : (letters : List ℕ) → Fields (grammar.section letters)
-section letters = num 0xff & num 0xff & num 0 & num 0 & quoted letters
+abbrev pub section : (name : List ℕ) → Fields (grammar.section name)
+section name = num 0xff & num 0xff & num 0 & num 0 & quoted name
 
 abbrev pub settings : Settings → Fields grammar.settings
 settings x =
@@ -99,20 +99,25 @@ frames x =
     ∷ separator (x .inner .bottom) ∷ separator (x .outer .left) ∷ separator (x .outer .right) ∷ separator (x .outer .top)
     ∷ separator (x .outer .bottom) ∷ separator (x .«data_left») ∷ separator (x .«data_top») ∷ []
 
+-- "(Cont.)"
+unfoldable pub default-continuation : List ℕ
+default-continuation = 0x28 ∷ 0x43 ∷ 0x6f ∷ 0x6e ∷ 0x74 ∷ 0x2e ∷ 0x29 ∷ []
+
+-- the default has letters and no place: it "equals a stored "(Cont.)"" (document 02, T-10), since names are compared by their bytes
+abbrev pub continuation : Continuation → Text
+continuation Default = letters default-continuation
+continuation (Stored n) = lent n
+
 abbrev pub v2-styles : V2Styles → Fields grammar.V2Styles
 v2-styles x =
-    frames (x .frames) & lent (x .continuation) & num (x .«min_col_width») & num (x .«max_col_width») & num (x .«min_row_height»)
+    frames (x .frames) & continuation (x .continuation) & num (x .«min_col_width») & num (x .«max_col_width») & num (x .«min_row_height»)
     & num (x .«max_row_height»)
 
-abbrev pub v2-styles-if : (b : Bool) → V2Styles → Fields (grammar.V2StylesIf b)
-v2-styles-if true x = v2-styles x
-v2-styles-if false x = tt
-
-abbrev pub sections : (version : ℕ) → Look → Fields (grammar.sections version)
-sections version x =
+abbrev pub sections : Look → Fields (grammar.sections grammar.V2Styles)
+sections x =
     separator-style (x .rows) (x .columns) & cell-style (x .title .color) & text-style (x .title .style) (x .«most_areas»)
-    & v2-styles-if (eqb version 2) (x .v2)
+    & v2-styles (x .v2)
 
--- the fields that a look has in a file
-abbrev pub fields : Look → Fields grammar.TableLook
-fields x = section grammar.PTTableLook-name & (x .version, settings (x .settings) & sections (x .version) x)
+-- the fields of a look: those of a file of version 02
+abbrev pub fields : Look → Fields grammar.TableLook02
+fields x = section grammar.PTTableLook-name & (x .version, settings (x .settings) & sections x)

@@ -99,15 +99,23 @@ pub struct Frames {
     pub data_top: Separator,
 }
 
+// The string at the top or bottom of a table that is broken across pages: the letters "(Cont.)", which stand in no file, or those of the
+// file.
+pub enum Continuation {
+    Default,
+    Stored(Name),
+}
+
 pub struct V2Styles {
     pub frames: Frames,
-    pub continuation: Name,
+    pub continuation: Continuation,
     pub min_col_width: u32,
     pub max_col_width: u32,
     pub min_row_height: u32,
     pub max_row_height: u32,
 }
 
+// A look of version 02: whichever version a file has, what is read is one.
 pub struct Look {
     pub version: u8,
     pub settings: Settings,

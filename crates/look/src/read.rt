@@ -1,15 +1,16 @@
 // The reader of looks.
 ghost use mathlib.Core.Path.{_≡_};
-ghost use mathlib.Core.Bool.{false};
-ghost use lib.Dec.{eqb};
 ghost use Rattle.grammar.specs.Layout.{Bytes};
 ghost use Rattle.grammar.specs.Laws.Layout.Read.{read};
-ghost use Rattle.fields.specs.Gives.{Gives};
+ghost use Rattle.store.specs.Fields.{placed};
+ghost use Rattle.fields.specs.Gives.{Shows, Gives};
 ghost use Rattle.look.specs.Look as grammar;
 ghost use Rattle.look.specs.Values as values;
-ghost use Rattle.look.specs.Answers.{blank, outcome, expected};
+ghost use Rattle.look.specs.Answers as spec;
+ghost use Rattle.look.specs.Answers.{defaults, v2-data, look-of, outcome, expected};
 use crate::Answer;
 use crate::Area;
+use crate::Continuation;
 use crate::Frame;
 use crate::Frames;
 use crate::Look;
@@ -32,7 +33,6 @@ use layout::LITTLE;
 use layout::Step;
 use layout::number::field;
 use layout::number::peek;
-use store::Name;
 use store::verdict::known_two;
 
 struct GotSettings {
@@ -77,7 +77,7 @@ fn v2_styles(s: &[u8], st: Step) -> GotV2
     let frames = got.value;
     let st = got.next;
     let got = name(s, st);
-    let continuation = got.value;
+    let stored = got.value;
     let st = got.next;
     let min_col_width = int32(s, st);
     let st = min_col_width.next;
@@ -90,7 +90,7 @@ fn v2_styles(s: &[u8], st: Step) -> GotV2
     GotV2 {
         value: V2Styles {
             frames,
-            continuation,
+            continuation: Continuation::Stored(stored),
             min_col_width: min_col_width.value,
             max_col_width: max_col_width.value,
             min_row_height: min_row_height.value,
@@ -100,44 +100,52 @@ fn v2_styles(s: &[u8], st: Step) -> GotV2
     }
 }
 
-// The V2 data of a look that has none.
-fn no_v2_styles() -> V2Styles
-    ensures { λ r. ⌜ r ≡ blank ⌝ }
+// A frame with the same border on every side.
+fn frame_of(x: Separator) -> Frame
+    ensures { λ r. ⌜ r ≡ spec.frame-of x ⌝ }
 {
-    let frame = Frame {
-        left: Separator::NotDrawn,
-        right: Separator::NotDrawn,
-        top: Separator::NotDrawn,
-        bottom: Separator::NotDrawn,
+    Frame {
+        left: x,
+        right: x,
+        top: x,
+        bottom: x,
+    }
+}
+
+// What a file of version 00 doesn't say.
+fn default_v2_styles() -> V2Styles
+    ensures { λ r. ⌜ r ≡ defaults ⌝ }
+{
+    let solid = Separator::Drawn {
+        color: 0,
+        style: 0,
+        width: 1,
     };
     V2Styles {
         frames: Frames {
             title: Separator::NotDrawn,
-            inner: frame,
-            outer: frame,
+            inner: frame_of(solid),
+            outer: frame_of(Separator::NotDrawn),
             data_left: Separator::NotDrawn,
             data_top: Separator::NotDrawn,
         },
-        continuation: Name {
-            place: 0,
-            length: 0,
-        },
-        min_col_width: 0,
-        max_col_width: 0,
-        min_row_height: 0,
-        max_row_height: 0,
+        continuation: Continuation::Default,
+        min_col_width: 36,
+        max_col_width: 72,
+        min_row_height: 36,
+        max_row_height: 120,
     }
 }
 
-// V2Styles, which version 02 has.
+// V2Styles, which version 02 has; otherwise the defaults.
 fn v2_styles_if(s: &[u8], st: Step, new: bool) -> GotV2
-    ensures { λ r. ⌜ Gives (grammar.V2StylesIf new) (now (s .entry)) st (r .next) (values.v2-styles-if new (r .value)) × (new ≡ false → r .value ≡ blank) ⌝ }
+    ensures { λ r. ⌜ Shows (grammar.V2StylesIf new) (λ t at. v2-data new (placed (grammar.V2StylesIf new) t at)) (now (s .entry)) st (r .next) (values.v2-styles (r .value)) ⌝ }
 {
     if new {
         v2_styles(s, st)
     } else {
         GotV2 {
-            value: no_v2_styles(),
+            value: default_v2_styles(),
             next: st,
         }
     }
@@ -149,8 +157,7 @@ struct GotLook {
 }
 
 fn table_look(s: &[u8], st: Step) -> GotLook
-    ensures { λ r. ⌜ Gives grammar.TableLook (now (s .entry)) st (r .next) (values.fields (r .value))
-        × (eqb (r .value .version) 2 ≡ false → r .value .v2 ≡ blank) ⌝ }
+    ensures { λ r. ⌜ Shows grammar.TableLook (λ t at. look-of (placed grammar.TableLook t at)) (now (s .entry)) st (r .next) (values.fields (r .value)) ⌝ }
 {
     let st = section(s, st, b"PTTableLook");
     let v = peek(s, st, LITTLE, 1);
@@ -175,7 +182,7 @@ fn table_look(s: &[u8], st: Step) -> GotLook
     let next = got.next;
     GotLook {
         value: Look {
-            version: v as u8,
+            version: 2,
             settings,
             rows,
             columns,
@@ -187,7 +194,7 @@ fn table_look(s: &[u8], st: Step) -> GotLook
     }
 }
 
-// Reads a look. The places of its names count from the start of the file.
+// Reads a look, of version 00 or 02, as one of version 02. The places of its names count from the start of the file.
 pub fn read_look(file: &[u8]) -> Answer
     ensures { λ r. ⌜ (outcome r ≡ expected (read grammar.TableLook (now (file .entry)) 0)) × Bytes (now (file .entry)) ⌝ }
 {

@@ -11,6 +11,7 @@ use look::Alignment;
 use look::Area;
 use look::AreaColor;
 use look::AreaStyle;
+use look::Continuation;
 use look::Font;
 use look::Frames;
 use look::Lines;
@@ -20,7 +21,7 @@ use look::Separator;
 use look::Settings;
 use look::Typeface;
 use look::V2Styles;
-use store::verdict::known_two;
+use store::verdict::known_one;
 use store::write::byte;
 use store::write::color;
 use store::write::fixed_byte;
@@ -35,6 +36,7 @@ use store::write::number;
 use store::write::plain_letters;
 use store::write::signed;
 use store::write::small;
+use store::write::text;
 use store::write::two_zeros;
 
 // A class name, which has fewer than 2^16 letters: its length, and its letters.
@@ -263,32 +265,31 @@ fn frames(buf: &mut [u8], st: Step, x: Frames) -> Step
     separator(buf, st, data_top)
 }
 
+// The default's letters, or those that a stored one has.
+fn continuation_of(buf: &mut [u8], st: Step, names: &[u8], x: Continuation) -> Step
+    ensures { λ r. ⌜ Puts grammar.name (now (names .entry)) (values.continuation x) (now (buf .entry)) st (now (buf .exit)) r ⌝ }
+{
+    match x {
+        Continuation::Default => text(buf, st, LITTLE, 1, b"(Cont.)"),
+        Continuation::Stored(n) => name(buf, st, LITTLE, 1, names, n),
+    }
+}
+
 fn v2_styles(buf: &mut [u8], st: Step, names: &[u8], x: V2Styles) -> Step
     ensures { λ r. ⌜ Puts grammar.V2Styles (now (names .entry)) (values.v2-styles x) (now (buf .entry)) st (now (buf .exit)) r ⌝ }
 {
     let frames_of = x.frames;
     let continuation = x.continuation;
     let st = frames(buf, st, frames_of);
-    let st = name(buf, st, LITTLE, 1, names, continuation);
+    let st = continuation_of(buf, st, names, continuation);
     let st = int32(buf, st, x.min_col_width);
     let st = int32(buf, st, x.max_col_width);
     let st = int32(buf, st, x.min_row_height);
     int32(buf, st, x.max_row_height)
 }
 
-// V2Styles, which version 02 has.
-fn v2_styles_if(buf: &mut [u8], st: Step, names: &[u8], new: bool, x: V2Styles) -> Step
-    ensures { λ r. ⌜ Puts (grammar.V2StylesIf new) (now (names .entry)) (values.v2-styles-if new x) (now (buf .entry)) st (now (buf .exit)) r ⌝ }
-{
-    if new {
-        v2_styles(buf, st, names, x)
-    } else {
-        st
-    }
-}
-
 pub fn table_look(buf: &mut [u8], st: Step, names: &[u8], x: Look) -> Step
-    ensures { λ r. ⌜ Puts grammar.TableLook (now (names .entry)) (values.fields x) (now (buf .entry)) st (now (buf .exit)) r ⌝ }
+    ensures { λ r. ⌜ Puts grammar.TableLook02 (now (names .entry)) (values.fields x) (now (buf .entry)) st (now (buf .exit)) r ⌝ }
 {
     let settings_of = x.settings;
     let rows = x.rows;
@@ -299,12 +300,11 @@ pub fn table_look(buf: &mut [u8], st: Step, names: &[u8], x: Look) -> Step
     let most = x.most_areas;
     let v2 = x.v2;
     let v = x.version as u64;
-    let new = v == 2;
     let st = section(buf, st, b"PTTableLook");
-    let st = number(buf, st, LITTLE, 1, v, known_two(v, 0, 2));
+    let st = number(buf, st, LITTLE, 1, v, known_one(v, 2));
     let st = settings(buf, st, settings_of);
     let st = separator_style(buf, st, rows, columns);
     let st = cell_style(buf, st, title_color);
     let st = text_style(buf, st, names, title_style, most);
-    v2_styles_if(buf, st, names, new, v2)
+    v2_styles(buf, st, names, v2)
 }

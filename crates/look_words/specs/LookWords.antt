@@ -2,6 +2,7 @@
 -- of 32; of an accepted look it is that number (`Laws/Kept.antt`).
 use mathlib.Core.List.{List, [], _∷_, _++_}
 use Prim.Native.Nat.{ℕ}
+use Rattle.sizes.specs.Sizes.{no-place}
 use Rattle.layout.specs.Words.{word32}
 use Rattle.store.specs.Values.{bit, twos}
 use Rattle.look.specs.declared.Separator.{Separator}
@@ -16,6 +17,8 @@ use Rattle.look.specs.declared.Area.{Area}
 use Rattle.look.specs.declared.MostAreas.{MostAreas}
 use Rattle.look.specs.declared.Frame.{Frame}
 use Rattle.look.specs.declared.Frames.{Frames}
+use Rattle.look.specs.declared.Continuation.{Continuation}
+use Rattle.look.specs.declared.Continuation.the-variants.{Default, Stored}
 use Rattle.look.specs.declared.V2Styles.{V2Styles}
 use Rattle.look.specs.declared.Look.{Look}
 
@@ -71,11 +74,18 @@ most-areas x =
     area (x .layers) ++ area (x .corner) ++ area (x .«row_labels») ++ area (x .«column_labels») ++ area (x .data) ++ area (x .caption)
     ++ area (x .footer)
 
--- 6 words: place and length of the continuation, and the widths and heights
-abbrev pub v2-numbers : V2Styles → List ℕ
-v2-numbers x =
-    word32 (x .continuation .place) ∷ word32 (x .continuation .length) ∷ x .«min_col_width» ∷ x .«max_col_width» ∷ x .«min_row_height»
-    ∷ x .«max_row_height» ∷ []
+-- 2 words: place and length; the default, "(Cont.)", has 7 letters and no place (document 02, T-10)
+unfoldable pub continuation : Continuation → List ℕ
+continuation Default = no-place ∷ 7 ∷ []
+continuation (Stored n) = word32 (n .place) ∷ word32 (n .length) ∷ []
+
+-- 4 words: the widths and heights
+abbrev pub v2-sizes : V2Styles → List ℕ
+v2-sizes x = x .«min_col_width» ∷ x .«max_col_width» ∷ x .«min_row_height» ∷ x .«max_row_height» ∷ []
+
+-- 6 words
+unfoldable pub v2-numbers : V2Styles → List ℕ
+v2-numbers x = continuation (x .continuation) ++ v2-sizes x
 
 -- 0 version; 1 to 3 settings; 4 to 19 rows; 20 to 35 columns; 36 to 57 title; 58 to 211 the other areas; 212 to 255 the borders of version 02;
 -- 256 to 261 its numbers

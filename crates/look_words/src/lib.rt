@@ -17,24 +17,41 @@ use crate::borders::frames;
 use crate::borders::lines;
 use layout::Step;
 use look::Answer;
+use look::Continuation;
 use look::Look;
 use look::V2Styles;
 use look::read::read_look;
 use sizes::LOOK_ANSWER_WORDS;
 use sizes::LOOK_WORDS;
+use sizes::NO_PLACE;
 use store::words::put;
+
+fn continuation_of(out: &mut [u32], st: Step, x: Continuation) -> Step
+    ensures { λ r. ⌜ PutsWords (spec.continuation x) (now (out .entry)) st (now (out .exit)) r ⌝ }
+{
+    match x {
+        Continuation::Default => put(out, st, &[NO_PLACE, 7]),
+        Continuation::Stored(n) => put(
+            out,
+            st,
+            &[
+                (n.place % 4294967296) as u32,
+                (n.length % 4294967296) as u32,
+            ],
+        ),
+    }
+}
 
 // The six words that follow the borders of version 02.
 fn v2_numbers(out: &mut [u32], st: Step, x: V2Styles) -> Step
     ensures { λ r. ⌜ PutsWords (spec.v2-numbers x) (now (out .entry)) st (now (out .exit)) r ⌝ }
 {
     let continuation = x.continuation;
+    let st = continuation_of(out, st, continuation);
     put(
         out,
         st,
         &[
-            (continuation.place % 4294967296) as u32,
-            (continuation.length % 4294967296) as u32,
             x.min_col_width,
             x.max_col_width,
             x.min_row_height,

@@ -144,9 +144,9 @@ index-answer-words = 3
 
 -- ---- the interface for C
 
--- its version, which the header has too: 2 since a node record has seven words (our rule)
+-- its version, which the header has too: 2 since a node record has seven words, 3 since an old look has the words of a new one (our rule)
 abbrev pub abi : ℕ
-abi = 2
+abi = 3
 
 -- ---- looks
 
@@ -160,6 +160,10 @@ look-words = 262
 
 abbrev pub look-answer-words : ℕ
 look-answer-words = 2 + look-words
+
+-- the place of a continuation that stands in no file (document 02, T-10; our rule)
+abbrev pub no-place : ℕ
+no-place = 2 ^ 32 - 1
 
 -- the refusal, its place and the length of a look that was written
 abbrev pub write-answer-words : ℕ

@@ -87,8 +87,8 @@ pub const INDEX_ANSWER_WORDS: usize = 3;
 
 // ---- the interface for C
 
-// its version, which the header has too: 2 since a node record has seven words (our rule)
-pub const ABI: u32 = 2;
+// its version, which the header has too: 2 since a node record has seven words, 3 since an old look has the words of a new one (our rule)
+pub const ABI: u32 = 3;
 
 // ---- looks
 
@@ -98,5 +98,7 @@ pub const LONGEST_LOOK: usize = 3160;
 pub const LOOK_WORDS: usize = 262;
 
 pub const LOOK_ANSWER_WORDS: usize = 2 + LOOK_WORDS;
+// the place of a continuation that stands in no file (document 02, T-10; our rule)
+pub const NO_PLACE: u32 = 4294967295;
 // the refusal, its place and the length of a look that was written
 pub const WRITE_ANSWER_WORDS: usize = 3;

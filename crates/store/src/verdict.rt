@@ -12,6 +12,13 @@ pub fn high_byte(v: u64) -> u32
     if none { 0 } else { 14 }
 }
 
+pub fn known_one(v: u64, a: u64) -> u32
+    ensures { λ c. ⌜ c ≡ verdict (a-version (a ∷ [])) v ⌝ }
+{
+    let known = v == a;
+    if known { 0 } else { 4 }
+}
+
 pub fn known_two(v: u64, a: u64, b: u64) -> u32
     ensures { λ c. ⌜ c ≡ verdict (a-version (a ∷ b ∷ [])) v ⌝ }
 {

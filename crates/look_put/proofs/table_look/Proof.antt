@@ -14,10 +14,10 @@ returns c =
     let k = c₄ .before .before .before .before .before .before in
     let a = k .before .before .before .before .before .before .before .before .before .before .before .before .before .before .before .before .before .before .before .good in
     plain (k .before .before .before .before .before .section .ensures)
-    ⟫ switch-puts (λ version. grammar.settings ▸ grammar.sections version) (a .1 .1 .1 .0 .1 .1 .0 .1) (k .before .known-two .ensures) (k .number .ensures)
+    ⟫ switch-puts (λ version. grammar.settings ▸ grammar.sections grammar.V2Styles) (a .1 .1 .1 .0 .1 .1 .0 .1) (k .before .known-one .ensures) (k .number .ensures)
     (plain (c₄ .before .before .settings .ensures)
     ⟫ (plain (c₂ .before .before .before .before .before .before .separator-style .ensures) ⟫ plain (c₂ .before .before .cell-style .ensures)
-    ⟫ c .before .before .before .before .before .before .text-style .ensures ⟫ c .before .before .v2-styles-if .ensures))
+    ⟫ c .before .before .before .before .before .before .text-style .ensures ⟫ c .before .before .v2-styles .ensures))
 
 pub table-look-spec : {M : Type 1} → statement M
 table-look-spec =

@@ -6,7 +6,7 @@ returns : tie.Need-returns
 returns c =
     let c₂ = c .before .before .before .before .before .before .before .before in
     let c₄ = c₂ .before .before .before .before .before .before .before .before in
-    plain (c₄ .before .before .before .before .before .before .frames .ensures) ⟫ c₄ .before .before .name .ensures
+    plain (c₄ .before .before .before .before .before .before .frames .ensures) ⟫ c₄ .before .before .continuation-of .ensures
     ⟫ plain (c₂ .before .before .before .before .before .before .int32 .ensures) ⟫ plain (c₂ .before .before .int322 .ensures)
     ⟫ plain (c .before .before .before .before .before .before .int323 .ensures) ⟫ plain (c .before .before .int324 .ensures)
 

@@ -1,5 +1,5 @@
 -- In the words of an accepted look no place and no length of a name has lost a bit.
-use mathlib.Core.Path.{_≡_, refl}
+use mathlib.Core.Path.{_≡_, refl, subst}
 use mathlib.Core.Bool.{Bool, true, false}
 use mathlib.Core.List.{List, [], _∷_}
 use Prim.Native.Nat.{ℕ, _+_, _^_, _≤_, _<_}
@@ -15,10 +15,10 @@ use Rattle.grammar.specs.Laws.Layout as laws
 use Rattle.store.specs.Fields.{Text, lent, letters, Fields, placedAll, placed}
 use Rattle.fields.specs.Laws.Failing.{spell-most}
 use Rattle.look.specs.Look as grammar
-use Rattle.look.specs.Look.{TableLook}
+use Rattle.look.specs.Look.{TableLook, TableLook02}
 use Rattle.look.specs.Values as values
 use Rattle.look.specs.Values.{_&_}
-use Rattle.look.specs.Answers.{blank, accepted, expected, v2-data, v2-of}
+use Rattle.look.specs.Answers.{defaults, accepted, expected, v2-data, look-of}
 use Rattle.look.specs.Laws.Bounds.{bounded, most-bytes}
 
 abbrev pub KeptText : Text → Type 0
@@ -79,20 +79,21 @@ kept-separators (f ∷ fs) = all-more (no-names (eqb (f .0) 1) (f .1)) (kept-sep
 
 v2-kept : (b : Bool) (f : Fields (grammar.V2StylesIf b)) → Kept (grammar.V2StylesIf b) f → Kept grammar.V2Styles (v2-data b f)
 v2-kept true f h = h
-v2-kept false f h = kept-separators (values.frames (blank .frames)) & (refl, refl) & tt & tt & tt & tt
+v2-kept false f h = kept-separators (values.frames (defaults .frames)) & tt & tt & tt & tt & tt
 
--- whatever fields and V2 data `read_look` gives for bytes that it accepts
-pub kept : (s : List ℕ) → Bytes s → (f : Fields TableLook) (v : Fields grammar.V2Styles) → accepted f v ≡ expected (read TableLook s 0)
-    → Kept TableLook f × Kept grammar.V2Styles v
+look-kept : (f : Fields TableLook) → Kept TableLook f → Kept TableLook02 (look-of f)
+look-kept f k = (k .0, (k .1 .0, (k .1 .1 .0, v2-kept (eqb (f .1 .0) 2) (f .1 .1 .1 .1) (k .1 .1 .1))))
+
+-- whatever fields `read_look` gives for bytes that it accepts
+pub kept : (s : List ℕ) → Bytes s → (f : Fields TableLook02) → accepted f ≡ expected (read TableLook s 0) → Kept TableLook02 f
 unfolding expected
-kept s bs f v e = go (read TableLook s 0) refl e
+kept s bs f e = go (read TableLook s 0) refl e
   where
-    go : (x : Got (Tree TableLook)) → read TableLook s 0 ≡ x → accepted f v ≡ expected x → Kept TableLook f × Kept grammar.V2Styles v
+    go : (x : Got (Tree TableLook)) → read TableLook s 0 ≡ x → accepted f ≡ expected x → Kept TableLook02 f
     go (got t [] p) i j =
         let valid = laws.sound TableLook s bs 0 t [] p i .0 in
         let k : Kept TableLook (placed TableLook t 0) = kept-placed TableLook t 0 (omega (arith, short t valid)) in
-        let f≡ : f ≡ placed TableLook t 0 = cc in
-        let v≡ : v ≡ v2-of (placed TableLook t 0) = cc in
-        rw (f≡, v≡) (k, v2-kept (eqb (placed TableLook t 0 .1 .0) 2) (placed TableLook t 0 .1 .1 .1 .1) (k .1 .1 .1))
+        let e : look-of (placed TableLook t 0) ≡ f = cc in
+        subst (Kept TableLook02) e (look-kept (placed TableLook t 0) k)
     go (got t (b ∷ r) p) i j = absurd (let z : _≡_ {A = ℕ} 0 1 = cc in omega arith)
     go (no n p) i j = absurd (let z : _≡_ {A = ℕ} 0 1 = cc in omega arith)

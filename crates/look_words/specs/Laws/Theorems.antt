@@ -17,6 +17,8 @@ use Rattle.look.specs.declared.Lines.{Lines}
 use Rattle.look.specs.declared.Area.{Area}
 use Rattle.look.specs.declared.MostAreas.{MostAreas}
 use Rattle.look.specs.declared.Frames.{Frames}
+use Rattle.look.specs.declared.Continuation.{Continuation}
+use Rattle.look.specs.declared.Continuation.the-variants.{Default, Stored}
 use Rattle.look.specs.declared.V2Styles.{V2Styles}
 use Rattle.look.specs.declared.Look.{Look}
 use Rattle.look.specs.declared.Answer.{Answer}
@@ -61,9 +63,14 @@ areas-same : (title : Area) (most : MostAreas)
 unfolding words textWords spellAll named.area named.most-areas
 areas-same title most = refl
 
+continuation-same : (x : Continuation) → textWords (values.continuation x) ≡ named.continuation x
+unfolding textWords named.continuation values.default-continuation
+continuation-same Default = refl
+continuation-same (Stored n) = refl
+
 v2-same : (x : V2Styles) → words grammar.V2Styles (values.v2-styles x) ≡ named.frames (x .frames) ++ named.v2-numbers x
-unfolding words textWords separators
-v2-same x = rw (← (frames-same (x .frames))) (simp append-assoc)
+unfolding words separators named.v2-numbers
+v2-same x = rw (← (frames-same (x .frames)), ← (continuation-same (x .continuation))) (simp append-assoc)
 
 three : (a b c : Layout) (f : Fields a) (g : Fields b) (h : Fields c) → words (a ▸ b ▸ c) (f & g & h) ≡ words a f ++ (words b g ++ words c h)
 unfolding words
@@ -72,8 +79,7 @@ three a b c f g h = append-assoc (words a f) (words b g) (words c h)
 regroup : (s r c t m f n : List ℕ) → s ++ ((r ++ c) ++ (t ++ m)) ++ (f ++ n) ≡ s ++ r ++ c ++ t ++ m ++ f ++ n
 regroup s r c t m f n = simp append-assoc
 
--- for every look, whatever its version
-pub in-order : (x : Look) → fieldWords (values.fields x) (values.v2-styles (x .v2)) ≡ lookWords x
+pub in-order : (x : Look) → fieldWords (values.fields x) ≡ lookWords x
 unfolding fieldWords lookWords
 in-order x =
     rw (
@@ -92,9 +98,14 @@ unfolding named.separator
 separator-long NotDrawn = refl
 separator-long (Drawn color style width) = refl
 
+continuation-long : (x : Continuation) → length (named.continuation x) ≡ 2
+unfolding named.continuation
+continuation-long Default = refl
+continuation-long (Stored n) = refl
+
 pub look-long : (x : Look) → length (lookWords x) ≡ look-words
-unfolding lookWords named.four named.area named.most-areas named.frames
-look-long x = simp (length-append, separator-long)
+unfolding lookWords named.four named.area named.most-areas named.frames named.v2-numbers
+look-long x = simp (length-append, separator-long, continuation-long)
 
 -- ---- an answer of the code
 

@@ -1,8 +1,8 @@
 -- Writing a look is refused exactly where Refused.antt says so, by that number and at that place.
 use mathlib.Core.Path.{_≡_, refl, sym, ap, _∙_}
 use mathlib.Core.Logic.{_↔_, _⊎_, inl, inr}
-use mathlib.Core.Bool.{Bool, true, false, false≢true, _&&_, _||_, not}
-use mathlib.Core.List.{List, [], _∷_}
+use mathlib.Core.Bool.{Bool, true, false, _||_}
+use mathlib.Core.List.{List}
 use Prim.Native.Nat.{ℕ, _≤_}
 use native.Mathlib.Nat.{zero-add}
 use native.Mathlib.Omega.{arith}
@@ -14,7 +14,7 @@ use Rattle.layout.specs.declared.Step.{Step}
 use Rattle.layout.specs.declared.Step.the-variants as step
 use Rattle.layout.specs.declared.Step.the-variants.{Next}
 use Rattle.sizes.specs.Basics.{among, pick}
-use Rattle.grammar.specs.Layout.{a-version, passes}
+use Rattle.grammar.specs.Layout.{passes}
 use Rattle.layout.specs.Reads.{chain}
 use Rattle.store.specs.Check.{check}
 use Rattle.store.specs.Check.{placeOf}
@@ -22,79 +22,49 @@ use Rattle.store.specs.Fields.{bytesIn}
 use Rattle.store.specs.Unwritable.{Writable}
 use Rattle.store.specs.Laws.Exactly.{writable-exactly, unwritable-exactly}
 use Rattle.look.specs.declared.Look.{Look}
-use Rattle.look.specs.Look.{TableLook}
+use Rattle.look.specs.Look.{TableLook02}
 use Rattle.look.specs.Values as values
 use Rattle.look.specs.Laws.Bounds.{look-most}
-use Rattle.look_write.specs.Writing.{no-v2, file, stray, ending, writing, Fits}
-use Rattle.look_write.specs.Refused.{Refused, field, v2-lost, too-short, Allowed}
-
--- ---- V2 data that a version does not hold: the version is 00 or 02 once the fields can be written
-
-module _ (v : ℕ) (blank : Bool) where
-  lost : passes (a-version (0 ∷ 2 ∷ [])) v ≡ true → not (eqb v 2) && not blank ≡ true → (v ≡ 0) × (blank ≡ false)
-  unfolding passes among
-  lost h = go (eqb v 0) refl (eqb v 2) blank h
-    where
-      go : (a : Bool) → eqb v 0 ≡ a → (b c : Bool) → (a || (b || false)) ≡ true → not b && not c ≡ true → (v ≡ 0) × (c ≡ false)
-      go a i true c h e = absurd (false≢true e)
-      go a i false true h e = absurd (false≢true e)
-      go true i false false h e = (eqb-true v 0 i, refl)
-      go false i false false h e = absurd (false≢true h)
-
-  held : not (eqb v 2) && not blank ≡ false → v ≡ 0 → blank ≡ true
-  held e i = go blank (rw i at e)
-    where
-      go : (c : Bool) → not c ≡ false → c ≡ true
-      go true e = refl
-      go false e = sym e
-
-  held-so : passes (a-version (0 ∷ 2 ∷ [])) v ≡ true → (v ≡ 0 → blank ≡ true) → not (eqb v 2) && not blank ≡ false
-  held-so h k = go (not (eqb v 2) && not blank) refl
-    where
-      go : (b : Bool) → not (eqb v 2) && not blank ≡ b → b ≡ false
-      go true e = let l = lost h e in absurd (false≢true (sym (l .1) ∙ k (l .0)))
-      go false e = refl
-
--- ---- what is answered
+use Rattle.look_write.specs.Writing.{file, ending, writing, Fits}
+use Rattle.look_write.specs.Refused.{Refused, field, too-short, Allowed}
 
 module _ (x : Look) (s : List ℕ) (room : ℕ) where
+  -- ---- what is answered
+
   data Answers : Step → Type 0 where
     can : (n : ℕ) → Allowed x s room → n ≡ length (file x s) → Answers (Next n)
     can-not : {n p : ℕ} → Refused x s room n p → Answers (step.Refused n p)
 
   -- once the fields can be written
-  ends : (n : ℕ) → Writable TableLook s (values.fields x) → n ≡ length (file x s) → Answers (ending x room n)
-  unfolding ending stray pick
-  ends n w i = go (stray x) refl (leb n room) refl
+  ends : (n : ℕ) → Writable TableLook02 s (values.fields x) → n ≡ length (file x s) → Answers (ending room n)
+  unfolding ending pick
+  ends n w i = go (leb n room) refl
     where
-      go : (a : Bool) → stray x ≡ a → (b : Bool) → leb n room ≡ b → Answers (pick a (step.Refused 16 n) (pick b (Next n) (step.Refused 15 0)))
-      go true e b f = let l = lost (x .version) (no-v2 (x .v2)) (w .1 .0) e in rw i (can-not (v2-lost w (l .0) (l .1)))
-      go false e true f =
-          can n record { fields = w; v2 = held (x .version) (no-v2 (x .v2)) e; fits = rw i at (leb-true n room f) } i
-      go false e false f = can-not (too-short w (held (x .version) (no-v2 (x .v2)) e) (rw i at (leb-false n room f)))
+      go : (b : Bool) → leb n room ≡ b → Answers (pick b (Next n) (step.Refused 15 0))
+      go true f = can n record { fields = w; fits = rw i at (leb-true n room f) } i
+      go false f = can-not (too-short w (rw i at (leb-false n room f)))
 
   answers : Answers (writing x s room)
   unfolding writing chain bytesIn file
-  answers = go (check TableLook s (values.fields x) 0) refl
+  answers = go (check TableLook02 s (values.fields x) 0) refl
     where
-      go : (c : Step) → check TableLook s (values.fields x) 0 ≡ c → Answers (chain c (ending x room))
-      go (Next n) e = let q = writable-exactly TableLook s (values.fields x) 0 n .0 e in ends n (q .0) (q .1 ∙ zero-add (length (file x s)))
-      go (step.Refused n p) e = can-not (field (unwritable-exactly TableLook s (values.fields x) 0 n p .0 e))
+      go : (c : Step) → check TableLook02 s (values.fields x) 0 ≡ c → Answers (chain c (ending room))
+      go (Next n) e = let q = writable-exactly TableLook02 s (values.fields x) 0 n .0 e in ends n (q .0) (q .1 ∙ zero-add (length (file x s)))
+      go (step.Refused n p) e = can-not (field (unwritable-exactly TableLook02 s (values.fields x) 0 n p .0 e))
 
   -- what can be written passes the check
-  checked : Writable TableLook s (values.fields x) → check TableLook s (values.fields x) 0 ≡ Next (length (file x s))
+  checked : Writable TableLook02 s (values.fields x) → check TableLook02 s (values.fields x) 0 ≡ Next (length (file x s))
   unfolding bytesIn file
-  checked w = writable-exactly TableLook s (values.fields x) 0 (length (file x s)) .1 (w, sym (zero-add (length (file x s))))
+  checked w = writable-exactly TableLook02 s (values.fields x) 0 (length (file x s)) .1 (w, sym (zero-add (length (file x s))))
 
   refused : {n p : ℕ} → Refused x s room n p → writing x s room ≡ step.Refused n p
-  unfolding writing ending stray chain pick
-  refused (field {n} {p} u) = rw (unwritable-exactly TableLook s (values.fields x) 0 n p .1 u)
-  refused (v2-lost w i e) = rw (checked w, i, e)
-  refused (too-short w h l) = rw (checked w, held-so (x .version) (no-v2 (x .v2)) (w .1 .0) h, lt-leb (length (file x s)) room l)
+  unfolding writing ending chain pick
+  refused (field {n} {p} u) = rw (unwritable-exactly TableLook02 s (values.fields x) 0 n p .1 u)
+  refused (too-short w l) = rw (checked w, lt-leb (length (file x s)) room l)
 
   allowed : Allowed x s room → writing x s room ≡ Next (length (file x s))
-  unfolding writing ending stray chain pick
-  allowed a = rw (checked (a .fields), held-so (x .version) (no-v2 (x .v2)) (a .fields .1 .0) (a .v2), le-leb (length (file x s)) room (a .fits))
+  unfolding writing ending chain pick
+  allowed a = rw (checked (a .fields), le-leb (length (file x s)) room (a .fits))
 
   -- Exactly: refused by n at p where the look is so refused, and nowhere else
   pub refused-exactly : (n p : ℕ) → (writing x s room ≡ step.Refused n p) ↔ Refused x s room n p
@@ -129,17 +99,25 @@ module _ (x : Look) (s : List ℕ) (room : ℕ) where
   -- Places: the place of a refusal, and the length, are no farther than the longest look reaches
   pub place-within : Fits x s → placeOf (writing x s room) ≤ longest-look
   unfolding writing ending chain pick
-  place-within fits = go (check TableLook s (values.fields x) 0) (look-most .is s (values.fields x) 0 (fits .is))
+  place-within fits = go (check TableLook02 s (values.fields x) 0) (look-most .is s (values.fields x) 0 (fits .is))
     where
-      end : (m : ℕ) (a b : Bool) → m ≤ longest-look → placeOf (pick a (step.Refused 16 m) (pick b (Next m) (step.Refused 15 0))) ≤ longest-look
-      end m true b h = h
-      end m false true h = h
-      end m false false h = omega arith
+      end : (m : ℕ) (b : Bool) → m ≤ longest-look → placeOf (pick b (Next m) (step.Refused 15 0)) ≤ longest-look
+      end m true h = h
+      end m false h = omega arith
 
-      go : (c : Step) → placeOf c ≤ longest-look → placeOf (chain c (ending x room)) ≤ longest-look
-      go (Next m) h = end m (stray x) (leb m room) h
+      go : (c : Step) → placeOf c ≤ longest-look → placeOf (chain c (ending room)) ≤ longest-look
+      go (Next m) h = end m (leb m room) h
       go (step.Refused n p) h = h
 
   -- Once: by one number, at one place
   pub one-refusal : (n p n′ p′ : ℕ) → Refused x s room n p → Refused x s room n′ p′ → (n ≡ n′) × (p ≡ p′)
   one-refusal n p n′ p′ f f′ = let e = sym (refused f) ∙ refused f′ in (cc, cc)
+
+-- what can be written is of version 02
+pub version-written : (x : Look) (s : List ℕ) → Writable TableLook02 s (values.fields x) → x .version ≡ 2
+unfolding passes among
+version-written x s w = eqb-true (x .version) 2 (go (eqb (x .version) 2) (w .1 .0))
+  where
+    go : (b : Bool) → b || false ≡ true → b ≡ true
+    go true h = refl
+    go false h = h

@@ -12,12 +12,12 @@ read-look-spec =
     (λ c.
     let k = c .before .before .before .before .before in
     let b = bytes-of (k .before .before .args .file .now) (k .before .shared-slice-known .given) in
-    (when-left (k .table-look .result .value) (k .table-look .ensures .0) b (c .before .before .next .given .1) (c .if1 .taken), b))
+    (when-left (k .table-look .result .value) (k .table-look .ensures) b (c .before .before .next .given .1) (c .if1 .taken), b))
     (λ c.
     let k = c .before .before .before .before .before in
     let b = bytes-of (k .before .before .args .file .now) (k .before .shared-slice-known .given) in
-    (when-read (k .table-look .result .value) (k .table-look .ensures .0) b (c .before .before .next .given .1) (k .table-look .ensures .1) (c .if1 .left), b))
+    (when-read (k .table-look .result .value) (k .table-look .ensures) b (c .before .before .next .given .1) (c .if1 .left), b))
     (λ c.
     let k = c .before .before .before .before in
     let b = bytes-of (k .before .before .args .file .now) (k .before .shared-slice-known .given) in
-    (when-refused (k .table-look .ensures .0 .reads) (c .before .next2 .given .1), b)))
+    (when-refused (k .table-look .ensures .reads) (c .before .next2 .given .1), b)))

@@ -1,11 +1,8 @@
 use borrow.Author.Needs.{needs}
-use Rattle.grammar.specs.Layout.{little, _▸_}
 use Rattle.layout.specs.Steps.Numbers.{tested-of}
-use Rattle.fields.specs.Laws.Gives.{switch-gives, _⟩_}
-use Rattle.layout.specs.Steps.Slices.{bytes-of}
-use Rattle.fields.specs.Laws.Slices.{peek-lt}
-use Rattle.look.specs.Look as grammar
+use Rattle.fields.specs.Laws.Gives.{_⟩_}
 use Rattle.look.specs.Look.{PTTableLook-name}
+use Rattle.look.proofs.Versions.{look-shows}
 use Rattle.look.proofs.read.table_look.Statement.{statement}
 use Rattle.look.proofs.read.table_look.Tie as tie
 
@@ -17,16 +14,9 @@ table-look-spec =
     (λ c. search needs) (λ _ _. tt) (λ _ _. tt) (λ _ _. tt) (λ _ _. tt) (λ _ _. tt) (λ _ _. tt) (λ _ _. tt) (λ _ _. tt)
     (λ _ _. tt)
     (λ c.
-    let k = c .before .before .before .before .before .before .before .before .before .before .before .before .before .before .before in
-    let a = k .before .before in
-    let v = c .before .before .before .before .before .before .before .before .before .before .before .before .before .before .peek in
-    record { fits = rw (v .ensures) (peek-lt little 1 (a .before .args .s .now) (bytes-of (a .before .args .s .now) (a .shared-slice-known .given)) (k .section .result)) })
-    (λ c.
-    let v = c .before .v2-styles-if .ensures in
-    let k = c .before .before .before .before .before .before .before .before .before .before .before .before .before .before .before in (
-      k .section .ensures
-          ⟩ switch-gives (λ version. grammar.settings ▸ grammar.sections version) (c .before .before .before .before .before .before .before .before .before .before .before .before .before .before .peek .ensures)
-          (tested-of (c .before .before .before .before .before .before .before .before .before .before .before .before .field .ensures) (c .before .before .before .before .before .before .before .before .before .before .before .before .before .known-two .ensures) (c .before .before .before .before .before .before .before .before .before .before .before .before .before .before .peek .ensures))
-          ((c .before .before .before .before .before .before .before .before .before .before .before .settings .ensures) ⟩ ((c .before .before .before .before .before .before .before .before .before .separator-style .ensures) ⟩ (c .before .before .before .before .before .before .cell-style .ensures) ⟩ (c .before .before .before .before .text-style .ensures) ⟩ v .0)),
-      v .1,
-    )))
+    let k = c .before .before .before .before .before .before .before .before .before .before .before .before .before .before in
+    look-shows (k .peek .result) (k .before .section .ensures) (k .peek .ensures)
+    (tested-of (c .before .before .before .before .before .before .before .before .before .before .before .before .field .ensures) (c .before .before .before .before .before .before .before .before .before .before .before .before .before .known-two .ensures) (k .peek .ensures))
+    (c .before .before .before .before .before .before .before .before .before .before .before .settings .ensures)
+    (c .before .before .before .before .before .before .before .before .before .separator-style .ensures ⟩ c .before .before .before .before .before .before .cell-style .ensures ⟩ c .before .before .before .before .text-style .ensures)
+    (c .before .v2-styles-if .ensures)))
