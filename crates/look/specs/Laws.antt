@@ -1,3 +1,4 @@
 -- The laws of looks.
 pub mod Bounds
+pub mod Defaults
 pub mod RefusedExactly

@@ -4,7 +4,7 @@
 use mathlib.Core.Path.{_≡_, refl, sym, ap, subst, _∙_}
 use mathlib.Core.Logic.{_↔_}
 use mathlib.Core.Bool.{Bool, true, false, false≢true}
-use mathlib.Core.List.{List, [], _∷_, _++_, append-nil}
+use mathlib.Core.List.{List, [], _∷_, _++_, append-nil, append-assoc}
 use Prim.Native.Nat.{ℕ, _+_, _^_, _<_}
 use native.Mathlib.Nat.{zero-add}
 use native.Mathlib.Omega.{arith}
@@ -29,6 +29,7 @@ use Rattle.look.specs.Look.{TableLook, TableLook02}
 use Rattle.look.specs.Values as values
 use Rattle.look.specs.Values.{_&_}
 use Rattle.look.specs.Answers.{defaults, accepted, outcome, v2-data, look-of, expected}
+use Rattle.look.specs.Laws.Defaults.{default-tree, default-bytes, default-spells}
 use Rattle.look_write.specs.Writing.{file, ending, writing, Fits}
 use Rattle.look_write.specs.Laws.RefusedExactly.{written-exactly, version-written}
 use Rattle.store.specs.Laws.Trees.{Stands, resolve-placed, writable-placed, valid-resolved}
@@ -46,10 +47,6 @@ unfolding file
 same-file h = ap (spell TableLook02) (h .all)
 
 -- ---- the look that a file is
-
--- V2Styles where it is absent
-default-tree : Tree grammar.V2Styles
-default-tree = resolve grammar.V2Styles [] (values.v2-styles defaults)
 
 abbrev v2-part : (b : Bool) → Tree (grammar.V2StylesIf b) → Tree grammar.V2Styles
 v2-part true t = t
@@ -86,7 +83,7 @@ derived-02 w v e = record {
   spells = ap (λ (n : ℕ). spell TableLook02 (w .0, (n, w .1 .1))) (sym e);
 }
 
--- ---- how long the file of a look is
+-- ---- the file of a look
 
 -- what follows the version, in the file and in the look
 module _ (b : Bool) (t : Tree (grammar.settings ▸ grammar.sections (grammar.V2StylesIf b))) where
@@ -99,34 +96,19 @@ unfolding after spell
 same-after true t e = refl
 same-after false t e = absurd (false≢true e)
 
--- what an old file gets: eleven separators, four of them drawn, the continuation and four numbers
-abbrev pub added : ℕ
-added = 78
+behind : (p q r : List ℕ) → p ++ (q ++ r) ≡ p ++ (q ++ []) ++ r
+behind p q r = rw (append-nil q) (sym (append-assoc p q r))
 
-default-long : length (spell grammar.V2Styles default-tree) ≡ added
-unfolding spell spellAll digits le default-tree resolve resolveAll textOf values.default-continuation
-default-long = refl
-
-appended : (p q r : List ℕ) → length (p ++ (q ++ r)) ≡ length (p ++ (q ++ [])) + length r
-appended p q r = rw (length-append p (q ++ r), length-append q r, length-append p (q ++ []), length-append q []) (omega arith)
-
-one-more : (a c v : Layout) (x : Tree a) (y : Tree c) (z : Tree v) → length (spell (a ▸ (c ▸ v)) (x, (y, z))) ≡ length (spell (a ▸ (c ▸ empty)) (x, (y, tt))) + length (spell v z)
-unfolding spell
-one-more a c v x y z = appended (spell a x) (spell c y) (spell v z)
-
-longer-after : (b : Bool) (t : Tree (grammar.settings ▸ grammar.sections (grammar.V2StylesIf b))) → b ≡ false
-    → length (spell (grammar.settings ▸ grammar.sections grammar.V2Styles) (after b t)) ≡ length (spell (grammar.settings ▸ grammar.sections (grammar.V2StylesIf b)) t) + added
-unfolding after
-longer-after true t e = absurd (false≢true (sym e))
-longer-after false t e =
-    one-more grammar.settings (grammar.PVSeparatorStyle ▸ grammar.PVCellStyle ▸ grammar.PVTextStyle) grammar.V2Styles (t .0) (t .1 .0) default-tree
-    ∙ rw default-long
+default-after : (b : Bool) (t : Tree (grammar.settings ▸ grammar.sections (grammar.V2StylesIf b))) → b ≡ false
+    → spell (grammar.settings ▸ grammar.sections grammar.V2Styles) (after b t) ≡ spell (grammar.settings ▸ grammar.sections (grammar.V2StylesIf b)) t ++ default-bytes
+unfolding after spell
+default-after true t e = absurd (false≢true (sym e))
+default-after false t e =
+    ap (λ (d : List ℕ). spell grammar.settings (t .0) ++ (spell (grammar.PVSeparatorStyle ▸ grammar.PVCellStyle ▸ grammar.PVTextStyle) (t .1 .0) ++ d)) default-spells
+    ∙ behind (spell grammar.settings (t .0)) (spell (grammar.PVSeparatorStyle ▸ grammar.PVCellStyle ▸ grammar.PVTextStyle) (t .1 .0)) default-bytes
 
 same-rest : (p : List ℕ) {d d′ q q′ : List ℕ} → d ≡ d′ → q ≡ q′ → p ++ (d ++ q) ≡ p ++ (d′ ++ q′)
 same-rest p e i = rw (e, i)
-
-longer-rest : (n : ℕ) (p d d′ q q′ : List ℕ) → length d ≡ length d′ → length q ≡ length q′ + n → length (p ++ (d ++ q)) ≡ length (p ++ (d′ ++ q′)) + n
-longer-rest n p d d′ q q′ e i = rw (length-append p (d ++ q), length-append d q, length-append p (d′ ++ q′), length-append d′ q′, e, i) (omega arith)
 
 -- a file of version 02 is that of its look
 look-bytes : (t : Tree TableLook) → t .1 .0 ≡ 2 → spell TableLook02 (look-tree t) ≡ spell TableLook t
@@ -135,13 +117,33 @@ look-bytes t e =
     same-rest (spell (grammar.section grammar.PTTableLook-name) (t .0)) (ap (digits little 1) (sym e))
     (same-after (eqb (t .1 .0) 2) (t .1 .1) (eq-eqb (t .1 .0) 2 e))
 
--- the look of an old file has a longer one
-look-longer : (t : Tree TableLook) → t .1 .0 ≡ 0 → length (spell TableLook02 (look-tree t)) ≡ length (spell TableLook t) + added
-unfolding look-tree spell after
-look-longer t e =
-    longer-rest added (spell (grammar.section grammar.PTTableLook-name) (t .0)) (digits little 1 2) (digits little 1 (t .1 .0)) _ _
-    (laws.digits-length little 1 2 ∙ sym (laws.digits-length little 1 (t .1 .0)))
-    (longer-after (eqb (t .1 .0) 2) (t .1 .1) (ne-eqb (t .1 .0) 2 (λ i. omega (arith, e, i))))
+-- an old file xs, and the file ys of its look: the version differs, and the defaults stand behind
+pub record Renewed (xs ys : List ℕ) : Type 0 where
+  pub front : List ℕ
+  pub rest : List ℕ
+  pub before : length front ≡ 17
+  pub old : xs ≡ front ++ 0 ∷ rest
+  pub new : ys ≡ front ++ 2 ∷ (rest ++ default-bytes)
+
+-- it is 78 bytes longer
+pub renewed-long : {xs ys : List ℕ} → Renewed xs ys → length ys ≡ length xs + 78
+unfolding default-bytes
+renewed-long r =
+    rw (r .old, r .new, length-append (r .front) (2 ∷ (r .rest ++ default-bytes)), length-append (r .front) (0 ∷ r .rest), length-append (r .rest) default-bytes) (omega arith)
+
+version-before : (t : Tree (grammar.section grammar.PTTableLook-name)) → length (spell (grammar.section grammar.PTTableLook-name) t) ≡ 17
+unfolding spell grammar.PTTableLook-name
+version-before t = simp (length-append, laws.digits-length)
+
+look-renewed : (t : Tree TableLook) → t .1 .0 ≡ 0 → Renewed (spell TableLook t) (spell TableLook02 (look-tree t))
+unfolding look-tree spell after digits le
+look-renewed t e = record {
+  front = spell (grammar.section grammar.PTTableLook-name) (t .0);
+  rest = spell (grammar.settings ▸ grammar.sections (grammar.V2StylesIf (eqb (t .1 .0) 2))) (t .1 .1);
+  before = version-before (t .0);
+  old = ap (λ (d : List ℕ). spell (grammar.section grammar.PTTableLook-name) (t .0) ++ (d ++ spell (grammar.settings ▸ grammar.sections (grammar.V2StylesIf (eqb (t .1 .0) 2))) (t .1 .1))) (ap (digits little 1) e);
+  new = same-rest (spell (grammar.section grammar.PTTableLook-name) (t .0)) {d = digits little 1 2} {d′ = digits little 1 2} refl (default-after (eqb (t .1 .0) 2) (t .1 .1) (ne-eqb (t .1 .0) 2 (λ i. omega (arith, e, i))));
+}
 
 -- ---- the look of a file can be written
 
@@ -296,11 +298,18 @@ module _ (bs : List ℕ) (h : Bytes bs) (y : Look) (i : outcome (answer.Accepted
   unfolding file
   rewritten-bytes e = ap (spell TableLook02) all-are ∙ look-bytes (of-file .tree) e ∙ of-file .spells
 
-  -- of version 00: they are so many more
-  pub rewritten-longer : of-file .tree .1 .0 ≡ 0 → length (file y bs) ≡ length bs + added
+  -- of version 00: they are the file's with another version, and the defaults
+  pub rewritten-old : of-file .tree .1 .0 ≡ 0 → Renewed bs (file y bs)
   unfolding file
-  rewritten-longer e =
-      ap length (ap (spell TableLook02) all-are) ∙ look-longer (of-file .tree) e ∙ ap (λ (xs : List ℕ). length xs + added) (of-file .spells)
+  rewritten-old e =
+      let r = look-renewed (of-file .tree) e in
+      record {
+        front = r .front;
+        rest = r .rest;
+        before = r .before;
+        old = sym (of-file .spells) ∙ r .old;
+        new = ap (spell TableLook02) all-are ∙ r .new;
+      }
 
   -- they read as the look that was answered
   pub rewritten-reads-same : (a : Answer) → outcome a ≡ expected (read TableLook (file y bs) 0) → (z : Look) × (a ≡ answer.Accepted z) × Same y bs z (file y bs)

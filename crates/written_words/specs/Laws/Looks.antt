@@ -1,7 +1,7 @@
 -- What a look that is written again is: a file of version 02 as it was; of version 00 the file of version 02 that reads as what was answered.
 use mathlib.Core.Path.{_≡_, ap, _∙_}
 use mathlib.Core.List.{List, _++_}
-use Prim.Native.Nat.{ℕ, _+_, _≤_}
+use Prim.Native.Nat.{ℕ, _≤_}
 use lib.ListN.{length, drop}
 use borrow.Author.Tests.{le-leb}
 use Rattle.sizes.specs.Sizes.{write-answer-words}
@@ -15,7 +15,7 @@ use Rattle.look.specs.Look.{TableLook}
 use Rattle.look.specs.Answers.{outcome, expected}
 use Rattle.look_write.specs.Writing.{file, output}
 use Rattle.look_write.specs.Laws.Theorems as looks
-use Rattle.look_write.specs.Laws.Theorems.{added, Same}
+use Rattle.look_write.specs.Laws.Theorems.{Renewed, Same}
 use Rattle.written_words.specs.Looks.{Rewritten}
 
 -- `digarumbi_rewrite_look`, of a file that has a derivation
@@ -52,10 +52,10 @@ module _ {s out answer : List ℕ} {n : ℕ} {out′ answer′ : List ℕ} (bs :
   unfolding the-file
   same-bytes e = looks.rewritten-bytes s bs the-look is-read (version-of e)
 
-  -- "Rewriting one gives a version 02 file that reads as that look", 78 bytes longer
-  pub old-longer : d .tree .1 .0 ≡ 0 → length the-file ≡ length s + added
+  -- "Rewriting one gives a version 02 file that reads as that look": the file with another version and the defaults behind it, 78 bytes longer
+  pub old-renewed : d .tree .1 .0 ≡ 0 → Renewed s the-file
   unfolding the-file
-  old-longer e = looks.rewritten-longer s bs the-look is-read (version-of e)
+  old-renewed e = looks.rewritten-old s bs the-look is-read (version-of e)
 
   pub reads-same : (a : LookAnswer) → outcome a ≡ expected (read TableLook the-file 0)
       → (y : Look) × (a ≡ look.Accepted y) × Same the-look s y the-file
