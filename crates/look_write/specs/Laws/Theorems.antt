@@ -48,12 +48,12 @@ same-file h = ap (spell TableLook02) (h .all)
 
 -- ---- the look that a file is
 
-abbrev v2-part : (b : Bool) → Tree (grammar.V2StylesIf b) → Tree grammar.V2Styles
+abbrev pub v2-part : (b : Bool) → Tree (grammar.V2StylesIf b) → Tree grammar.V2Styles
 v2-part true t = t
 v2-part false t = default-tree
 
 -- its tree, as one of version 02
-look-tree : Tree TableLook → Tree TableLook02
+unfoldable pub look-tree : Tree TableLook → Tree TableLook02
 look-tree t = (t .0, (2, (t .1 .1 .0, (t .1 .1 .1 .0, v2-part (eqb (t .1 .0) 2) (t .1 .1 .1 .1)))))
 
 resolve-v2 : (b : Bool) (s : List ℕ) (f : Fields (grammar.V2StylesIf b)) → resolve grammar.V2Styles s (v2-data b f) ≡ v2-part b (resolve (grammar.V2StylesIf b) s f)
@@ -290,7 +290,8 @@ module _ (bs : List ℕ) (h : Bytes bs) (y : Look) (i : outcome (answer.Accepted
   unfolding expected
   fields-are = let e = i ∙ ap expected (laws.derived TableLook bs of-file) in cc
 
-  all-are : resolve TableLook02 bs (values.fields y) ≡ look-tree (of-file .tree)
+  -- and resolved from its bytes they are the derivation's
+  pub all-are : resolve TableLook02 bs (values.fields y) ≡ look-tree (of-file .tree)
   all-are = ap (resolve TableLook02 bs) fields-are ∙ resolved bs (of-file .tree) (of-file .spells)
 
   -- of version 02: the bytes that `write_look` gives are those of the file
@@ -326,7 +327,7 @@ module _ (bs : List ℕ) (h : Bytes bs) (y : Look) (i : outcome (answer.Accepted
       let e : r .0 ≡ z = is-look (r .1) in
       ap (λ (u : Look). file u (file y bs)) (sym e) ∙ sym (same-file (r .2))
 
-  can-be-written : Writable TableLook02 bs (values.fields y)
+  pub can-be-written : Writable TableLook02 bs (values.fields y)
   can-be-written =
       subst (Writable TableLook02 bs) (sym fields-are)
       (look-writable bs (placed TableLook (of-file .tree) 0)
