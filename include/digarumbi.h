@@ -30,9 +30,10 @@ extern "C" {
  *         stop: the records do not have the words that this header says
  *
  * Before 2 there was no number, and node records had 6 words; in 2 they have 7 (02, T-07). An archive from before doesn't link with such a
- * program. A program compiled with a header from before doesn't ask: compile it anew. The number grows whenever a program that was
- * compiled with an older header would misread an answer or a record. */
-#define DIGARUMBI_ABI UINT32_C(2)
+ * program. A program compiled with a header from before doesn't ask: compile it anew. In 2 a version 00 look was answered as version 00, with
+ * zeros where its file ends; in 3 it is answered as version 02 with 002's defaults, and the words of its continuation are no place in the
+ * file (02, T-10). The number grows whenever a program that was compiled with an older header would misread an answer or a record. */
+#define DIGARUMBI_ABI UINT32_C(3)
 
 uint32_t digarumbi_abi(void);
 
@@ -62,8 +63,6 @@ uint32_t digarumbi_abi(void);
  *   13   cell area shorter than 3 words a cell                                    0
  *   14   look: a color's high byte not 0                                          the color
  *   15   look writer, text, totals of a dimension: output too short               0
- *   16   look writer: version 00 with V2 data not all zero, undrawn and with an   where V2 would stand
- *        empty continuation
  *   18   a zero byte inside a string of a member                                  its first length byte
  *   19   totals: a dimension or leaf that isn't there                             0
  *   20   totals: a number under the leaf that is no count                         the Value of the first such cell
@@ -74,6 +73,8 @@ uint32_t digarumbi_abi(void);
  *   25   text: a byte without an entry in the page; a character that has none,    that byte / first byte of that
  *        or isn't UTF-8 in its shortest form                                      character
  *   26   a list of more than 64 members, or of an odd number of words             0
+ *
+ * 16 was withdrawn (02, T-10). Neither it nor 17 is given.
  *
  * Number 7 stands at the count for dimensions, footnotes and cells; at the first byte of the 4,097th category; at the first byte of a
  * Value or category that is too deep; for the product of all n at the first axis count; at a look's shading byte above 10; at 0 for
@@ -98,7 +99,6 @@ enum {
     DIGARUMBI_REFUSED_CELL_AREA = 13,
     DIGARUMBI_REFUSED_COLOR = 14,
     DIGARUMBI_REFUSED_OUTPUT_TOO_SHORT = 15,
-    DIGARUMBI_REFUSED_V2_DATA = 16,
     DIGARUMBI_REFUSED_ZERO_BYTE = 18,
     DIGARUMBI_REFUSED_NO_SUCH_LEAF = 19,
     DIGARUMBI_REFUSED_NO_COUNT = 20,
@@ -146,8 +146,6 @@ static inline const char *digarumbi_refusal_text(uint32_t number)
         return "a color's high byte not 0";
     case DIGARUMBI_REFUSED_OUTPUT_TOO_SHORT:
         return "output too short";
-    case DIGARUMBI_REFUSED_V2_DATA:
-        return "version 00 with V2 data not all zero, undrawn and with an empty continuation";
     case DIGARUMBI_REFUSED_ZERO_BYTE:
         return "a zero byte inside a string";
     case DIGARUMBI_REFUSED_NO_SUCH_LEAF:
@@ -515,10 +513,15 @@ enum {
     DIGARUMBI_REWRITE_ANSWER = 3 /* words of the answer of digarumbi_rewrite_look */
 };
 
-/* Words of a look, counted from its first. Those from DIGARUMBI_LOOK_V2_SEPARATORS on are 0 in a look of version 00, whose file doesn't have
- * them. */
+/* Files of version 00 and 02 are accepted. The version of an accepted file is its byte DIGARUMBI_LOOK_VERSION_PLACE, 0 or 2; what is answered is
+ * a version 02 look for both (02, T-10). A version 00 file ends where 002's V2Styles would begin, so the words from
+ * DIGARUMBI_LOOK_V2_SEPARATORS on are then 002's defaults: the four separators of the inner frame drawn with color 0, style 0 and width 1, the
+ * other seven not drawn, the default continuation, widths of 36 and 72, heights of 36 and 120. */
+#define DIGARUMBI_LOOK_VERSION_PLACE 17
+
+/* Words of a look, counted from its first. */
 enum {
-    DIGARUMBI_LOOK_VERSION = 0, /* 0 or 2 */
+    DIGARUMBI_LOOK_VERSION = 0, /* 2 for every accepted look */
     DIGARUMBI_LOOK_FLAGS = 1,
     DIGARUMBI_LOOK_NESTED_ROW_LABELS = 2,          /* 0 or 1 */
     DIGARUMBI_LOOK_FOOTNOTE_MARKER_SUBSCRIPTS = 3, /* 0 or 1 */
@@ -528,13 +531,18 @@ enum {
     DIGARUMBI_LOOK_AREAS = 58,                     /* layers, corner, row labels, column labels, data, caption, footer */
     DIGARUMBI_LOOK_V2_SEPARATORS = 212,            /* title; inner frame left, right, top, bottom; outer frame likewise; left and top of
                                                       the data area (sep3) */
-    DIGARUMBI_LOOK_CONTINUATION = 256,             /* place of the continuation */
-    DIGARUMBI_LOOK_CONTINUATION_LENGTH = 257,
+    DIGARUMBI_LOOK_CONTINUATION = 256,             /* place of the continuation, or DIGARUMBI_LOOK_DEFAULT_CONTINUATION */
+    DIGARUMBI_LOOK_CONTINUATION_LENGTH = 257,      /* 7 for the default */
     DIGARUMBI_LOOK_MIN_COL_WIDTH = 258,
     DIGARUMBI_LOOK_MAX_COL_WIDTH = 259,
     DIGARUMBI_LOOK_MIN_ROW_HEIGHT = 260,
     DIGARUMBI_LOOK_MAX_ROW_HEIGHT = 261
 };
+
+/* Stands for the place of the continuation of a version 00 file, which has none: it is 002's default, the 7 letters "(Cont.)". The same
+ * letters stored in a version 02 file have their place, and are the same continuation. */
+#define DIGARUMBI_LOOK_DEFAULT_CONTINUATION UINT32_C(4294967295)
+#define DIGARUMBI_LOOK_DEFAULT_CONTINUATION_LETTERS "(Cont.)"
 
 /* Words of a separator. Color, style and width are 0 where it isn't drawn. */
 enum {
@@ -579,11 +587,12 @@ enum {
  * Words of `answer` beyond 264 stay. */
 size_t digarumbi_read_look(const uint8_t *file, size_t file_length, uint32_t *answer, size_t answer_words);
 
-/* Reads a look and writes it into `out`. An accepted file is written back byte for byte.
+/* Reads a look and writes it into `out`. An accepted version 02 file is written back byte for byte. A version 00 file is written as the
+ * version 02 file of the look that digarumbi_read_look answers for it, 78 bytes longer; that file reads as the same look.
  *
- * The answer has 3 words: refusal, place, and the length written, 0 after a refusal. Returns 3; returns 0 if `answer` has fewer: then
- * nothing is read and nothing changes. Nothing is written after a refusal. Bytes of `out` beyond the length and words of `answer` beyond
- * 3 stay. */
+ * The answer has 3 words: refusal, place, and the length written, 0 after a refusal. Refusals: those of digarumbi_read_look; then 15 at 0 if
+ * `out` is shorter than the file that would be written. Returns 3; returns 0 if `answer` has fewer: then nothing is read and nothing
+ * changes. Nothing is written after a refusal. Bytes of `out` beyond the length and words of `answer` beyond 3 stay. */
 size_t digarumbi_rewrite_look(const uint8_t *file, size_t file_length, uint8_t *out, size_t out_length, uint32_t *answer,
                               size_t answer_words);
 

@@ -1,7 +1,7 @@
 //! The printed forms of an answer.
 
-use crate::limits::{CELLS, LINE_BYTES, NODES};
-use crate::look::read_look;
+use crate::limits::{CELLS, LINE_BYTES, LOOK_BYTES, NODES};
+use crate::look::{file_version, read_look, write_look};
 use crate::member::{read_member, section_ends, Answer, CELL_WORDS, NODE_WORDS};
 use crate::refusal::{Refusal, TOO_LONG};
 
@@ -95,10 +95,19 @@ pub fn section_line(member: &[u8]) -> String {
     fields.join(" ")
 }
 
-/// The version of a look, or its refusal.
-pub fn look_line(look: &[u8]) -> String {
-    match read_look(look) {
-        Ok(look) => format!("accepted version {:02}", look.version),
+/// The version of a look's file, or its refusal.
+pub fn look_line(file: &[u8]) -> String {
+    match read_look(file).and_then(|_| file_version(file)) {
+        Ok(version) => format!("accepted version {version:02}"),
         Err(refusal) => refusal.to_string(),
+    }
+}
+
+/// The file that a look is rewritten as, or the line of its refusal.
+pub fn rewritten_look(file: &[u8]) -> Vec<u8> {
+    let mut out = vec![0; LOOK_BYTES];
+    match read_look(file).and_then(|look| write_look(&look, file, &mut out)) {
+        Ok(length) => out[..length].to_vec(),
+        Err(refusal) => format!("{refusal}\n").into_bytes(),
     }
 }

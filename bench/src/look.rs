@@ -1,10 +1,14 @@
-//! Binary table looks.
+//! Binary table looks. Files of version 00 and 02 are read, and those of version 02 written; a look
+//! is always of version 02.
 
 mod read;
 mod write;
 
-pub use read::read_look;
+pub use read::{file_version, read_look};
 pub use write::write_look;
+
+/// The version of every look that is read, and the one that is written.
+pub const LOOK_VERSION: u8 = 2;
 
 /// A name, by place and length in the bytes that hold it.
 #[derive(Clone, Copy, Debug, Default, PartialEq, Eq)]
@@ -61,19 +65,54 @@ pub struct AreaStyle {
     pub text_color: u32,
 }
 
-/// The parts that only version 02 has.
-#[derive(Clone, Copy, Debug, Default, PartialEq, Eq)]
+/// What stands where a table is broken across pages: the letters that a file stores, or the default
+/// of a file that stores none.
+#[derive(Clone, Copy, Debug, PartialEq, Eq)]
+pub enum Continuation {
+    Default,
+    Stored(Name),
+}
+
+impl Continuation {
+    /// Its bytes; none if it is stored and doesn't lie inside these.
+    pub fn bytes<'a>(&self, names: &'a [u8]) -> Option<&'a [u8]> {
+        match self {
+            Continuation::Default => Some(b"(Cont.)"),
+            Continuation::Stored(name) => name.bytes(names),
+        }
+    }
+}
+
+/// The parts that only files of version 02 have.
+#[derive(Clone, Copy, Debug, PartialEq, Eq)]
 pub struct V2Styles {
     pub separators: [Separator; 11],
-    pub continuation: Name,
+    pub continuation: Continuation,
     pub min_col_width: u32,
     pub max_col_width: u32,
     pub min_row_height: u32,
     pub max_row_height: u32,
 }
 
+/// What 002 says of a file without them: a solid inner frame, which is the separators 1 to 4.
+impl Default for V2Styles {
+    fn default() -> V2Styles {
+        let mut separators = [Separator::NotDrawn; 11];
+        separators[1..=4].fill(Separator::Drawn { color: 0, style: 0, width: 1 });
+        V2Styles {
+            separators,
+            continuation: Continuation::Default,
+            min_col_width: 36,
+            max_col_width: 72,
+            min_row_height: 36,
+            max_row_height: 120,
+        }
+    }
+}
+
 #[derive(Clone, Copy, Debug, Default, PartialEq, Eq)]
 pub struct Look {
+    /// [`LOOK_VERSION`] in a look that was read.
     pub version: u8,
     pub flags: u16,
     pub nested_row_labels: bool,
@@ -89,23 +128,21 @@ pub struct Look {
 }
 
 impl Look {
-    /// The look with each name's place set to 0, and the bytes of the names.
-    fn without_places(&self, names: &[u8]) -> (Look, Vec<Option<Vec<u8>>>) {
+    /// The look without its names, and the bytes of the names.
+    fn without_names<'a>(&self, names: &'a [u8]) -> (Look, Vec<Option<&'a [u8]>>) {
         let mut look = *self;
-        let styles = look.most_areas.iter_mut().map(|(_, style)| &mut style.font_name);
-        let all = styles.chain([&mut look.title_style.font_name, &mut look.v2.continuation]);
-        let bytes = all
-            .map(|name| {
-                let bytes = name.bytes(names).map(<[u8]>::to_vec);
-                name.place = 0;
-                bytes
-            })
-            .collect();
+        let styles = look.most_areas.iter_mut().map(|(_, style)| style);
+        let styles = styles.chain([&mut look.title_style]);
+        let mut bytes: Vec<_> =
+            styles.map(|style| std::mem::take(&mut style.font_name).bytes(names)).collect();
+        bytes.push(look.v2.continuation.bytes(names));
+        look.v2.continuation = Continuation::Default;
         (look, bytes)
     }
 
-    /// Whether two looks are the same; names are compared by their bytes, not their places.
+    /// Whether two looks are the same. Names are compared by their bytes, not their places, so the
+    /// default continuation equals the same letters stored.
     pub fn same(&self, names: &[u8], other: &Look, other_names: &[u8]) -> bool {
-        self.without_places(names) == other.without_places(other_names)
+        self.without_names(names) == other.without_names(other_names)
     }
 }

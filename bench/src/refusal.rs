@@ -17,7 +17,6 @@ pub const NODE_AREA: u32 = 12;
 pub const CELL_AREA: u32 = 13;
 pub const COLOR: u32 = 14;
 pub const OUTPUT_TOO_SHORT: u32 = 15;
-pub const V2_DATA: u32 = 16;
 pub const ZERO_BYTE: u32 = 18;
 pub const NO_SUCH_LEAF: u32 = 19;
 pub const NO_COUNT: u32 = 20;

@@ -2,8 +2,8 @@
 
 use std::fs;
 
-use digarumbi_bench::look::{read_look, write_look, Look};
-use digarumbi_bench::stored_looks::{stored_looks, StoredLook};
+use digarumbi_bench::look::{read_look, write_look, Continuation, Look};
+use digarumbi_bench::stored_looks::{stored_looks, with_defaults, StoredLook};
 
 /// The root of the repository.
 const ROOT: &str = concat!(env!("CARGO_MANIFEST_DIR"), "/..");
@@ -18,6 +18,27 @@ fn written(look: &Look, names: &[u8], output: usize) -> String {
         .map_or_else(|refusal| refusal.to_string(), |length| length.to_string())
 }
 
+/// The file that the writer makes of a look.
+fn file_of(look: &Look, names: &[u8]) -> Vec<u8> {
+    let mut out = vec![0; 4_000];
+    let length = write_look(look, names, &mut out).expect("a look that can be written");
+    out.truncate(length);
+    out
+}
+
+/// How a file is rewritten: the same, or as another file, and how that one is.
+fn rewritten(look: &Look, file: &[u8]) -> String {
+    let new = file_of(look, file);
+    if new == file {
+        return "the same".to_string();
+    }
+    assert_eq!(new, with_defaults(file.to_vec()));
+    let read = read_look(&new).expect("a written look");
+    assert!(read.same(&new, look, file));
+    let again = if file_of(&read, &new) == new { "the same" } else { "differently" };
+    format!("as version {:02}, {} bytes, and that {again}", new[17], new.len())
+}
+
 /// What is printed for a look: for an accepted one also what the writer answers.
 fn found_line(file: &[u8]) -> String {
     let look = match read_look(file) {
@@ -29,13 +50,14 @@ fn found_line(file: &[u8]) -> String {
         change(&mut look);
         written(&look, file, 4_000)
     };
-    let mut out = vec![0; file.len()];
-    let same = write_look(&look, file, &mut out) == Ok(file.len()) && out == file;
-    let rewritten = if same { "the same" } else { "differently" };
     [
-        format!("accepted, {} bytes, rewritten {rewritten}", file.len()),
-        format!("too short an output: {}", written(&look, file, 673)),
+        format!("accepted, {} bytes, rewritten {}", file.len(), rewritten(&look, file)),
+        format!("too short an output: {}", written(&look, file, 712)),
         format!("no names: {}", written(&look, &[], 4_000)),
+        format!(
+            "the default continuation: {}",
+            changed(|look| look.v2.continuation = Continuation::Default)
+        ),
         format!("version 00: {}", changed(|look| look.version = 0)),
         format!("version 01: {}", changed(|look| look.version = 1)),
         format!("a name of 256 bytes: {}", changed(|look| look.title_style.font_name.length = 256)),
@@ -59,10 +81,11 @@ fn the_stored_files_are_these() {
         names.push_str(&format!("{name}\n"));
         lines.push_str(&format!("{name}: {line}\n"));
         match name.as_str() {
+            "shortest_00.tlo" => assert!(stored("examples/look_00.tlo") == bytes),
             "shortest_02.tlo" => assert!(stored("examples/look_02.tlo") == bytes),
-            "longest_02.tlo" => {
+            "longest_00.tlo" => {
                 assert!(stored("crates/look_main/stdin") == bytes);
-                assert!(stored("crates/look_main/stdout") == bytes);
+                assert!(stored("crates/look_main/stdout") == with_defaults(bytes));
             }
             _ => {}
         }

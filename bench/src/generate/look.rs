@@ -2,10 +2,12 @@
 
 use super::field::*;
 use crate::encode::int16;
-use crate::look::{AreaColor, AreaStyle, Look, Name, Separator, V2Styles};
+use crate::look::{
+    AreaColor, AreaStyle, Continuation, Look, Name, Separator, V2Styles, LOOK_VERSION,
+};
 use crate::random::Random;
 
-/// The bytes of an accepted look.
+/// The bytes of an accepted look, about half of them of version 00.
 pub fn look_bytes(random: &mut Random) -> Vec<u8> {
     let version = random.pick(&[0, 2]);
     let mut bytes = section_name(b"PTTableLook");
@@ -31,7 +33,7 @@ pub fn look_bytes(random: &mut Random) -> Vec<u8> {
     }
     if version == 2 {
         bytes.extend(separators(random, 11));
-        bytes.extend(short_string(random));
+        bytes.extend(continuation(random));
         bytes.extend(int32s(random, 4));
     }
     bytes
@@ -84,6 +86,14 @@ fn short_string(random: &mut Random) -> Vec<u8> {
     [vec![length as u8], random.bytes(length)].concat()
 }
 
+/// Now and then the letters of the default.
+fn continuation(random: &mut Random) -> Vec<u8> {
+    if random.once_in(8) {
+        return b"\x07(Cont.)".to_vec();
+    }
+    short_string(random)
+}
+
 fn name_length(random: &mut Random) -> usize {
     match random.below(16) {
         0 => 255,
@@ -103,10 +113,8 @@ pub fn look_to_write(random: &mut Random, faults: bool) -> LookToWrite {
     let length = 260 + random.size(300);
     let names = random.bytes(length);
     let mut fields = LookFields { names: length, faults, random };
-    let version = fields.version();
-    let v2 = fields.v2(version);
     let look = Look {
-        version,
+        version: fields.version(),
         flags: fields.number(),
         nested_row_labels: fields.bool(),
         footnote_marker_subscripts: fields.bool(),
@@ -115,7 +123,7 @@ pub fn look_to_write(random: &mut Random, faults: bool) -> LookToWrite {
         title_color: fields.area_color(),
         title_style: fields.area_style(),
         most_areas: [(); 7].map(|_| (fields.area_color(), fields.area_style())),
-        v2,
+        v2: fields.v2(),
     };
     LookToWrite { look, names }
 }
@@ -145,7 +153,7 @@ impl LookFields<'_> {
         if self.fault() {
             return self.random.byte();
         }
-        self.random.pick(&[0, 2])
+        LOOK_VERSION
     }
 
     fn color(&mut self) -> u32 {
@@ -208,13 +216,17 @@ impl LookFields<'_> {
         }
     }
 
-    fn v2(&mut self, version: u8) -> V2Styles {
-        if version == 0 && !self.fault() {
-            return V2Styles::default();
+    fn continuation(&mut self) -> Continuation {
+        if self.random.once_in(4) {
+            return Continuation::Default;
         }
+        Continuation::Stored(self.name())
+    }
+
+    fn v2(&mut self) -> V2Styles {
         V2Styles {
             separators: [(); 11].map(|_| self.separator()),
-            continuation: self.name(),
+            continuation: self.continuation(),
             min_col_width: number(self.random),
             max_col_width: number(self.random),
             min_row_height: number(self.random),

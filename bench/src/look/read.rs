@@ -1,22 +1,30 @@
 //! Reads a look.
 
-use super::{AreaColor, AreaStyle, Look, Name, Separator, V2Styles};
+use super::{AreaColor, AreaStyle, Continuation, Look, Name, Separator, V2Styles, LOOK_VERSION};
 use crate::cursor::Cursor;
 use crate::refusal::*;
 
 /// Reads a look. The places of its names count from the start of these bytes.
 pub fn read_look(bytes: &[u8]) -> Result<Look, Refusal> {
     let mut cursor = Cursor::new(bytes);
-    let mut look = Look::default();
-    table_look(&mut cursor, &mut look)?;
+    let mut look = Look { version: LOOK_VERSION, ..Look::default() };
+    let version = table_look(&mut cursor, &mut look)?;
     separator_style(&mut cursor, &mut look)?;
     cell_style(&mut cursor, &mut look)?;
     text_style(&mut cursor, &mut look)?;
-    if look.version == 2 {
+    if version == 2 {
         look.v2 = v2_styles(&mut cursor)?;
     }
     cursor.input_end()?;
     Ok(look)
+}
+
+/// The version of an accepted look's file, which stands after the length and the letters of
+/// `PTTableLook`.
+pub fn file_version(bytes: &[u8]) -> Result<u8, Refusal> {
+    let mut cursor = Cursor::new(bytes);
+    section_name(&mut cursor, b"PTTableLook")?;
+    version(&mut cursor)
 }
 
 fn section_name(cursor: &mut Cursor, letters: &[u8]) -> Result<(), Refusal> {
@@ -24,9 +32,10 @@ fn section_name(cursor: &mut Cursor, letters: &[u8]) -> Result<(), Refusal> {
     cursor.class_name(letters)
 }
 
-fn table_look(cursor: &mut Cursor, look: &mut Look) -> Result<(), Refusal> {
+/// Gives the version of the file.
+fn table_look(cursor: &mut Cursor, look: &mut Look) -> Result<u8, Refusal> {
     section_name(cursor, b"PTTableLook")?;
-    look.version = version(cursor)?;
+    let version = version(cursor)?;
     look.flags = cursor.int16()?;
     cursor.fixed_bytes(&[0x00, 0x00])?;
     look.nested_row_labels = cursor.bool()?;
@@ -34,7 +43,8 @@ fn table_look(cursor: &mut Cursor, look: &mut Look) -> Result<(), Refusal> {
     look.footnote_marker_subscripts = cursor.bool()?;
     cursor.fixed_byte(0x00)?;
     cursor.fixed_int32(54)?;
-    cursor.fixed_int32(18)
+    cursor.fixed_int32(18)?;
+    Ok(version)
 }
 
 fn version(cursor: &mut Cursor) -> Result<u8, Refusal> {
@@ -160,7 +170,7 @@ fn name(cursor: &mut Cursor) -> Result<Name, Refusal> {
 fn v2_styles(cursor: &mut Cursor) -> Result<V2Styles, Refusal> {
     Ok(V2Styles {
         separators: separators(cursor)?,
-        continuation: name(cursor)?,
+        continuation: Continuation::Stored(name(cursor)?),
         min_col_width: cursor.int32()?,
         max_col_width: cursor.int32()?,
         min_row_height: cursor.int32()?,

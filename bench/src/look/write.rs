@@ -1,9 +1,9 @@
 //! Writes a look.
 
-use super::{AreaColor, AreaStyle, Look, Name, Separator, V2Styles};
+use super::{AreaColor, AreaStyle, Continuation, Look, Name, Separator, V2Styles, LOOK_VERSION};
 use crate::refusal::*;
 
-/// Writes a look whose names lie in `names`. Returns its length.
+/// Writes a look whose names lie in `names`, as a file of version 02. Returns its length.
 /// The output stays as it is after a refusal, and beyond the look.
 pub fn write_look(look: &Look, names: &[u8], out: &mut [u8]) -> Result<usize, Refusal> {
     let mut writer = Writer { bytes: Vec::new(), names };
@@ -11,7 +11,7 @@ pub fn write_look(look: &Look, names: &[u8], out: &mut [u8]) -> Result<usize, Re
     writer.separator_style(look)?;
     writer.cell_style(look)?;
     writer.text_style(look)?;
-    writer.v2(look)?;
+    writer.v2_styles(&look.v2)?;
     let length = writer.bytes.len();
     let output = out.get_mut(..length).ok_or(Refusal::new(OUTPUT_TOO_SHORT, 0))?;
     output.copy_from_slice(&writer.bytes);
@@ -70,9 +70,19 @@ impl Writer<'_> {
         Ok(())
     }
 
+    fn continuation(&mut self, continuation: Continuation) -> Result<(), Refusal> {
+        match continuation {
+            Continuation::Default => {
+                self.fixed(b"\x07(Cont.)");
+                Ok(())
+            }
+            Continuation::Stored(name) => self.name(name),
+        }
+    }
+
     fn table_look(&mut self, look: &Look) -> Result<(), Refusal> {
         self.section_name(b"PTTableLook");
-        refuse_if(look.version != 0 && look.version != 2, VERSION, self.place())?;
+        refuse_if(look.version != LOOK_VERSION, VERSION, self.place())?;
         self.byte(look.version);
         self.int16(look.flags);
         self.fixed(&[0x00, 0x00]);
@@ -169,26 +179,13 @@ impl Writer<'_> {
         self.name(style.font_name)
     }
 
-    fn v2(&mut self, look: &Look) -> Result<(), Refusal> {
-        if look.version == 2 {
-            return self.v2_styles(&look.v2);
-        }
-        refuse_if(!is_empty(&look.v2), V2_DATA, self.place())
-    }
-
     fn v2_styles(&mut self, v2: &V2Styles) -> Result<(), Refusal> {
         self.separators(&v2.separators)?;
-        self.name(v2.continuation)?;
+        self.continuation(v2.continuation)?;
         self.int32(v2.min_col_width);
         self.int32(v2.max_col_width);
         self.int32(v2.min_row_height);
         self.int32(v2.max_row_height);
         Ok(())
     }
-}
-
-/// Whether version 00 loses nothing of this: nothing drawn, an empty continuation, zeros.
-fn is_empty(v2: &V2Styles) -> bool {
-    let continuation = Name { length: 0, ..v2.continuation };
-    *v2 == V2Styles { continuation, ..V2Styles::default() }
 }

@@ -2,7 +2,7 @@
 
 use digarumbi_bench::contents::{ArgumentContents, Contents, Form, Number, Text};
 use digarumbi_bench::cursor::Span;
-use digarumbi_bench::look::{AreaColor, AreaStyle, Look, Name, Separator};
+use digarumbi_bench::look::{AreaColor, AreaStyle, Continuation, Look, Name, Separator};
 use digarumbi_bench::member::{Answer, Refused};
 use digarumbi_bench::refusal::{Refusal, OUTPUT_TOO_SHORT};
 use digarumbi_bench::totals::{Found, LeafTotal, Total};
@@ -168,7 +168,7 @@ fn look_words(look: &Look) -> Vec<u32> {
     words.extend(area(&look.title_color, &look.title_style));
     words.extend(look.most_areas.iter().flat_map(|(color, style)| area(color, style)));
     words.extend(look.v2.separators.iter().flat_map(separator));
-    words.extend(name(&look.v2.continuation));
+    words.extend(continuation(&look.v2.continuation));
     words.extend([look.v2.min_col_width, look.v2.max_col_width]);
     words.extend([look.v2.min_row_height, look.v2.max_row_height]);
     words
@@ -197,4 +197,12 @@ fn area(color: &AreaColor, style: &AreaStyle) -> Vec<u32> {
 
 fn name(name: &Name) -> [u32; 2] {
     [name.place, name.length]
+}
+
+/// The default has the last of all words for a place, and the length of its 7 letters.
+fn continuation(continuation: &Continuation) -> [u32; 2] {
+    match continuation {
+        Continuation::Default => [u32::MAX, 7],
+        Continuation::Stored(stored) => name(stored),
+    }
 }

@@ -6,14 +6,14 @@
 //! with the length of its slice, and Rust's borrows keep a slice that is written from overlapping
 //! the others.
 //!
-//! The functions over members and their records panic if the archive has another interface than these declarations.
+//! The functions over members, their records and looks panic if the archive has another interface than these declarations.
 
 use std::iter::successors;
 
 use crate::ffi;
 
 /// The version of the interface that these declarations are for.
-pub const ABI: u32 = 2;
+pub const ABI: u32 = 3;
 
 /// Words of a member's answer.
 pub const MEMBER_ANSWER: usize = 88;
@@ -71,6 +71,12 @@ pub const SMALL_MEMBER: usize = 2_560;
 
 /// Bytes of the longest look.
 pub const LONGEST_LOOK: usize = 3_160;
+/// Where the version of a look's file stands, 0 or 2 if the file is accepted.
+pub const LOOK_VERSION_PLACE: usize = 17;
+/// Stands for the place of a look's continuation where that is the default, which is in no file.
+pub const LOOK_DEFAULT_CONTINUATION: u32 = u32::MAX;
+/// The letters of the default continuation.
+pub const LOOK_DEFAULT_CONTINUATION_LETTERS: &[u8] = b"(Cont.)";
 
 /// The version of the interface that the archive has.
 ///
@@ -426,16 +432,19 @@ pub fn index(
     }
 }
 
-/// Reads a look. Returns [`LOOK_ANSWER`], or 0 if `answer` has fewer words.
+/// Reads a look. Returns [`LOOK_ANSWER`], or 0 if `answer` has fewer words. The words are those of a
+/// version 02 look, of a version 00 file too.
 pub fn read_look(file: &[u8], answer: &mut [u32]) -> usize {
+    test_abi();
     unsafe {
         ffi::digarumbi_read_look(file.as_ptr(), file.len(), answer.as_mut_ptr(), answer.len())
     }
 }
 
-/// Reads a look and writes it into `out`. Returns [`REWRITE_ANSWER`], or 0 if `answer` has fewer
-/// words.
+/// Reads a look and writes it into `out`, always as a version 02 file. Returns [`REWRITE_ANSWER`], or
+/// 0 if `answer` has fewer words.
 pub fn rewrite_look(file: &[u8], out: &mut [u8], answer: &mut [u32]) -> usize {
+    test_abi();
     unsafe {
         ffi::digarumbi_rewrite_look(
             file.as_ptr(),

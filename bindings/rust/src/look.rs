@@ -1,17 +1,22 @@
 //! Binary table looks.
 //!
 //! The fields are those of source document 002, under its names. In a file each class name that it
-//! quotes has its length before its letters.
+//! quotes has its length before its letters. Files of version 00 and 02 are read; those of version
+//! 00 have no V2Styles, and come back as version 02 looks with 002's defaults. Files are written as
+//! version 02 alone.
 
 mod words;
 
-use crate::lent::{self, LONGEST_LOOK, LOOK_ANSWER, REWRITE_ANSWER};
+use crate::lent::{
+    self, LONGEST_LOOK, LOOK_ANSWER, LOOK_DEFAULT_CONTINUATION_LETTERS, LOOK_VERSION_PLACE,
+    REWRITE_ANSWER,
+};
 use crate::Refusal;
 use words::Words;
 
 #[derive(Clone, Debug, PartialEq, Eq)]
 pub struct Look {
-    /// 0 or 2.
+    /// Always 2, whatever the file's own version is; see [`Look::file_version`].
     pub version: u8,
     pub flags: u16,
     pub nested_row_labels: bool,
@@ -26,7 +31,8 @@ pub struct Look {
     pub data: Area,
     pub caption: Area,
     pub footer: Area,
-    /// Zero, empty and not drawn in version 00, whose files do not have it.
+    /// 002's defaults if the file is of version 00: the inner frame solid, the other separators not
+    /// drawn, the default continuation, widths of 36 and 72, heights of 36 and 120.
     pub v2: V2Styles,
 }
 
@@ -80,13 +86,47 @@ pub struct V2Styles {
     pub outer_frame: Frame,
     pub data_left: Separator,
     pub data_top: Separator,
-    pub continuation: Vec<u8>,
+    pub continuation: Continuation,
     /// In points, as the other three.
     pub min_col_width: u32,
     pub max_col_width: u32,
     pub min_row_height: u32,
     pub max_row_height: u32,
 }
+
+/// What stands at the top or bottom of a table that is broken across pages. The default, which a
+/// version 00 file has no letters for, equals the same letters stored in a file.
+///
+/// ```
+/// use digarumbi::Continuation;
+/// assert_eq!(Continuation::Default.bytes(), b"(Cont.)");
+/// assert_eq!(Continuation::Default, Continuation::Stored(b"(Cont.)".to_vec()));
+/// assert_ne!(Continuation::Default, Continuation::Stored(Vec::new()));
+/// ```
+#[derive(Clone, Debug)]
+pub enum Continuation {
+    Default,
+    Stored(Vec<u8>),
+}
+
+impl Continuation {
+    /// The letters, of the default too.
+    pub fn bytes(&self) -> &[u8] {
+        match self {
+            Continuation::Default => LOOK_DEFAULT_CONTINUATION_LETTERS,
+            Continuation::Stored(bytes) => bytes,
+        }
+    }
+}
+
+/// By the letters.
+impl PartialEq for Continuation {
+    fn eq(&self, other: &Continuation) -> bool {
+        self.bytes() == other.bytes()
+    }
+}
+
+impl Eq for Continuation {}
 
 #[derive(Clone, Debug, PartialEq, Eq)]
 pub struct Frame {
@@ -97,7 +137,7 @@ pub struct Frame {
 }
 
 impl Look {
-    /// Reads a look.
+    /// Reads a look, from a file of either version.
     ///
     /// ```
     /// let file = std::fs::read("../../examples/look_02.tlo")?;
@@ -114,13 +154,30 @@ impl Look {
             _ => Err(Refusal::new(*number, *place)),
         }
     }
+
+    /// The version of a look's file, 0 or 2. It is refused where [`Look::read`] refuses the file.
+    ///
+    /// ```
+    /// let file = std::fs::read("../../examples/look_00.tlo")?;
+    /// let versions = (digarumbi::Look::file_version(&file)?, digarumbi::Look::read(&file)?.version);
+    /// assert_eq!(versions, (0, 2));
+    /// # Ok::<(), Box<dyn std::error::Error>>(())
+    /// ```
+    pub fn file_version(file: &[u8]) -> Result<u8, Refusal> {
+        Look::read(file)?;
+        Ok(file[LOOK_VERSION_PLACE])
+    }
 }
 
-/// Reads a look and writes it; an accepted file is written back byte for byte.
+/// Reads a look and writes it, always as a version 02 file. An accepted version 02 file is written
+/// back byte for byte; a version 00 file as the version 02 file of its look, 78 bytes longer.
 ///
 /// ```
 /// let file = std::fs::read("../../examples/look_02.tlo")?;
 /// assert_eq!(digarumbi::rewrite_look(&file)?, file);
+/// let old = std::fs::read("../../examples/look_00.tlo")?;
+/// let new = digarumbi::rewrite_look(&old)?;
+/// assert_eq!(digarumbi::Look::read(&new)?, digarumbi::Look::read(&old)?);
 /// # Ok::<(), Box<dyn std::error::Error>>(())
 /// ```
 pub fn rewrite_look(file: &[u8]) -> Result<Vec<u8>, Refusal> {

@@ -53,7 +53,8 @@ impl Error for Refusal {
     }
 }
 
-/// The refusal numbers of documents 01 and 02, by what they say. More may come.
+/// The refusal numbers of documents 01 and 02, by what they say. More may come; 16 was withdrawn, and
+/// it and 17 are nobody's.
 #[derive(Clone, Copy, Debug, PartialEq, Eq, Hash)]
 #[non_exhaustive]
 #[repr(u32)]
@@ -73,7 +74,6 @@ pub enum Reason {
     CellArea = 13,
     Color = 14,
     OutputTooShort = 15,
-    V2Data = 16,
     ZeroByte = 18,
     NoSuchLeaf = 19,
     NoCount = 20,
@@ -103,7 +103,6 @@ impl Reason {
         Reason::CellArea,
         Reason::Color,
         Reason::OutputTooShort,
-        Reason::V2Data,
         Reason::ZeroByte,
         Reason::NoSuchLeaf,
         Reason::NoCount,
@@ -120,7 +119,7 @@ impl Reason {
     /// ```
     /// use digarumbi::Reason;
     /// assert_eq!(Reason::of(10), Some(Reason::CellIndex));
-    /// assert_eq!(Reason::of(17), None);
+    /// assert_eq!(Reason::of(16), None);
     /// ```
     pub fn of(number: u32) -> Option<Reason> {
         Reason::ALL.iter().copied().find(|reason| reason.number() == number)
@@ -150,9 +149,6 @@ impl Reason {
             Reason::CellArea => "cell area shorter than 3 words a cell",
             Reason::Color => "a color's high byte not 0",
             Reason::OutputTooShort => "output too short",
-            Reason::V2Data => {
-                "version 00 with V2 data not all zero, undrawn and with an empty continuation"
-            }
             Reason::ZeroByte => "a zero byte inside a string",
             Reason::NoSuchLeaf => "a dimension or leaf that isn't there",
             Reason::NoCount => "a number under the leaf that is no count",

@@ -1,6 +1,6 @@
-//! A look, examples/look_02.tlo.
+//! A look of version 02, examples/look_02.tlo.
 
-use digarumbi::{font_height, rewrite_look, Look, Separator};
+use digarumbi::{font_height, rewrite_look, Continuation, Look, Separator};
 
 const FILE: &[u8] = include_bytes!("../../../examples/look_02.tlo");
 
@@ -16,6 +16,8 @@ fn fields() {
     assert_eq!(font_height(look.footer.font_size), Ok(12));
     let widths = (look.v2.min_col_width, look.v2.max_col_width);
     assert_eq!((widths, look.v2.max_row_height), ((36, 72), 120));
+    assert!(matches!(look.v2.continuation, Continuation::Stored(bytes) if bytes.is_empty()));
+    assert_eq!(Look::file_version(FILE), Ok(2));
 }
 
 #[test]

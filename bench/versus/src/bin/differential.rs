@@ -20,7 +20,7 @@ use digarumbi_versus::large::{
     ascending, deepest_member, member_of_strings, member_with_cells, member_with_nested_categories,
     shuffled, version_1_with_cells, version_1_with_free_bytes,
 };
-use digarumbi_versus::look_check::LookCheck;
+use digarumbi_versus::look_check::{LookCheck, Versions};
 use digarumbi_versus::member_check::MemberCheck;
 use digarumbi_versus::members_check;
 use digarumbi_versus::position_check;
@@ -40,8 +40,7 @@ const GENERATED_VALUES: u64 = 60_000;
 const GENERATED_ARGUMENTS: u64 = 20_000;
 const GENERATED_STREAMS: u64 = 100_000;
 
-/// The refusal numbers that these functions can give. 16 is not among them: it is the writer's
-/// for looks that no file gives.
+/// The refusal numbers that these functions can give.
 const MEMBER_NUMBERS: [u32; 14] = [1, 2, 3, 4, 5, 6, 7, 8, 9, 10, 11, 12, 13, 18];
 /// Those that a member can get whose version is 1; 4 is then that of a modifier that begins 31.
 const VERSION_1_NUMBERS: [u32; 15] = [0, 1, 2, 3, 4, 5, 6, 7, 8, 9, 10, 11, 12, 13, 18];
@@ -104,6 +103,8 @@ fn run(seed: u64) -> Result<(), Difference> {
     let looks = looks(seed)?;
     println!("{} looks: {}", looks.looks.total(), looks.looks);
     println!("{} rewritings of them: {}", looks.rewritten.total(), looks.rewritten);
+    let Versions { old, new } = looks.versions;
+    println!("{old} accepted ones of version 00, rewritten as version 02; {new} of version 02");
     println!("{} numbers as points, pixels and font sizes", unit_check::check(seed)?);
     let positions = position_check::check(seed)?;
     println!("{} positions of cells: {}", positions.positions.total(), positions.positions);
@@ -133,6 +134,9 @@ fn run(seed: u64) -> Result<(), Difference> {
     totals.all.all_seen(&ALL_LEAVES_NUMBERS)?;
     totals.leaves.all_seen(&LEAF_NUMBERS)?;
     looks.rewritten.all_seen(&LOOK_NUMBERS)?;
+    if old == 0 || new == 0 {
+        return Err(Difference::missing("an accepted look of version 00 or 02"));
+    }
     positions.positions.all_seen(&POSITION_NUMBERS)?;
     positions.indexes.all_seen(&POSITION_NUMBERS)?;
     texts.to.all_seen(&TEXT_NUMBERS)?;

@@ -1,6 +1,7 @@
 //! The words of an accepted look's answer, taken one after the other.
 
-use super::{Area, Frame, Look, Separator, Separators, V2Styles};
+use super::{Area, Continuation, Frame, Look, Separator, Separators, V2Styles};
+use crate::lent::LOOK_DEFAULT_CONTINUATION;
 use crate::part;
 
 pub struct Words<'a> {
@@ -36,9 +37,23 @@ impl<'a> Words<'a> {
         self.word() == 1
     }
 
+    /// The bytes at a place of the file.
+    fn bytes(&self, place: u32, length: u32) -> Vec<u8> {
+        part(self.file, place as usize, length as usize).to_vec()
+    }
+
     fn name(&mut self) -> Vec<u8> {
         let (place, length) = (self.word(), self.word());
-        part(self.file, place as usize, length as usize).to_vec()
+        self.bytes(place, length)
+    }
+
+    /// A name, or the default, which has no place.
+    fn continuation(&mut self) -> Continuation {
+        let (place, length) = (self.word(), self.word());
+        match place {
+            LOOK_DEFAULT_CONTINUATION => Continuation::Default,
+            _ => Continuation::Stored(self.bytes(place, length)),
+        }
     }
 
     fn separator(&mut self) -> Separator {
@@ -102,7 +117,7 @@ impl<'a> Words<'a> {
             outer_frame: self.frame(),
             data_left: self.separator(),
             data_top: self.separator(),
-            continuation: self.name(),
+            continuation: self.continuation(),
             min_col_width: self.word(),
             max_col_width: self.word(),
             min_row_height: self.word(),
@@ -136,15 +151,23 @@ impl<'a> Words<'a> {
 mod tests {
     use super::*;
 
-    /// A look in which each word is its own number, but those that are 0 or 1 are 1.
-    fn numbered_look() -> Look {
+    /// The words of a look, each its own number, but those that are 0 or 1 are 1.
+    fn numbered_words() -> Vec<u32> {
         let mut words: Vec<u32> = (0..262).collect();
         let separators = (4..36).chain(212..256).step_by(4);
         let bools = (36..212).step_by(22).flat_map(|area| area + 14..area + 17);
         for word in separators.chain(bools).chain([2, 3]) {
             words[word] = 1;
         }
-        Words::new(&words, &[b'f'; 512]).look()
+        words
+    }
+
+    fn numbered_look() -> Look {
+        look(&numbered_words())
+    }
+
+    fn look(words: &[u32]) -> Look {
+        Words::new(words, &[b'f'; 512]).look()
     }
 
     /// The separator whose first word is `word`.
@@ -195,8 +218,28 @@ mod tests {
         let look = numbered_look();
         assert_eq!((look.version, look.flags), (0, 1));
         assert!(look.nested_row_labels && look.footnote_marker_subscripts);
-        // it would not lie inside the file
-        assert_eq!(look.v2.continuation, b"");
         assert_eq!((look.v2.min_col_width, look.v2.max_row_height), (258, 261));
+    }
+
+    /// What the continuation is for these two words.
+    fn continuation(place: u32, length: u32) -> Continuation {
+        let mut words = numbered_words();
+        words[256..258].copy_from_slice(&[place, length]);
+        look(&words).v2.continuation
+    }
+
+    #[test]
+    fn continuations() {
+        let stored = |letters: &[u8], found| match found {
+            Continuation::Stored(found) => found == letters,
+            Continuation::Default => false,
+        };
+        assert!(stored(b"fff", continuation(9, 3)));
+        assert!(stored(b"", continuation(9, 0)));
+        // it would not lie inside the file
+        assert!(stored(b"", continuation(256, 257)));
+        let default = continuation(u32::MAX, 7);
+        assert!(matches!(default, Continuation::Default));
+        assert_eq!(default.bytes().len(), 7);
     }
 }
