@@ -39,7 +39,7 @@ __all__ = [
     "REFUSALS",
 ]
 
-ABI = 2
+ABI = 3
 
 MEMBER_ANSWER = 88
 VALUE_WORDS = 22
@@ -61,6 +61,9 @@ TOTAL_RECORD = 11
 NODE_AREA = 28672
 CELL_AREA = 12288
 LONGEST_LOOK = 3160
+LOOK_VERSION_PLACE = 17
+LOOK_DEFAULT_CONTINUATION = 0xFFFFFFFF
+LOOK_DEFAULT_CONTINUATION_LETTERS = b"(Cont.)"
 MEMBERS = 2
 
 NO_PARENT = 0xFFFFFFFF
@@ -68,7 +71,7 @@ LAST_WORD = 0xFFFFFFFF
 CELL_INDEX = 10
 NO_SUCH_LEAF = 19
 
-# The refusal numbers, with document 01's words.
+# The refusal numbers, with document 01's words. 16 and 17 are not given.
 REFUSALS = {
     1: "member too long",
     2: "a field doesn't fit in the input or its region",
@@ -85,7 +88,6 @@ REFUSALS = {
     13: "cell area shorter than 3 words a cell",
     14: "a color's high byte not 0",
     15: "output too short",
-    16: "version 00 with V2 data not all zero, undrawn and with an empty continuation",
     18: "a zero byte inside a string",
     19: "a dimension or leaf that isn't there",
     20: "a number under the leaf that is no count",
@@ -574,13 +576,18 @@ def read_look(data, page=None):
 
 
 class Look:
-    """What an accepted look holds, under the names of source document 002."""
+    """What an accepted look holds, under the names of source document 002.
+
+    `version` is always 2. `file_version` is that of the file, 0 or 2: a file of version 00 comes back as a version 02 look with 002's
+    defaults, and then `default_continuation` is True and `continuation` the default, which equals the same letters stored in a file."""
 
     def __init__(self, data, page, words):
         self._data, self._page, self._words = data, page, words
         self.version, self.flags = words[0], words[1]
+        self.file_version = data[LOOK_VERSION_PLACE]
         self.nested_row_labels, self.footnote_marker_subscripts = bool(words[2]), bool(words[3])
-        self.continuation = self._name(256)
+        self.default_continuation = words[256] == LOOK_DEFAULT_CONTINUATION
+        self.continuation = LOOK_DEFAULT_CONTINUATION_LETTERS.decode() if self.default_continuation else self._name(256)
         self.min_col_width, self.max_col_width, self.min_row_height, self.max_row_height = words[258:262]
 
     def _name(self, word):
@@ -611,7 +618,8 @@ class Look:
 
 
 def rewrite_look(data):
-    """Reads a look and writes it; an accepted file is written back byte for byte."""
+    """Reads a look and writes it, always as a version 02 file. An accepted version 02 file is written back byte for byte; a version 00
+    file as the version 02 file of its look, 78 bytes longer."""
     out, answer = ctypes.create_string_buffer(LONGEST_LOOK), _area(REWRITE_ANSWER)
     _library.digarumbi_rewrite_look(*_input(data), out, LONGEST_LOOK, *answer)
     return _written(out, answer)

@@ -144,6 +144,48 @@ static void looks(struct bytes look)
     CHECK(answer[DIGARUMBI_REFUSAL] == 0 && answer[2] == look.length && memcmp(out, look.at, look.length) == 0);
 }
 
+/* The V2 words of a version 00 file: 002's defaults. */
+static void old_look_words(const uint32_t *words)
+{
+    const uint32_t *separator;
+    uint32_t i, inner;
+
+    CHECK(words[DIGARUMBI_LOOK_VERSION] == 2);
+    for (i = 0; i < 11; i++) {
+        separator = words + DIGARUMBI_LOOK_V2_SEPARATORS + DIGARUMBI_SEPARATOR_RECORD * i;
+        inner = i >= 1 && i <= 4;
+        CHECK(separator[DIGARUMBI_SEPARATOR_DRAWN] == inner && separator[DIGARUMBI_SEPARATOR_WIDTH] == inner);
+        CHECK(separator[DIGARUMBI_SEPARATOR_COLOR] == 0 && separator[DIGARUMBI_SEPARATOR_STYLE] == 0);
+    }
+    CHECK(words[DIGARUMBI_LOOK_CONTINUATION] == DIGARUMBI_LOOK_DEFAULT_CONTINUATION);
+    CHECK(words[DIGARUMBI_LOOK_CONTINUATION_LENGTH] == strlen(DIGARUMBI_LOOK_DEFAULT_CONTINUATION_LETTERS));
+    CHECK(words[DIGARUMBI_LOOK_MIN_COL_WIDTH] == 36 && words[DIGARUMBI_LOOK_MAX_COL_WIDTH] == 72);
+    CHECK(words[DIGARUMBI_LOOK_MIN_ROW_HEIGHT] == 36 && words[DIGARUMBI_LOOK_MAX_ROW_HEIGHT] == 120);
+}
+
+/* A version 00 file comes back as a version 02 look, and is rewritten as a version 02 file. */
+static void old_looks(struct bytes look)
+{
+    static uint8_t out[DIGARUMBI_LONGEST_LOOK], again[DIGARUMBI_LONGEST_LOOK];
+    const char *letters = DIGARUMBI_LOOK_DEFAULT_CONTINUATION_LETTERS;
+    size_t length = look.length + 78;
+
+    CHECK(look.at[DIGARUMBI_LOOK_VERSION_PLACE] == 0);
+    digarumbi_read_look(look.at, look.length, answer, DIGARUMBI_LOOK_ANSWER);
+    CHECK(answer[DIGARUMBI_REFUSAL] == 0);
+    old_look_words(answer + DIGARUMBI_LOOK);
+    digarumbi_rewrite_look(look.at, look.length, out, length - 1, answer, DIGARUMBI_REWRITE_ANSWER);
+    CHECK(answer[DIGARUMBI_REFUSAL] == DIGARUMBI_REFUSED_OUTPUT_TOO_SHORT && answer[DIGARUMBI_PLACE] == 0 && answer[2] == 0);
+    digarumbi_rewrite_look(look.at, look.length, out, length, answer, DIGARUMBI_REWRITE_ANSWER);
+    CHECK(answer[DIGARUMBI_REFUSAL] == 0 && answer[2] == length && out[DIGARUMBI_LOOK_VERSION_PLACE] == 2);
+
+    digarumbi_read_look(out, length, answer, DIGARUMBI_LOOK_ANSWER);
+    CHECK(answer[DIGARUMBI_REFUSAL] == 0 && answer[DIGARUMBI_LOOK + DIGARUMBI_LOOK_CONTINUATION_LENGTH] == strlen(letters));
+    CHECK(memcmp(out + answer[DIGARUMBI_LOOK + DIGARUMBI_LOOK_CONTINUATION], letters, strlen(letters)) == 0);
+    digarumbi_rewrite_look(out, length, again, sizeof again, answer, DIGARUMBI_REWRITE_ANSWER);
+    CHECK(answer[DIGARUMBI_REFUSAL] == 0 && answer[2] == length && memcmp(again, out, length) == 0);
+}
+
 static void texts(void)
 {
     const uint8_t name[] = {0xa3, 0xf3, 'd', 0x9f};
@@ -205,7 +247,7 @@ static void names(void)
     CHECK(DIGARUMBI_CELL_AREA == DIGARUMBI_CELL_RECORD * DIGARUMBI_MOST_CELLS);
     CHECK(DIGARUMBI_TOTALS_AREA == DIGARUMBI_TOTAL_RECORD * DIGARUMBI_MOST_NODES);
     CHECK(strcmp(digarumbi_refusal_text(DIGARUMBI_REFUSED_CELL_INDEX), "cell index not below the product, or seen before") == 0);
-    CHECK(is_no_refusal(17) && !is_no_refusal(0) && !is_no_refusal(DIGARUMBI_REFUSED_NO_CHARACTER));
+    CHECK(is_no_refusal(16) && is_no_refusal(17) && !is_no_refusal(0) && !is_no_refusal(DIGARUMBI_REFUSED_NO_CHARACTER));
     for (number = 0; number < 64; number++)
         for (other = 0; other < number; other++)
             CHECK(is_no_refusal(number) || strcmp(digarumbi_refusal_text(number), digarumbi_refusal_text(other)) != 0);
@@ -213,7 +255,7 @@ static void names(void)
 
 int main(int argc, char **argv)
 {
-    struct bytes coefficients, statistics, look;
+    struct bytes coefficients, statistics, look, old_look;
 
     if (argc != 2) {
         fprintf(stderr, "usage: functions EXAMPLES\n");
@@ -222,6 +264,7 @@ int main(int argc, char **argv)
     coefficients = file(argv[1], "spine_18.bin");
     statistics = file(argv[1], "spine_1.bin");
     look = file(argv[1], "look_02.tlo");
+    old_look = file(argv[1], "look_00.tlo");
     names();
     records(coefficients);
     refusals(coefficients);
@@ -229,11 +272,13 @@ int main(int argc, char **argv)
     lists(coefficients);
     positions();
     looks(look);
+    old_looks(old_look);
     texts();
     cases();
     units();
     free(coefficients.at);
     free(statistics.at);
     free(look.at);
+    free(old_look.at);
     return failures != 0;
 }

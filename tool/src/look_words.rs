@@ -1,15 +1,17 @@
 //! A look in words: each field by its name, under the meanings that 002 gives.
 
-use digarumbi::{font_height, Area, Frame, Look, Separator, Separators};
+use digarumbi::{font_height, Area, Continuation, Frame, Look, Separator, Separators};
 
 use crate::encoding::Encoding;
 
 /// A name and what it is, both in words; the name of a part has its field after a full stop.
 pub type Field = (String, String);
 
-/// The fields of a look, in file order.
-pub fn fields(look: &Look, encoding: Encoding) -> Vec<Field> {
+/// The version of a look's file, and the fields of the look, in file order. What a file of version 00
+/// doesn't have is there with its defaults.
+pub fn fields(file_version: u8, look: &Look, encoding: Encoding) -> Vec<Field> {
     let mut words = Words { fields: Vec::new(), encoding };
+    words.add("file version", format!("{file_version:02}"));
     words.add("version", format!("{:02}", look.version));
     words.flags(look.flags);
     words.yes_no("nested row labels", look.nested_row_labels);
@@ -29,9 +31,7 @@ pub fn fields(look: &Look, encoding: Encoding) -> Vec<Field> {
     for (name, area) in areas {
         words.area(name, area);
     }
-    if look.version == 2 {
-        words.v2_styles(look);
-    }
+    words.v2_styles(look);
     words.fields
 }
 
@@ -130,8 +130,10 @@ impl Words {
         self.frame("outer frame", &v2.outer_frame);
         self.add("data.left separator", separator_words(v2.data_left));
         self.add("data.top separator", separator_words(v2.data_top));
-        let continuation = self.encoding.show(&v2.continuation);
+        let continuation = self.encoding.show(v2.continuation.bytes());
         self.add("continuation", continuation);
+        let is_default = matches!(v2.continuation, Continuation::Default);
+        self.yes_no("default continuation", is_default);
         let points = [
             ("min column width", v2.min_col_width),
             ("max column width", v2.max_col_width),

@@ -121,6 +121,20 @@ fn a_look_written_back() {
     assert_eq!(std::fs::read_dir(&folder).unwrap().count(), 3);
 }
 
+/// It is written as version 02, and that file as it is.
+#[test]
+fn a_look_of_version_00_written_back() {
+    let folder = folder("look_00");
+    let new = folder.join("new.tlo");
+    let mut input = "examples/look_00.tlo";
+    for _ in 0..2 {
+        let written = run(&["look", input, "-o", new.to_str().unwrap()]);
+        assert_eq!((&written.out[..], &written.said[..], written.status), ("", "", 0));
+        assert_eq!(std::fs::read(&new).unwrap(), bytes("crates/looks_main/data/defaults_02.tlo"));
+        input = new.to_str().unwrap();
+    }
+}
+
 #[test]
 fn a_look_that_cannot_be_written() {
     let places = [

@@ -57,10 +57,11 @@ stored! {
     why_region 1 "why crates/corpus_main/data/v056_value_mod_region_left.bin";
     why_axes 1 "why crates/corpus_main/data/v164_axes_sum_overflow.bin crates/corpus_main/data/v184_product_4_to_the_16.bin";
     why_version_1 1 "why crates/corpus_main/data/v468_v1_31_in_cell_argument.bin";
-    why_look 1 "why crates/looks_main/data/shading_11.tlo crates/looks_main/data/name_cut_short.tlo crates/looks_main/data/color_high_byte.tlo crates/looks_main/data/length_of_pvtextstyle.tlo examples/look_02.tlo";
+    why_look 1 "why crates/looks_main/data/shading_11.tlo crates/looks_main/data/name_cut_short.tlo crates/looks_main/data/color_high_byte.tlo crates/looks_main/data/length_of_pvtextstyle.tlo crates/looks_main/data/bytes_left_00.tlo examples/look_02.tlo examples/look_00.tlo";
     look_02 0 "look examples/look_02.tlo";
     look_00 0 "look crates/looks_main/data/longest_00.tlo";
     look_json 0 "look --json crates/looks_main/data/longest_02.tlo";
+    look_00_json 0 "look --json examples/look_00.tlo";
     look_refused 1 "look crates/looks_main/data/shading_11.tlo crates/looks_main/data/version_01.tlo";
     help 0 "--help";
     version 0 "--version";

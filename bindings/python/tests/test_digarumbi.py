@@ -1,4 +1,4 @@
-"""The bindings over real members and a look. DIGARUMBI_LIBRARY names another shared library than that of target/lib."""
+"""The bindings over real members and looks. DIGARUMBI_LIBRARY names another shared library than that of target/lib."""
 
 import math
 import os
@@ -24,6 +24,7 @@ def file(*path):
 STATISTICS = file("examples", "spine_1.bin")
 COEFFICIENTS = file("examples", "spine_18.bin")
 LOOK = file("examples", "look_02.tlo")
+OLD_LOOK = file("examples", "look_00.tlo")
 FREQUENCIES = file("crates", "corpus_main", "data", "personnel_00_frequencies_2.bin")
 
 
@@ -214,6 +215,19 @@ class Looks(Rows):
         look = digarumbi.read_look(LOOK)
         self.assertEqual((look.version, look.flags, look.nested_row_labels), (2, 0x01FE, True))
         self.assertEqual((look.min_col_width, look.max_col_width, look.max_row_height), (36, 72, 120))
+        self.assertEqual((look.file_version, look.continuation, look.default_continuation), (2, "", False))
+
+    def test_a_file_of_version_00(self):
+        look, new = digarumbi.read_look(OLD_LOOK), digarumbi.read_look(LOOK)
+        self.assertEqual((look.version, look.file_version), (2, 0))
+        self.assertEqual((look.continuation, look.default_continuation), ("(Cont.)", True))
+        widths, heights = (look.min_col_width, look.max_col_width), (look.min_row_height, look.max_row_height)
+        self.assertEqual((widths, heights), ((36, 72), (36, 120)))
+        self.assertRows(look.separators())
+        drawn = [row for row in look.separators() if row["drawn"]]
+        self.assertEqual([row["separator"] for row in drawn], [f"inner frame {side}" for side in "left right top bottom".split()])
+        self.assertEqual({(row["color"], row["style"], row["width"]) for row in drawn}, {(0, 0, 1)})
+        self.assertEqual((look.flags, look.areas()), (new.flags, new.areas()))
 
     def test_areas(self):
         areas = digarumbi.read_look(LOOK).areas()
@@ -236,6 +250,17 @@ class Looks(Rows):
         self.assertEqual(digarumbi.rewrite_look(LOOK), LOOK)
         self.assertRefused(2, 709, digarumbi.rewrite_look, LOOK[:712])
         self.assertRefused(2, 3, digarumbi.read_look, LOOK[:3])
+
+    def test_rewriting_a_file_of_version_00(self):
+        new = digarumbi.rewrite_look(OLD_LOOK)
+        self.assertEqual(len(new), len(OLD_LOOK) + 78)
+        self.assertEqual((OLD_LOOK[17], new[17]), (0, 2))
+        self.assertEqual((new[:17], new[18 : len(OLD_LOOK)]), (OLD_LOOK[:17], OLD_LOOK[18:]))
+        old_look, new_look = digarumbi.read_look(OLD_LOOK), digarumbi.read_look(new)
+        self.assertEqual((new_look.continuation, new_look.default_continuation), (old_look.continuation, False))
+        self.assertEqual(new_look.separators(), old_look.separators())
+        self.assertEqual(digarumbi.rewrite_look(new), new)
+        self.assertRefused(11, 674, digarumbi.rewrite_look, OLD_LOOK + b"\0")
 
 
 class Texts(Rows):
@@ -345,7 +370,7 @@ class Library(unittest.TestCase):
         texts = dict(re.findall(r'case (DIGARUMBI_REFUSED_\w+):\n\s*return "(.*)";', header))
         self.assertEqual({int(numbers[name]): text for name, text in texts.items()}, digarumbi.REFUSALS)
         self.assertEqual(len(numbers), len(texts))
-        for number in (0, 17):
+        for number in (0, 16, 17):
             self.assertIn(f'return "{digarumbi.refusal_text(number)}";', header)
 
     def test_the_sizes_of_the_header(self):
@@ -355,8 +380,12 @@ class Library(unittest.TestCase):
         records = "DIMENSION_RECORD NODE_RECORD CELL_RECORD TOTAL_RECORD"
         for name in f"{answers} {records}".split():
             self.assertRegex(header, rf"\bDIGARUMBI_{name} = {getattr(digarumbi, name)}\b")
-        for name in "NODE_AREA CELL_AREA LONGEST_LOOK CASES_STATE".split():
+        for name in "NODE_AREA CELL_AREA LONGEST_LOOK LOOK_VERSION_PLACE CASES_STATE".split():
             self.assertIn(f"#define DIGARUMBI_{name} {getattr(digarumbi, name)}\n", header)
+        for name in "ABI LOOK_DEFAULT_CONTINUATION".split():
+            self.assertIn(f"#define DIGARUMBI_{name} UINT32_C({getattr(digarumbi, name)})\n", header)
+        letters = digarumbi.LOOK_DEFAULT_CONTINUATION_LETTERS.decode()
+        self.assertIn(f'#define DIGARUMBI_LOOK_DEFAULT_CONTINUATION_LETTERS "{letters}"\n', header)
 
     def test_a_library_that_is_not_there(self):
         environment = {**os.environ, "DIGARUMBI_LIBRARY": "/nowhere/libdigarumbi.so", "PYTHONPATH": os.path.join(HERE, "..")}

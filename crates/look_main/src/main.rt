@@ -1,4 +1,4 @@
-// The look on standard input, read and written back: exactly the rewritten file's bytes, or the line `refused N at P`.
+// The look on standard input, read and written as version 02: exactly the rewritten file's bytes, or the line `refused N at P`.
 use layout::Span;
 use libc::STDIN_FILENO;
 use libc::STDOUT_FILENO;

@@ -1,16 +1,17 @@
-// The looks that the arguments name: a line for what each gets, and for an accepted one what its writer answers for too short an
-// output, for no names, for the same look as version 00 and as version 01, with a title font name of 256 bytes, and with a title color
-// whose high byte is 1.
+// The looks that the arguments name: a line for what each gets, and for an accepted one how it is rewritten, and what its writer answers for
+// too short an output, for no names, for the same look with the default continuation, as version 00 and as version 01, with a title font
+// name of 256 bytes, and with a title color whose high byte is 1.
 use layout::Span;
 use libc::STDOUT_FILENO;
 use look::Answer;
+use look::Continuation;
 use look::Look;
 use look_write::Written;
 use regions::region::bytes;
 use sizes::LONGEST_LOOK;
 
-// The shortest look, of version 00 with empty names.
-const SHORTEST_LOOK: usize = 674;
+// The shortest look that is written, of version 02 with empty names.
+const SHORTEST_LOOK: usize = 713;
 
 fn text(s: &[u8]) {
     io::write_all(STDOUT_FILENO, s);
@@ -38,6 +39,16 @@ fn answer(w: Written) {
 fn as_version(look: Look, version: u8, file: &[u8]) {
     let mut other = look;
     other.version = version;
+    let mut out = [0u8; LONGEST_LOOK];
+    answer(look_write::write_look(other, file, &mut out));
+}
+
+// What it answers for the look with the default continuation.
+fn with_default(look: Look, file: &[u8]) {
+    let mut v2 = look.v2;
+    v2.continuation = Continuation::Default;
+    let mut other = look;
+    other.v2 = v2;
     let mut out = [0u8; LONGEST_LOOK];
     answer(look_write::write_look(other, file, &mut out));
 }
@@ -85,18 +96,52 @@ fn rewritten(look: Look, file: &[u8]) -> bool {
     }
 }
 
+// How the file that was written is rewritten itself.
+fn again(file: &[u8]) {
+    let read = look::read::read_look(file);
+    match read {
+        Answer::Accepted(look) => {
+            if rewritten(look, file) {
+                text(b"the same");
+            } else {
+                text(b"differently");
+            }
+        }
+        Answer::Refused(n, p) => refused(n, p),
+    }
+}
+
+// A file that isn't rewritten the same: of version 00.
+fn as_version_02(look: Look, file: &[u8]) {
+    let mut out = [0u8; LONGEST_LOOK];
+    let written = look_write::write_look(look, file, &mut out);
+    match written {
+        Written::Length(n) => {
+            text(b"as version 02, ");
+            number(n as u64);
+            text(b" bytes, and that ");
+            again(bytes(&out, Span::Of(0, n)));
+        }
+        Written::Refused(n, p) => refused(n, p),
+    }
+}
+
 fn accepted(look: Look, file: &[u8]) {
     text(b"accepted, ");
     number(file.len() as u64);
+    text(b" bytes, rewritten ");
     if rewritten(look, file) {
-        text(b" bytes, rewritten the same; too short an output: ");
+        text(b"the same");
     } else {
-        text(b" bytes, rewritten differently; too short an output: ");
+        as_version_02(look, file);
     }
+    text(b"; too short an output: ");
     short(look, file);
     let mut out = [0u8; LONGEST_LOOK];
     text(b"; no names: ");
     answer(look_write::write_look(look, b"", &mut out));
+    text(b"; the default continuation: ");
+    with_default(look, file);
     text(b"; version 00: ");
     as_version(look, 0, file);
     text(b"; version 01: ");

@@ -1,4 +1,4 @@
-//! `look`: a table look in words, or written back.
+//! `look`: a table look in words, or written back as version 02.
 
 use std::ffi::{OsStr, OsString};
 
@@ -39,12 +39,17 @@ fn write_back(session: &mut Session, input: &Input, output: &OsStr) -> Written {
     Ok(())
 }
 
+/// The fields of a look in words.
+fn read_fields(file: &[u8], encoding: Encoding) -> Result<Vec<Field>, Refusal> {
+    Ok(fields(Look::file_version(file)?, &Look::read(file)?, encoding))
+}
+
 fn in_words(session: &mut Session, input: &Input, headed: bool) -> Written {
-    let look = match Look::read(&input.bytes) {
-        Ok(look) => look,
+    let encoding = session.options.encoding.unwrap_or(Encoding::Utf8);
+    let fields = match read_fields(&input.bytes, encoding) {
+        Ok(fields) => fields,
         Err(refusal) => return refused(session, input, &refusal),
     };
-    let fields = fields(&look, session.options.encoding.unwrap_or(Encoding::Utf8));
     if session.options.json {
         let object = Object::new().text("file", &input.name).plain("accepted", true);
         let with = |object: Object, (name, value): &Field| object.text(name, value);

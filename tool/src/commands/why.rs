@@ -39,8 +39,8 @@ fn member_answer(input: &Input) -> Result<String, Refusal> {
 }
 
 fn look_answer(input: &Input) -> Result<String, Refusal> {
-    let look = Look::read(&input.bytes)?;
-    Ok(format!("accepted, a look of version {:02}", look.version))
+    let version = Look::file_version(&input.bytes)?;
+    Ok(format!("accepted, a look of version {version:02}"))
 }
 
 type Walked = Result<(), Box<Stop>>;
