@@ -56,7 +56,7 @@ fn in_words(session: &mut Session, input: &Input, headed: bool) -> Written {
         return session.line(fields.iter().fold(object, with).end());
     }
     let heading = headed.then(|| format!("{}:", input.name));
-    let lines = fields.iter().map(|(name, value)| format!("{name:<32}{value}").trim_end().into());
+    let lines = fields.iter().map(|(name, value)| format!("{name:<36}{value}").trim_end().into());
     session.line(heading.into_iter().chain(lines).collect::<Vec<String>>().join("\n"))
 }
 
