@@ -6,6 +6,7 @@ use libc::STDOUT_FILENO;
 use look::Answer;
 use look::Continuation;
 use look::Look;
+use look::V2Styles;
 use look_write::Written;
 use regions::region::bytes;
 use sizes::LONGEST_LOOK;
@@ -45,10 +46,18 @@ fn as_version(look: Look, version: u8, file: &[u8]) {
 
 // What it answers for the look with the default continuation.
 fn with_default(look: Look, file: &[u8]) {
-    let mut v2 = look.v2;
-    v2.continuation = Continuation::Default;
+    let v2 = look.v2;
+    let frames = v2.frames;
+    let with = V2Styles {
+        frames,
+        continuation: Continuation::Default,
+        min_col_width: v2.min_col_width,
+        max_col_width: v2.max_col_width,
+        min_row_height: v2.min_row_height,
+        max_row_height: v2.max_row_height,
+    };
     let mut other = look;
-    other.v2 = v2;
+    other.v2 = with;
     let mut out = [0u8; LONGEST_LOOK];
     answer(look_write::write_look(other, file, &mut out));
 }
