@@ -20,6 +20,7 @@ ghost use Rattle.look_words.specs.FieldWords as look_spec;
 ghost use Rattle.store.specs.Puts.{AtFront};
 ghost use Rattle.member_words.specs.MemberWords.{MemberRead};
 ghost use Rattle.written_words.specs.Looks.{Rewritten};
+ghost use Rattle.written_words.specs.Sections.{Sectioned};
 use desk::node_after;
 use desk::node_name;
 use desk::place::node_name_place;
@@ -33,6 +34,7 @@ use units::font_height;
 use units::pt_to_px;
 use units::px_to_pt;
 use written_words::rewrite_answer;
+use written_words::sections_answer;
 
 // The version of this interface. The header that a program was compiled with has its own: a record's words are as it says where the two are
 // the same.
@@ -107,6 +109,15 @@ pub extern "C" fn digarumbi_rewrite_look(file: &[u8], out: &mut [u8], answer: &m
     ensures { λ n. ⌜ Rewritten (now (file .entry)) (now (out .entry)) (now (answer .entry)) n (now (out .exit)) (now (answer .exit)) ⌝ }
 {
     rewrite_answer(file, out, answer)
+}
+
+// Writes the Areas and Borders sections of a member of version 3 from a look. WRITE_ANSWER_WORDS, with the refusal or 0, its place in the look
+// and the length at the front of `answer`; 0, with nothing read and nothing changed, if it is shorter.
+#[no_mangle]
+pub extern "C" fn digarumbi_look_sections(look: &[u8], out: &mut [u8], answer: &mut [u32]) -> usize
+    ensures { λ n. ⌜ Sectioned (now (look .entry)) (now (out .entry)) (now (answer .entry)) n (now (out .exit)) (now (answer .exit)) ⌝ }
+{
+    sections_answer(look, out, answer)
 }
 
 // Points in pixels: 0 or the refusal's number, 7; the place is 0.

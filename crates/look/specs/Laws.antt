@@ -1,4 +1,5 @@
 -- The laws of looks.
 pub mod Bounds
 pub mod Defaults
+pub mod Separators
 pub mod RefusedExactly

@@ -1,9 +1,9 @@
 // Binary table looks (source document 002): the look by value, and its reader.
 
-mod areas; // their colors and styles
-mod borders; // separators
+pub mod areas; // their colors and styles
+pub mod borders; // separators
 pub mod read; // the reader
-mod section; // the first bytes of a section
+pub mod section; // the first bytes of a section
 
 use store::Name;
 

@@ -35,12 +35,12 @@ use layout::number::field;
 use layout::number::peek;
 use store::verdict::known_two;
 
-struct GotSettings {
-    value: Settings,
-    next: Step,
+pub struct GotSettings {
+    pub value: Settings,
+    pub next: Step,
 }
 
-fn settings(s: &[u8], st: Step) -> GotSettings
+pub fn settings(s: &[u8], st: Step) -> GotSettings
     ensures { λ r. ⌜ Gives grammar.settings (now (s .entry)) st (r .next) (values.settings (r .value)) ⌝ }
 {
     let flags = int16(s, st);

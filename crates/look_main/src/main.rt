@@ -3,10 +3,10 @@ use layout::Span;
 use libc::STDIN_FILENO;
 use libc::STDOUT_FILENO;
 use look::Answer;
-use look_write::Written;
 use regions::region::bytes;
 use report::LINE_BYTES;
 use sizes::LONGEST_LOOK;
+use store::Written;
 
 fn refused(n: u32, place: usize) {
     let mut out = [0u8; LINE_BYTES];

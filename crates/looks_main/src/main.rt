@@ -7,9 +7,9 @@ use look::Answer;
 use look::Continuation;
 use look::Look;
 use look::V2Styles;
-use look_write::Written;
 use regions::region::bytes;
 use sizes::LONGEST_LOOK;
+use store::Written;
 
 // The shortest look that is written, of version 02 with empty names.
 const SHORTEST_LOOK: usize = 713;

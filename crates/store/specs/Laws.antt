@@ -6,3 +6,4 @@ pub mod Lands
 pub mod Trees
 pub mod Bounds
 pub mod Puts
+pub mod Deliver

@@ -5,4 +5,5 @@ pub mod Check
 pub mod Unwritable
 pub mod Fit
 pub mod Puts
+pub mod Deliver
 pub mod Laws

@@ -1,2 +1,3 @@
 mod Convert
 mod Rewrite
+mod Sections

@@ -14,6 +14,7 @@ use Rattle.grammar.specs.Layout.{Bytes}
 use Rattle.layout.specs.Words.{word32}
 use Rattle.layout.specs.Laws.Words.{word-same}
 use Rattle.grammar.specs.Laws.Layout.Read.{read}
+use Rattle.store.specs.Check.{placeOf}
 use Rattle.store.specs.Puts.{PutsWords}
 use Rattle.store.specs.Laws.Puts.{with-room, without-room}
 use Rattle.look.specs.declared.Look.{Look}
@@ -21,23 +22,24 @@ use Rattle.look.specs.declared.Answer.{Answer}
 use Rattle.look.specs.declared.Answer.the-variants as look
 use Rattle.look.specs.Look.{TableLook}
 use Rattle.look.specs.Answers.{outcome, expected}
-use Rattle.look_write.specs.declared.Written.{Written}
-use Rattle.look_write.specs.declared.Written.the-variants as wrote-variants
-use Rattle.look_write.specs.Writing.{output, answer as written, Wrote}
-use Rattle.look_write.specs.Laws.Calls.{reach, reach-within}
+use Rattle.store.specs.declared.Written.{Written}
+use Rattle.store.specs.declared.Written.the-variants as wrote-variants
+use Rattle.store.specs.Deliver.{output, answer as written}
+use Rattle.look_write.specs.Writing.{Wrote}
+use Rattle.look_write.specs.Laws.Calls.{reach-within}
 use Rattle.look_words.specs.Laws.Theorems.{place-same}
 use Rattle.written_words.specs.Looks.{rewriting, rewritten, stepWords, Rewritten}
 
-three : (st : Step) → length (stepWords st) ≡ write-answer-words
+pub three : (st : Step) → length (stepWords st) ≡ write-answer-words
 three (Next n) = refl
 three (Refused n p) = refl
 
 -- the words that the code stores of what was written
-abbrev stored : Written → List ℕ
+abbrev pub stored : Written → List ℕ
 stored (wrote-variants.Length n) = 0 ∷ 0 ∷ word32 n ∷ []
 stored (wrote-variants.Refused n p) = n ∷ word32 p ∷ 0 ∷ []
 
-stored-same : (v : Written) → reach v ≤ longest-look → stored v ≡ stepWords (written v)
+pub stored-same : (v : Written) → placeOf (written v) ≤ longest-look → stored v ≡ stepWords (written v)
 stored-same (wrote-variants.Length n) h = rw (word-same n (omega arith))
 stored-same (wrote-variants.Refused n p) h = rw (word-same p (omega arith))
 
@@ -60,7 +62,7 @@ module _ (s : List ℕ) (bs : Bytes s) (out answer : List ℕ) (a : Answer) (e :
   pub wrote : {x : Look} {w v : Written} {out′ answer′ : List ℕ} {r : Step} → a ≡ look.Accepted x → w ≡ v → Wrote x s out w out′
       → leb write-answer-words (length answer) ≡ true → PutsWords (stored v) answer (Next 0) answer′ r → Rewritten s out answer write-answer-words out′ answer′
   wrote {x} {w} {v} {out′} {answer′} {r} i k call t y =
-      let far : reach v ≤ longest-look = rw k at (reach-within x s out w out′ call) in
+      let far : placeOf (written v) ≤ longest-look = rw k at (reach-within x s out w out′ call) in
       let y′ : PutsWords (stepWords (written v)) answer (Next 0) answer′ r = rw (stored-same v far) at y in
       done {r = r} t (rw i (call .1)) (rw (i, ← (call .0), k) y′)
 

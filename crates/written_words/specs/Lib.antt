@@ -1,3 +1,4 @@
 pub mod Looks
+pub mod Sections
 pub mod Encodings
 pub mod Laws

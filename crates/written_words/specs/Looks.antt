@@ -14,7 +14,8 @@ use Rattle.look.specs.declared.Answer.{Answer as LookAnswer}
 use Rattle.look.specs.declared.Answer.the-variants as look
 use Rattle.look.specs.Look.{TableLook}
 use Rattle.look.specs.Answers.{outcome as lookOutcome, expected}
-use Rattle.look_write.specs.Writing.{file, writing, output}
+use Rattle.store.specs.Deliver.{output}
+use Rattle.look_write.specs.Writing.{file, writing}
 
 -- what reading a file and writing the look again gives: the length, or a refusal of the reader or the writer
 abbrev pub rewriting : LookAnswer → List ℕ → ℕ → Step

@@ -1,4 +1,4 @@
-// What was written, as three 32-bit words at the front of a lent area: a look again, and text in another encoding.
+// What was written, as three 32-bit words at the front of a lent area: a look again, the sections of a look, and text in another encoding.
 pub mod text; // text in old code pages
 
 ghost use mathlib.Core.List.{[], _∷_};
@@ -6,12 +6,14 @@ ghost use Rattle.layout.specs.declared.Step.the-variants.{Next};
 ghost use Rattle.layout.specs.Words.{word32};
 ghost use Rattle.store.specs.Puts.{PutsWords};
 ghost use Rattle.written_words.specs.Looks.{Rewritten};
+ghost use Rattle.written_words.specs.Sections.{Sectioned};
 use layout::Step;
 use look::Answer;
 use look::read::read_look;
-use look_write::Written;
+use look_sections::look_sections;
 use look_write::write_look;
 use sizes::WRITE_ANSWER_WORDS;
+use store::Written;
 use store::words::put;
 
 // Three words: the refusal, or 0, its place, and the length.
@@ -48,6 +50,26 @@ pub fn rewrite_answer(file: &[u8], out: &mut [u8], answer: &mut [u32]) -> usize
                     step_words(answer, 0, 0, n);
                 }
             },
+        }
+        WRITE_ANSWER_WORDS
+    } else {
+        0
+    }
+}
+
+// Writes the sections of a look: see `digarumbi_look_sections` of `api`.
+pub fn sections_answer(file: &[u8], out: &mut [u8], answer: &mut [u32]) -> usize
+    ensures { λ n. ⌜ Sectioned (now (file .entry)) (now (out .entry)) (now (answer .entry)) n (now (out .exit)) (now (answer .exit)) ⌝ }
+{
+    let asked = WRITE_ANSWER_WORDS <= answer.len();
+    if asked {
+        match look_sections(file, out) {
+            Written::Refused(n, p) => {
+                step_words(answer, n, p, 0);
+            }
+            Written::Length(length) => {
+                step_words(answer, 0, 0, length);
+            }
         }
         WRITE_ANSWER_WORDS
     } else {

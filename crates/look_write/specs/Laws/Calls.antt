@@ -3,7 +3,6 @@ use mathlib.Core.Path.{_≡_, sym, ap, _∙_}
 use mathlib.Core.Logic.{_↔_}
 use mathlib.Core.List.{List}
 use Prim.Native.Nat.{ℕ, _≤_}
-use native.Mathlib.Omega.{arith}
 use lib.ListN.{length, take, drop}
 use lib.Seq.{take-at, drop-at}
 use Rattle.sizes.specs.Sizes.{longest-look}
@@ -16,26 +15,15 @@ use Rattle.look.specs.declared.Answer.{Answer}
 use Rattle.look.specs.declared.Answer.the-variants as read-answer
 use Rattle.look.specs.Look.{TableLook}
 use Rattle.look.specs.Answers.{outcome, expected}
-use Rattle.look_write.specs.declared.Written.{Written}
-use Rattle.look_write.specs.declared.Written.the-variants as written
-use Rattle.look_write.specs.Writing.{file, writing, output, answer, Wrote}
+use Rattle.store.specs.declared.Written.{Written}
+use Rattle.store.specs.declared.Written.the-variants as written
+use Rattle.store.specs.Deliver.{output, answer}
+use Rattle.store.specs.Laws.Deliver.{is-refused, is-length}
+use Rattle.look_write.specs.Writing.{file, writing, Wrote}
 use Rattle.look_write.specs.Refused as refusals
 use Rattle.look_write.specs.Refused.{Allowed}
 use Rattle.look_write.specs.Laws.RefusedExactly.{refused-exactly, written-exactly, place-within}
 use Rattle.look_write.specs.Laws.Theorems.{Same, written-reads-same}
-
-is-refused : (r : Written) (n p : ℕ) → answer r ≡ Refused n p → r ≡ written.Refused n p
-is-refused (written.Length m) n p e = absurd (let z : _≡_ {A = ℕ} 0 1 = cc in omega arith)
-is-refused (written.Refused m q) n p e = let a : m ≡ n = cc in let b : q ≡ p = cc in rw (a, b)
-
-is-length : (r : Written) (n : ℕ) → answer r ≡ Next n → r ≡ written.Length n
-is-length (written.Length m) n e = let a : m ≡ n = cc in rw a
-is-length (written.Refused m q) n e = absurd (let z : _≡_ {A = ℕ} 0 1 = cc in omega arith)
-
--- the length, or the place of a refusal
-abbrev pub reach : Written → ℕ
-reach (written.Length n) = n
-reach (written.Refused n p) = p
 
 module _ (x : Look) (s out : List ℕ) (r : Written) (out′ : List ℕ) (call : Wrote x s out r out′) where
   -- it refuses exactly what is refused, by that number and at that place, and leaves the output as it was
@@ -51,13 +39,9 @@ module _ (x : Look) (s out : List ℕ) (r : Written) (out′ : List ℕ) (call :
       let w : writing x s (length out) ≡ Refused n p = sym (call .0) ∙ ap answer e in
       call .1 ∙ ap (λ (c : Step). output c (file x s) out) w
 
-  -- neither is farther than the longest look reaches
-  pub reach-within : reach r ≤ longest-look
-  reach-within = go r (rw (← (call .0)) at (place-within x s (length out) (call .2)))
-    where
-      go : (r : Written) → placeOf (answer r) ≤ longest-look → reach r ≤ longest-look
-      go (written.Length n) h = h
-      go (written.Refused n p) h = h
+  -- the place of a refusal, and the length, are no farther than the longest look reaches
+  pub reach-within : placeOf (answer r) ≤ longest-look
+  reach-within = rw (call .0) (place-within x s (length out) (call .2))
 
   -- it writes exactly what is not refused, and answers the length of the file
   pub writes-exactly : (n : ℕ) → (r ≡ written.Length n) ↔ (Allowed x s (length out) × (n ≡ length (file x s)))

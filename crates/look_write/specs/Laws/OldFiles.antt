@@ -1,16 +1,14 @@
 -- What is answered for an old file: "now come back as version 02 looks with 002's defaults" (document 02, T-10).
 use mathlib.Core.Path.{_≡_, refl, sym, ap, _∙_}
 use mathlib.Core.Bool.{Bool, true, false, false≢true}
-use mathlib.Core.List.{List, [], _∷_}
-use Prim.Native.Nat.{ℕ, zero, suc}
+use mathlib.Core.List.{List}
+use Prim.Native.Nat.{ℕ}
 use native.Mathlib.Omega.{arith}
 use lib.Dec.{eqb}
 use borrow.Author.Tests.{ne-eqb}
 use Rattle.grammar.specs.Layout.{Tree, Bytes}
 use Rattle.grammar.specs.Laws.Layout.Read.{read}
 use Rattle.store.specs.Fields.{Text, lent, letters, Fields, placed}
-use Rattle.look.specs.declared.Separator.{Separator}
-use Rattle.look.specs.declared.Separator.the-variants.{NotDrawn, Drawn}
 use Rattle.look.specs.declared.Continuation.{Continuation}
 use Rattle.look.specs.declared.Continuation.the-variants.{Default, Stored}
 use Rattle.look.specs.declared.V2Styles.{V2Styles}
@@ -20,25 +18,10 @@ use Rattle.look.specs.Look as grammar
 use Rattle.look.specs.Look.{TableLook, TableLook02}
 use Rattle.look.specs.Values as values
 use Rattle.look.specs.Answers.{defaults, outcome, v2-data, expected}
+use Rattle.look.specs.Laws.Separators.{separator-at, separator-back}
 use Rattle.look_write.specs.Laws.Theorems.{of-file, fields-are}
 
 -- ---- V2Styles from its fields: so two that have the same fields are the same
-
-separator-if : (b : Bool) → Fields (grammar.SeparatorIf b) → Separator
-separator-if true f = Drawn (f .0 .0 .1 .0) (f .0 .1 .0) (f .1 .0)
-separator-if false f = NotDrawn
-
--- the separator at an index
-separator-at : ℕ → List (Fields grammar.Separator) → Separator
-unfolding separator-if
-separator-at n [] = NotDrawn
-separator-at zero (f ∷ fs) = separator-if (eqb (f .0) 1) (f .1)
-separator-at (suc n) (f ∷ fs) = separator-at n fs
-
-separator-back : (x : Separator) (fs : List (Fields grammar.Separator)) → separator-at 0 (values.separator x ∷ fs) ≡ x
-unfolding separator-at
-separator-back NotDrawn fs = refl
-separator-back (Drawn c s w) fs = refl
 
 continuation-of : Text → Continuation
 continuation-of (lent n) = Stored n
@@ -71,17 +54,17 @@ styles-back : (x : V2Styles) → styles-of (values.v2-styles x) ≡ x
 unfolding styles-of separator-at
 styles-back x =
     rw (
-      separator-back (x .frames .title) [],
-      separator-back (x .frames .inner .left) [],
-      separator-back (x .frames .inner .right) [],
-      separator-back (x .frames .inner .top) [],
-      separator-back (x .frames .inner .bottom) [],
-      separator-back (x .frames .outer .left) [],
-      separator-back (x .frames .outer .right) [],
-      separator-back (x .frames .outer .top) [],
-      separator-back (x .frames .outer .bottom) [],
-      separator-back (x .frames .«data_left») [],
-      separator-back (x .frames .«data_top») [],
+      separator-back (x .frames .title),
+      separator-back (x .frames .inner .left),
+      separator-back (x .frames .inner .right),
+      separator-back (x .frames .inner .top),
+      separator-back (x .frames .inner .bottom),
+      separator-back (x .frames .outer .left),
+      separator-back (x .frames .outer .right),
+      separator-back (x .frames .outer .top),
+      separator-back (x .frames .outer .bottom),
+      separator-back (x .frames .«data_left»),
+      separator-back (x .frames .«data_top»),
       continuation-back (x .continuation),
     )
 

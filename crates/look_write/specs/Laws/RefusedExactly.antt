@@ -25,7 +25,8 @@ use Rattle.look.specs.declared.Look.{Look}
 use Rattle.look.specs.Look.{TableLook02}
 use Rattle.look.specs.Values as values
 use Rattle.look.specs.Laws.Bounds.{look-most}
-use Rattle.look_write.specs.Writing.{file, ending, writing, Fits}
+use Rattle.store.specs.Deliver.{ending}
+use Rattle.look_write.specs.Writing.{file, writing, Fits}
 use Rattle.look_write.specs.Refused.{Refused, field, too-short, Allowed}
 
 module _ (x : Look) (s : List ℕ) (room : ℕ) where

@@ -11,14 +11,13 @@ use native.Mathlib.Omega.{arith}
 use lib.ListN.{length, length-append}
 use lib.Dec.{eqb, leb}
 use borrow.Author.Tests.{eq-eqb, ne-eqb}
-use Rattle.layout.specs.declared.Step.{Step}
 use Rattle.layout.specs.declared.Step.the-variants.{Next, Refused}
 use Rattle.sizes.specs.Basics.{among, pick, le}
-use Rattle.grammar.specs.Layout.{passes, Tree, spell, spellAll, digits, Bytes, no-bytes, byte, Derivation, Layout, empty, _▸_, Valid, suits, all-none, all-more, little}
+use Rattle.grammar.specs.Layout.{passes, Tree, spell, digits, Bytes, no-bytes, byte, Derivation, _▸_, Valid, suits, all-none, all-more, little}
 use Rattle.grammar.specs.Laws.Layout.Read.{Got, got, no, read}
 use Rattle.grammar.specs.Laws.Layout as laws
 use Rattle.layout.specs.Reads.{chain}
-use Rattle.store.specs.Fields.{Fields, placed, bytesOf, textOf, resolveAll, resolve, bytesIn}
+use Rattle.store.specs.Fields.{Fields, placed, textOf, resolveAll, resolve, bytesIn}
 use Rattle.store.specs.Fit.{Fit}
 use Rattle.store.specs.Unwritable.{Writable}
 use Rattle.look.specs.declared.Look.{Look}
@@ -30,7 +29,8 @@ use Rattle.look.specs.Values as values
 use Rattle.look.specs.Values.{_&_}
 use Rattle.look.specs.Answers.{defaults, accepted, outcome, v2-data, look-of, expected}
 use Rattle.look.specs.Laws.Defaults.{default-tree, default-bytes, default-spells}
-use Rattle.look_write.specs.Writing.{file, ending, writing, Fits}
+use Rattle.store.specs.Deliver.{ending}
+use Rattle.look_write.specs.Writing.{file, writing, Fits}
 use Rattle.look_write.specs.Laws.RefusedExactly.{written-exactly, version-written}
 use Rattle.store.specs.Laws.Trees.{Stands, resolve-placed, writable-placed, valid-resolved}
 use Rattle.store.specs.Laws.Exactly.{writable-exactly}

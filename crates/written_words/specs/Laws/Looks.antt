@@ -13,7 +13,8 @@ use Rattle.look.specs.declared.Answer.{Answer as LookAnswer}
 use Rattle.look.specs.declared.Answer.the-variants as look
 use Rattle.look.specs.Look.{TableLook}
 use Rattle.look.specs.Answers.{outcome, expected}
-use Rattle.look_write.specs.Writing.{file, output}
+use Rattle.store.specs.Deliver.{output}
+use Rattle.look_write.specs.Writing.{file}
 use Rattle.look_write.specs.Laws.Theorems as looks
 use Rattle.look_write.specs.Laws.Theorems.{Renewed, Same}
 use Rattle.written_words.specs.Looks.{Rewritten}

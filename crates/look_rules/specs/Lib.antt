@@ -1,0 +1,3 @@
+pub mod StyleRule
+pub mod Checks
+pub mod Laws

@@ -1,0 +1,4 @@
+pub mod InMember
+pub mod Names
+pub mod Exactly
+pub mod Calls

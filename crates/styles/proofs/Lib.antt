@@ -1,0 +1,3 @@
+mod Mixing
+mod Floats
+mod Heights
