@@ -1,5 +1,5 @@
-/* Digarumbi: reads light detail members, version 1 and 3, and binary table looks (.tlo), totals the counts of members, converts names in
- * old code pages, and decodes compressed case data.
+/* Digarumbi: reads light detail members, version 1 and 3, and binary table looks (.tlo), makes areas and borders of members from looks, totals
+ * the counts of members, converts names in old code pages, and decodes compressed case data.
  *
  * "01", "02", "002", "003" and "004" below are the papers that the library follows: document 01 (the rules), document 02 (changes to them),
  * source document 002 (looks), source document 003 (members) and source document 004 (case data).
@@ -62,8 +62,10 @@ uint32_t digarumbi_abi(void);
  *   12   node area shorter than 7 words a node                                    0
  *   13   cell area shorter than 3 words a cell                                    0
  *   14   look: a color's high byte not 0                                          the color
- *   15   look writer, text, totals of a dimension: output too short               0
- *   18   a zero byte inside a string of a member                                  its first length byte
+ *   15   look writer, sections of a look, text, totals of a dimension: output     0
+ *        too short
+ *   18   a zero byte inside a string of a member; sections of a look: inside a    its first length byte
+ *        font's name
  *   19   totals: a dimension or leaf that isn't there                             0
  *   20   totals: a number under the leaf that is no count                         the Value of the first such cell
  *   21   case data: a bad kind list or bias, or words that are no state           0
@@ -73,15 +75,18 @@ uint32_t digarumbi_abi(void);
  *   25   text: a byte without an entry in the page; a character that has none,    that byte / first byte of that
  *        or isn't UTF-8 in its shortest form                                      character
  *   26   a list of more than 64 members, or of an odd number of words             0
+ *   29   sections of a look: a drawn separator whose style and width have no      first byte of the separator /
+ *        meaning in 002; an alignment that has none                               the alignment
  *
- * 16 was withdrawn (02, T-10). Neither it nor 17 is given.
+ * 16 was withdrawn (02, T-10). Neither it nor 17, 27 and 28 are given.
  *
  * Number 7 stands at the count for dimensions, footnotes and cells; at the first byte of the 4,097th category; at the first byte of a
- * Value or category that is too deep; for the product of all n at the first axis count; at a look's shading byte above 10; at 0 for
- * points, pixels and font sizes.
+ * Value or category that is too deep; for the product of all n at the first axis count; at a look's shading byte above 10; for the sections
+ * of a look at a font size of 0 and above, or with a height over 1,000,000; at 0 for points, pixels and font sizes that stand alone.
  *
  * Order: 1, then the file from front to back, then 11, 12, 13, and for totals 19, then 15, then 20; for looks from front to back, then 11,
- * then 15; for text 24, then 25 over the whole input, then 15.
+ * then 15; for the sections of a look the look's own, 11 too, then 29, 7 and 18 from front to back, then 15; for text 24, then 25 over the
+ * whole input, then 15.
  * After a refusal every lent area but `answer` holds what it held before; of a list of members a refused one leaves its own shares so. */
 enum {
     DIGARUMBI_REFUSED_TOO_LONG = 1,
@@ -107,7 +112,8 @@ enum {
     DIGARUMBI_REFUSED_CASE_END = 23,
     DIGARUMBI_REFUSED_UNKNOWN_PAGE = 24,
     DIGARUMBI_REFUSED_NO_CHARACTER = 25,
-    DIGARUMBI_REFUSED_BAD_LIST = 26
+    DIGARUMBI_REFUSED_BAD_LIST = 26,
+    DIGARUMBI_REFUSED_NO_MEANING = 29
 };
 
 /* What a refusal number says, in one line; never NULL. */
@@ -164,6 +170,8 @@ static inline const char *digarumbi_refusal_text(uint32_t number)
         return "a byte without an entry in the page, or a character that has none or isn't UTF-8 in its shortest form";
     case DIGARUMBI_REFUSED_BAD_LIST:
         return "a list of more than 64 members, or of an odd number of words";
+    case DIGARUMBI_REFUSED_NO_MEANING:
+        return "a drawn separator whose style and width have no meaning, or an alignment that has none";
     default:
         return "no such refusal number";
     }
@@ -508,9 +516,10 @@ size_t digarumbi_index(const uint32_t *ns, size_t dimensions, uint32_t layers, u
 /* The answer of digarumbi_read_look has 264 words: refusal, place, and from word DIGARUMBI_LOOK on the look, in file order. After a refusal
  * the look's words are all 0. */
 enum {
-    DIGARUMBI_LOOK = 2,          /* first word of the look */
-    DIGARUMBI_LOOK_ANSWER = 264, /* words in all */
-    DIGARUMBI_REWRITE_ANSWER = 3 /* words of the answer of digarumbi_rewrite_look */
+    DIGARUMBI_LOOK = 2,           /* first word of the look */
+    DIGARUMBI_LOOK_ANSWER = 264,  /* words in all */
+    DIGARUMBI_REWRITE_ANSWER = 3, /* words of the answer of digarumbi_rewrite_look */
+    DIGARUMBI_SECTIONS_ANSWER = 3 /* words of the answer of digarumbi_look_sections */
 };
 
 /* Files of version 00 and 02 are accepted. The version of an accepted file is its byte DIGARUMBI_LOOK_VERSION_PLACE, 0 or 2; what is answered is
@@ -595,6 +604,38 @@ size_t digarumbi_read_look(const uint8_t *file, size_t file_length, uint32_t *an
  * changes. Nothing is written after a refusal. Bytes of `out` beyond the length and words of `answer` beyond 3 stay. */
 size_t digarumbi_rewrite_look(const uint8_t *file, size_t file_length, uint8_t *out, size_t out_length, uint32_t *answer,
                               size_t answer_words);
+
+/* Bytes of the longest sections: 804, and eight names of fonts of 255 bytes each. */
+#define DIGARUMBI_LONGEST_SECTIONS 2844
+
+/* Reads a look, from a file of either version, and writes the Areas and Borders sections of a version 3 member into `out`, as 003 lays them
+ * out (02, T-12): 804 bytes and those of the eight names of fonts. In a version 3 member they can stand in the place of its own two sections;
+ * its records are then the same but for the places, which are moved by the difference of the lengths.
+ *
+ * Areas and borders are matched by name and stand in the order of their numbers; no 00 stands before the areas. Of an area:
+ *
+ *     typeface        the font's name
+ *     size            the font's height, which is in pixels already: 96ths of an inch
+ *     style           1 for a weight of 700 and above, 2 for italic, their sum for both
+ *     underline       as in the look
+ *     halign          2, 4, 0, 64173, 61453 for the look's 0 to 4: left, right, center, mixed, decimal
+ *     valign          1, 3, 0 for the look's 0 to 2: top, bottom, center
+ *     fg-color        the color of the text, as # and six small hex digits: red, green, blue
+ *     bg-color        each part (shading * color10 + (10 - shading) * color0) / 10, rounded down, likewise
+ *     alternate       0, and two empty strings
+ *     margins         unsigned 20ths of a point, divided by 20 and rounded down, then times 133/100 and rounded up: pixels
+ *
+ * Of a border: 0, no line, in opaque black where its separator isn't drawn; else the separator's color, opaque, and the line of its style and
+ * width: style 0 is thin (4) with width 0, solid (1) with 1, thick (3) with 2 and 3; style 1 is double (5) with width 0 and 1; style 2 is
+ * dashed (2) with any width. Grid lines are off. The look's other fields are left out.
+ *
+ * The answer has 3 words: refusal, place, and the length written, 0 after a refusal. Refusals: those of digarumbi_read_look, all of them;
+ * then, at their places in the file and in its order, 29 at a drawn separator whose style and width are none of these and at a valign or halign
+ * that is none of these, 7 at a font size of 0 and above or with a height over 1,000,000, and 18 at the length byte of a font's name with a
+ * zero byte in it; then 15 at 0 if `out` is too short. Returns 3; returns 0 if `answer` has fewer: then nothing is read and nothing changes.
+ * Nothing is written after a refusal. Bytes of `out` beyond the length and words of `answer` beyond 3 stay. */
+size_t digarumbi_look_sections(const uint8_t *look, size_t look_length, uint8_t *out, size_t out_length, uint32_t *answer,
+                               size_t answer_words);
 
 /* ---- Text in old code pages ---- */
 

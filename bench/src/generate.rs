@@ -9,7 +9,7 @@ mod titles;
 mod value;
 
 pub use counts::member_with_counts;
-pub use look::{look_bytes, look_to_write, LookToWrite};
+pub use look::{look_bytes, look_to_write, styled_look_bytes, LookToWrite};
 pub use value::{any_value, argument_of_value};
 
 use crate::member::Answer;

@@ -1,10 +1,12 @@
 //! Binary table looks. Files of version 00 and 02 are read, and those of version 02 written; a look
-//! is always of version 02.
+//! is always of version 02. Areas and Borders of a member are made from them.
 
 mod read;
+mod sections;
 mod write;
 
-pub use read::{file_version, read_look};
+pub use read::{file_version, read_look, read_with_places};
+pub use sections::look_sections;
 pub use write::write_look;
 
 /// The version of every look that is read, and the one that is written.
@@ -125,6 +127,27 @@ pub struct Look {
     pub title_style: AreaStyle,
     pub most_areas: [(AreaColor, AreaStyle); 7],
     pub v2: V2Styles,
+}
+
+/// Where those fields of a look stand in its file that can be refused when sections are made from it.
+#[derive(Clone, Copy, Debug, Default, PartialEq, Eq)]
+pub struct Places {
+    pub separators1: [usize; 4],
+    pub separators2: [usize; 4],
+    pub title_style: StylePlaces,
+    pub most_areas: [StylePlaces; 7],
+    /// All 0 if the file is of version 00 and has none.
+    pub v2_separators: [usize; 11],
+}
+
+/// Likewise, of an AreaStyle.
+#[derive(Clone, Copy, Debug, Default, PartialEq, Eq)]
+pub struct StylePlaces {
+    pub valign: usize,
+    pub halign: usize,
+    pub font_size: usize,
+    /// The length byte.
+    pub font_name: usize,
 }
 
 impl Look {

@@ -23,6 +23,7 @@ pub const NO_COUNT: u32 = 20;
 pub const UNKNOWN_PAGE: u32 = 24;
 pub const NO_CHARACTER: u32 = 25;
 pub const MEMBER_LIST: u32 = 26;
+pub const NO_MEANING: u32 = 29;
 
 #[derive(Clone, Copy, Debug, PartialEq, Eq)]
 pub struct Refusal {

@@ -29,6 +29,7 @@ __all__ = [
     "read_members",
     "read_look",
     "rewrite_look",
+    "look_sections",
     "decode",
     "encode",
     "read_cases",
@@ -49,6 +50,7 @@ POSITION_WORDS = 5
 INDEX_WORDS = 3
 LOOK_ANSWER = 264
 REWRITE_ANSWER = 3
+SECTIONS_ANSWER = 3
 TEXT_ANSWER = 3
 CASES_ANSWER = 2
 CASES_FEED_ANSWER = 4
@@ -61,6 +63,7 @@ TOTAL_RECORD = 11
 NODE_AREA = 28672
 CELL_AREA = 12288
 LONGEST_LOOK = 3160
+LONGEST_SECTIONS = 2844
 LOOK_VERSION_PLACE = 17
 LOOK_DEFAULT_CONTINUATION = 0xFFFFFFFF
 LOOK_DEFAULT_CONTINUATION_LETTERS = b"(Cont.)"
@@ -71,7 +74,7 @@ LAST_WORD = 0xFFFFFFFF
 CELL_INDEX = 10
 NO_SUCH_LEAF = 19
 
-# The refusal numbers, with document 01's words. 16 and 17 are not given.
+# The refusal numbers, with document 01's words. 16, 17, 27 and 28 are not given.
 REFUSALS = {
     1: "member too long",
     2: "a field doesn't fit in the input or its region",
@@ -97,6 +100,7 @@ REFUSALS = {
     24: "an unknown page",
     25: "a byte without an entry in the page, or a character that has none or isn't UTF-8 in its shortest form",
     26: "a list of more than 64 members, or of an odd number of words",
+    29: "a drawn separator whose style and width have no meaning, or an alignment that has none",
 }
 
 
@@ -133,6 +137,7 @@ FUNCTIONS = {
     "digarumbi_totals": (BYTES + [c_uint32] + AREA + AREA + AREA + AREA, c_size_t),
     "digarumbi_read_look": (BYTES + AREA, c_size_t),
     "digarumbi_rewrite_look": (BYTES + BYTES + AREA, c_size_t),
+    "digarumbi_look_sections": (BYTES + BYTES + AREA, c_size_t),
     "digarumbi_to_utf8": ([c_uint32] + BYTES + BYTES + AREA, c_size_t),
     "digarumbi_from_utf8": ([c_uint32] + BYTES + BYTES + AREA, c_size_t),
     "digarumbi_cases_start": (BYTES + [c_uint32] + AREA + AREA, c_size_t),
@@ -622,6 +627,14 @@ def rewrite_look(data):
     file as the version 02 file of its look, 78 bytes longer."""
     out, answer = ctypes.create_string_buffer(LONGEST_LOOK), _area(REWRITE_ANSWER)
     _library.digarumbi_rewrite_look(*_input(data), out, LONGEST_LOOK, *answer)
+    return _written(out, answer)
+
+
+def look_sections(data):
+    """Makes the Areas and Borders sections of a version 3 member from a look, whose file is of either version, as bytes. They can stand in
+    the place of a member's own."""
+    out, answer = ctypes.create_string_buffer(LONGEST_SECTIONS), _area(SECTIONS_ANSWER)
+    _library.digarumbi_look_sections(*_input(data), out, LONGEST_SECTIONS, *answer)
     return _written(out, answer)
 
 

@@ -186,6 +186,64 @@ static void old_looks(struct bytes look)
     CHECK(answer[DIGARUMBI_REFUSAL] == 0 && answer[2] == length && memcmp(again, out, length) == 0);
 }
 
+/* Areas and Borders from a look whose fonts have no names and whose separators are not drawn, in the place of a member's own: those stand from
+ * 271 to 1155. */
+static void sections(struct bytes look, struct bytes member)
+{
+    static uint8_t out[DIGARUMBI_LONGEST_SECTIONS], with[DIGARUMBI_MEMBER_BYTES];
+    /* index and mark; no name; 12 as a float; bold and italic; not underlined; center, bottom */
+    static const uint8_t first[] = {1, 0x31, 0, 0, 0, 0, 0, 0, 0x40, 0x41, 3, 0, 0, 0, 0, 0, 0, 0, 0, 3, 0, 0, 0};
+    static const uint8_t borders[] = {0xf0, 0, 0, 0, 0, 0, 0, 1, 0, 0, 0, 19, 0, 0, 0, 0, 0, 0, 0, 0, 0xff, 0, 0, 0};
+    const size_t length = 804, before = 271, after = 1155, rest = member.length - 1155;
+
+    memset(out, 9, sizeof out);
+    CHECK(digarumbi_look_sections(look.at, look.length, out, sizeof out, answer, DIGARUMBI_SECTIONS_ANSWER) == DIGARUMBI_SECTIONS_ANSWER);
+    CHECK(answer[DIGARUMBI_REFUSAL] == 0 && answer[DIGARUMBI_PLACE] == 0 && answer[2] == length);
+    CHECK(memcmp(out, first, sizeof first) == 0 && memcmp(out + sizeof first, "\7\0\0\0#332211\7\0\0\0#030201", 22) == 0);
+    CHECK(memcmp(out + 560, borders, sizeof borders) == 0);
+    CHECK(out[length] == 9 && out[sizeof out - 1] == 9);
+
+    memcpy(with, member.at, before);
+    memcpy(with + before, out, length);
+    memcpy(with + before + length, member.at + after, rest);
+    digarumbi_read_member(with, before + length + rest, answer, DIGARUMBI_MEMBER_ANSWER, nodes, DIGARUMBI_NODE_AREA, cells,
+                          DIGARUMBI_CELL_AREA);
+    CHECK(answer[DIGARUMBI_REFUSAL] == 0);
+    CHECK(answer[DIGARUMBI_DIMENSION_COUNT] == 2 && answer[DIGARUMBI_NODE_COUNT] == 9 && answer[DIGARUMBI_CELL_COUNT] == 10);
+    CHECK(cell_number(with, cells + DIGARUMBI_CELL_RECORD * 9) == 0);
+}
+
+/* Whether nothing is written, and the answer is a refusal at that place. */
+static int is_refused(struct bytes look, size_t out_length, uint32_t number, uint32_t place)
+{
+    static uint8_t out[DIGARUMBI_LONGEST_SECTIONS];
+    size_t i;
+
+    memset(out, 9, sizeof out);
+    digarumbi_look_sections(look.at, look.length, out, out_length, answer, DIGARUMBI_SECTIONS_ANSWER);
+    for (i = 0; i < sizeof out; i++)
+        if (out[i] != 9)
+            return 0;
+    return answer[DIGARUMBI_REFUSAL] == number && answer[DIGARUMBI_PLACE] == place && answer[2] == 0;
+}
+
+/* The title's alignment stands at 124, its font's size at 142. */
+static void refused_sections(struct bytes look)
+{
+    uint8_t out[1] = {9};
+
+    answer[0] = 9;
+    CHECK(digarumbi_look_sections(look.at, look.length, out, 1, answer, DIGARUMBI_SECTIONS_ANSWER - 1) == 0);
+    CHECK(answer[0] == 9 && out[0] == 9);
+    CHECK(is_refused(look, 803, DIGARUMBI_REFUSED_OUTPUT_TOO_SHORT, 0));
+    look.at[145] = 0x7f;
+    CHECK(is_refused(look, DIGARUMBI_LONGEST_SECTIONS, DIGARUMBI_REFUSED_LIMIT, 142));
+    look.at[124] = 3;
+    CHECK(is_refused(look, 0, DIGARUMBI_REFUSED_NO_MEANING, 124));
+    look.length--;
+    CHECK(is_refused(look, 0, DIGARUMBI_REFUSED_DOES_NOT_FIT, 709));
+}
+
 static void texts(void)
 {
     const uint8_t name[] = {0xa3, 0xf3, 'd', 0x9f};
@@ -248,6 +306,7 @@ static void names(void)
     CHECK(DIGARUMBI_TOTALS_AREA == DIGARUMBI_TOTAL_RECORD * DIGARUMBI_MOST_NODES);
     CHECK(strcmp(digarumbi_refusal_text(DIGARUMBI_REFUSED_CELL_INDEX), "cell index not below the product, or seen before") == 0);
     CHECK(is_no_refusal(16) && is_no_refusal(17) && !is_no_refusal(0) && !is_no_refusal(DIGARUMBI_REFUSED_NO_CHARACTER));
+    CHECK(is_no_refusal(27) && is_no_refusal(28) && !is_no_refusal(DIGARUMBI_REFUSED_NO_MEANING));
     for (number = 0; number < 64; number++)
         for (other = 0; other < number; other++)
             CHECK(is_no_refusal(number) || strcmp(digarumbi_refusal_text(number), digarumbi_refusal_text(other)) != 0);
@@ -273,6 +332,8 @@ int main(int argc, char **argv)
     positions();
     looks(look);
     old_looks(old_look);
+    sections(look, coefficients);
+    refused_sections(look);
     texts();
     cases();
     units();

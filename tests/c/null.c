@@ -101,6 +101,11 @@ static void looks(const uint8_t *look, size_t length)
     CHECK(digarumbi_rewrite_look(look, length, NULL, 0, answer, DIGARUMBI_REWRITE_ANSWER) == DIGARUMBI_REWRITE_ANSWER);
     CHECK(answer[DIGARUMBI_REFUSAL] == DIGARUMBI_REFUSED_OUTPUT_TOO_SHORT);
     CHECK(digarumbi_rewrite_look(look, length, NULL, 0, NULL, 0) == 0);
+    CHECK(digarumbi_look_sections(NULL, 0, NULL, 0, answer, DIGARUMBI_SECTIONS_ANSWER) == DIGARUMBI_SECTIONS_ANSWER);
+    CHECK(answer[DIGARUMBI_REFUSAL] == DIGARUMBI_REFUSED_DOES_NOT_FIT);
+    CHECK(digarumbi_look_sections(look, length, NULL, 0, answer, DIGARUMBI_SECTIONS_ANSWER) == DIGARUMBI_SECTIONS_ANSWER);
+    CHECK(answer[DIGARUMBI_REFUSAL] == DIGARUMBI_REFUSED_OUTPUT_TOO_SHORT);
+    CHECK(digarumbi_look_sections(look, length, NULL, 0, NULL, 0) == 0);
 }
 
 static void texts(void)

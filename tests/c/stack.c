@@ -1,5 +1,5 @@
-/* Members are read and totalled, and a look rewritten, in a thread with a stack of DIGARUMBI_STACK bytes; a small member is read in one with a
- * stack of DIGARUMBI_SMALL_STACK bytes, as it is, with its cells in another order, and with an index repeated.
+/* Members are read and totalled, a look is rewritten and sections are made from it in a thread with a stack of DIGARUMBI_STACK bytes; a small
+ * member is read in one with a stack of DIGARUMBI_SMALL_STACK bytes, as it is, with its cells in another order, and with an index repeated.
  *
  * usage: stack EXAMPLES */
 #include <pthread.h>
@@ -25,6 +25,8 @@ static void *call_all(void *unused)
                      DIGARUMBI_NODE_AREA, cells, DIGARUMBI_CELL_AREA);
     CHECK(answer[DIGARUMBI_TOTALS_REFUSAL] == 0);
     digarumbi_rewrite_look(look.at, look.length, out, sizeof out, answer, DIGARUMBI_REWRITE_ANSWER);
+    CHECK(answer[DIGARUMBI_REFUSAL] == 0);
+    digarumbi_look_sections(look.at, look.length, out, sizeof out, answer, DIGARUMBI_SECTIONS_ANSWER);
     CHECK(answer[DIGARUMBI_REFUSAL] == 0);
     return unused;
 }

@@ -22,6 +22,7 @@ pub struct Options {
     pub encoding: Option<Encoding>,
     pub dimension: Option<String>,
     pub output: Option<OsString>,
+    pub sections: Option<OsString>,
 }
 
 /// What was asked for.
@@ -92,6 +93,7 @@ impl Parsed {
             }
             "--dimension" => self.options.dimension = Some(value()?.to_string_lossy().into_owned()),
             "-o" | "--output" => self.options.output = Some(value()?),
+            "--sections" => self.options.sections = Some(value()?),
             _ if attached.is_some() => return Err(format!("no option {text}")),
             "--json" => self.options.json = true,
             "--header" => self.options.header = true,
@@ -127,9 +129,14 @@ fn check(command: Command, options: &Options, files: &[OsString]) -> Result<(), 
         options.dimension.is_some() && command != Command::Totals,
         "--dimension goes with totals",
     )?;
-    refuse(options.output.is_some() && command != Command::Look, "-o goes with look")?;
-    refuse(options.output.is_some() && files.len() > 1, "-o takes one file")?;
-    refuse(options.output.is_some() && options.json, "-o does not go with --json")?;
+    for (output, name) in [(&options.output, "-o"), (&options.sections, "--sections")] {
+        let asked = output.is_some();
+        refuse(asked && command != Command::Look, &format!("{name} goes with look"))?;
+        refuse(asked && files.len() > 1, &format!("{name} takes one file"))?;
+        refuse(asked && options.json, &format!("{name} does not go with --json"))?;
+    }
+    let both = options.output.is_some() && options.sections.is_some();
+    refuse(both, "-o does not go with --sections")?;
     refuse(command == Command::Compare && files.is_empty(), "compare needs HAND.tsv and files")?;
     refuse(command == Command::Compare && files.len() == 1, "compare needs a file after HAND.tsv")?;
     refuse(files.is_empty(), "no file; - is standard input")?;
@@ -175,6 +182,11 @@ mod tests {
             "cells a --encoding",
             "look a b -o c",
             "check -o c a",
+            "look a b --sections c",
+            "look --json a --sections c",
+            "check --sections c a",
+            "look a --sections",
+            "look a -o b --sections c",
             "compare",
             "compare h",
             "check - -",

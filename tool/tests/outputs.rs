@@ -135,6 +135,47 @@ fn a_look_of_version_00_written_back() {
     }
 }
 
+/// In the place of a member's own sections they give a member with the same cells.
+#[test]
+fn sections_of_a_look() {
+    let folder = folder("sections");
+    let out = folder.join("sections");
+    let out = out.to_str().unwrap();
+    for look in ["examples/look_02.tlo", "examples/look_00.tlo"] {
+        let made = run(&["look", look, "--sections", out]);
+        assert_eq!((&made.out[..], &made.said[..], made.status), ("", "", 0));
+        let sections = std::fs::read(out).unwrap();
+        assert_eq!(sections.len(), 804);
+        let printed = command(&["look", look, "--sections", "-"]).output().unwrap();
+        assert_eq!(printed.stdout, sections);
+
+        // its own stand from 271 to 1155
+        let member = bytes("examples/spine_18.bin");
+        let new = [&member[..271], &sections, &member[1155..]].concat();
+        let new = file(&folder, "new.bin", &new);
+        let cells = |member| run(&["cells", member]).out.replace(member, "member");
+        assert_eq!(cells(&new), cells("examples/spine_18.bin"));
+    }
+}
+
+/// A refusal leaves the file as it was, and what can't be written is said.
+#[test]
+fn sections_that_are_not_written() {
+    let folder = folder("no_sections");
+    let out = file(&folder, "sections", b"before");
+    let look = "crates/looks_main/data/longest_02.tlo";
+    let words =
+        "a drawn separator whose style and width have no meaning, or an alignment that has none";
+    for place in [&out, "-"] {
+        let refused = run(&["look", look, "--sections", place]);
+        assert_eq!(refused.said, format!("digarumbi: {look}: refused 29 at 57: {words}\n"));
+        assert_eq!((&refused.out[..], refused.status), ("", 1));
+    }
+    assert_eq!(std::fs::read(&out).unwrap(), b"before");
+    let run = run(&["look", "examples/look_02.tlo", "--sections", "/dev/full"]);
+    assert_eq!((&run.said[..], run.status), ("digarumbi: /dev/full: No space left on device\n", 2));
+}
+
 #[test]
 fn a_look_that_cannot_be_written() {
     let places = [

@@ -1,14 +1,40 @@
 //! Random looks: accepted files, and looks for the writer.
 
 use super::field::*;
-use crate::encode::int16;
+use crate::encode::{self, int16};
 use crate::look::{
     AreaColor, AreaStyle, Continuation, Look, Name, Separator, V2Styles, LOOK_VERSION,
 };
 use crate::random::Random;
 
+/// How those fields of a look are made for which the sections of a member can be refused.
+#[derive(Clone, Copy)]
+enum Styles {
+    /// By any bytes.
+    Any,
+    /// With a meaning, but one field in so many.
+    Meant { all_but_one_in: u64 },
+}
+
+impl Styles {
+    fn fault(self, random: &mut Random) -> bool {
+        matches!(self, Styles::Meant { all_but_one_in } if random.once_in(all_but_one_in))
+    }
+}
+
 /// The bytes of an accepted look, about half of them of version 00.
 pub fn look_bytes(random: &mut Random) -> Vec<u8> {
+    file(random, Styles::Any)
+}
+
+/// The same, with fields from which the sections of a member can be made: all of them in about a third
+/// of the looks, and all but few in the others.
+pub fn styled_look_bytes(random: &mut Random) -> Vec<u8> {
+    let all_but_one_in = random.pick(&[u64::MAX, 60, 15]);
+    file(random, Styles::Meant { all_but_one_in })
+}
+
+fn file(random: &mut Random, styles: Styles) -> Vec<u8> {
     let version = random.pick(&[0, 2]);
     let mut bytes = section_name(b"PTTableLook");
     bytes.push(version);
@@ -17,22 +43,22 @@ pub fn look_bytes(random: &mut Random) -> Vec<u8> {
     bytes.extend([54, 0, 0, 0, 18, 0, 0, 0]);
     bytes.extend(section_name(b"PVSeparatorStyle"));
     bytes.push(0);
-    bytes.extend(separators(random, 4));
+    bytes.extend(separators(random, styles, 4));
     bytes.extend([0x03, 0x80, 0x00]);
-    bytes.extend(separators(random, 4));
+    bytes.extend(separators(random, styles, 4));
     bytes.extend(section_name(b"PVCellStyle"));
     bytes.extend(area_color(random));
     bytes.extend(section_name(b"PVTextStyle"));
     bytes.push(0);
-    bytes.extend(area_style(random));
+    bytes.extend(area_style(random, styles));
     for _ in 0..7 {
         bytes.extend([0x06, 0x80]);
         bytes.extend(area_color(random));
         bytes.extend([0x08, 0x80, 0x00]);
-        bytes.extend(area_style(random));
+        bytes.extend(area_style(random, styles));
     }
     if version == 2 {
-        bytes.extend(separators(random, 11));
+        bytes.extend(separators(random, styles, 11));
         bytes.extend(continuation(random));
         bytes.extend(int32s(random, 4));
     }
@@ -44,15 +70,28 @@ fn section_name(letters: &[u8]) -> Vec<u8> {
     [&[0xff, 0xff, 0, 0][..], &int16(letters.len() as u16)[..], letters].concat()
 }
 
-fn separators(random: &mut Random, number: usize) -> Vec<u8> {
-    (0..number).flat_map(|_| separator(random)).collect()
+fn separators(random: &mut Random, styles: Styles, number: usize) -> Vec<u8> {
+    (0..number).flat_map(|_| separator(random, styles)).collect()
 }
 
-fn separator(random: &mut Random) -> Vec<u8> {
+fn separator(random: &mut Random, styles: Styles) -> Vec<u8> {
     if random.once_in(2) {
         return vec![0, 0];
     }
-    [vec![1, 0], color(random), random.bytes(4)].concat()
+    [vec![1, 0], color(random), style_and_width(random, styles)].concat()
+}
+
+fn style_and_width(random: &mut Random, styles: Styles) -> Vec<u8> {
+    if let Styles::Any = styles {
+        return random.bytes(4);
+    }
+    let any = random.next_number() as u16;
+    let [style, width] = if styles.fault(random) {
+        random.pick(&[[0, 4], [0, 256], [1, 2], [1, u16::MAX], [3, 0], [256, 0], [u16::MAX, any]])
+    } else {
+        random.pick(&[[0, 0], [0, 1], [0, 2], [0, 3], [1, 0], [1, 1], [2, 0], [2, any]])
+    };
+    [int16(style), int16(width)].concat()
 }
 
 fn color(random: &mut Random) -> Vec<u8> {
@@ -64,21 +103,69 @@ fn area_color(random: &mut Random) -> Vec<u8> {
     [vec![0, 1, 0], colors, vec![random.size(10) as u8, 0]].concat()
 }
 
-fn area_style(random: &mut Random) -> Vec<u8> {
-    let mut bytes = random.bytes(14);
+fn area_style(random: &mut Random, styles: Styles) -> Vec<u8> {
+    let mut bytes = alignment(random, styles, 3);
+    bytes.extend(alignment(random, styles, 5));
+    bytes.extend(random.bytes(10));
     bytes.extend([0, 0, 1, 0]);
-    bytes.extend(random.bytes(6));
+    bytes.extend(font_size(random, styles));
+    bytes.extend(random.bytes(2));
     bytes.extend([0; 2]);
     bytes.extend(random.bytes(4));
     bytes.extend([0; 4]);
-    bytes.extend(random.bytes(2));
+    bytes.extend(weight(random, styles));
     bytes.extend([0; 2]);
     bytes.extend(bools(random, 3));
     bytes.extend(random.bytes(5));
-    bytes.extend(short_string(random));
+    bytes.extend(font_name(random, styles));
     bytes.extend(color(random));
     bytes.extend([0; 2]);
     bytes
+}
+
+/// An alignment of which the first so many numbers have a meaning.
+fn alignment(random: &mut Random, styles: Styles, meanings: u16) -> Vec<u8> {
+    match styles {
+        Styles::Any => random.bytes(2),
+        _ if styles.fault(random) => int16(random.pick(&[meanings, meanings + 1, 256, u16::MAX])),
+        _ => int16(random.below(meanings.into()) as u16),
+    }
+}
+
+fn font_size(random: &mut Random, styles: Styles) -> Vec<u8> {
+    if let Styles::Any = styles {
+        return random.bytes(4);
+    }
+    let any = 1 + random.size(999_999) as i32;
+    let size = if styles.fault(random) {
+        random.pick(&[0, 1, 12, any, i32::MAX, i32::MIN, -1_000_001, -2_000_000])
+    } else {
+        random.pick(&[-1, -12, -16, -1_000_000, -any, -any / 1_000 - 1])
+    };
+    encode::int32(size as u32)
+}
+
+/// Any weight; those around 700 are frequent.
+fn weight(random: &mut Random, styles: Styles) -> Vec<u8> {
+    match styles {
+        Styles::Any => random.bytes(2),
+        _ if random.once_in(2) => random.bytes(2),
+        _ => int16(random.pick(&[400, 699, 700, 701, u16::MAX])),
+    }
+}
+
+fn font_name(random: &mut Random, styles: Styles) -> Vec<u8> {
+    let mut name = short_string(random);
+    if let Styles::Any = styles {
+        return name;
+    }
+    // the first byte is the length
+    name[1..].iter_mut().for_each(|byte| *byte = (*byte).max(1));
+    if name.len() > 1 && styles.fault(random) {
+        let place = 1 + random.size(name.len() - 2);
+        name[place] = 0;
+    }
+    name
 }
 
 fn short_string(random: &mut Random) -> Vec<u8> {

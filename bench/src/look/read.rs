@@ -1,22 +1,31 @@
 //! Reads a look.
 
-use super::{AreaColor, AreaStyle, Continuation, Look, Name, Separator, V2Styles, LOOK_VERSION};
+use super::{
+    AreaColor, AreaStyle, Continuation, Look, Name, Places, Separator, StylePlaces, V2Styles,
+    LOOK_VERSION,
+};
 use crate::cursor::Cursor;
 use crate::refusal::*;
 
 /// Reads a look. The places of its names count from the start of these bytes.
 pub fn read_look(bytes: &[u8]) -> Result<Look, Refusal> {
+    read_with_places(bytes).map(|(look, _)| look)
+}
+
+/// Reads a look, and says where some of its fields stand.
+pub fn read_with_places(bytes: &[u8]) -> Result<(Look, Places), Refusal> {
     let mut cursor = Cursor::new(bytes);
     let mut look = Look { version: LOOK_VERSION, ..Look::default() };
+    let mut places = Places::default();
     let version = table_look(&mut cursor, &mut look)?;
-    separator_style(&mut cursor, &mut look)?;
+    separator_style(&mut cursor, &mut look, &mut places)?;
     cell_style(&mut cursor, &mut look)?;
-    text_style(&mut cursor, &mut look)?;
+    text_style(&mut cursor, &mut look, &mut places)?;
     if version == 2 {
-        look.v2 = v2_styles(&mut cursor)?;
+        look.v2 = v2_styles(&mut cursor, &mut places.v2_separators)?;
     }
     cursor.input_end()?;
-    Ok(look)
+    Ok((look, places))
 }
 
 /// The version of an accepted look's file, which stands after the length and the letters of
@@ -54,18 +63,26 @@ fn version(cursor: &mut Cursor) -> Result<u8, Refusal> {
     Ok(version)
 }
 
-fn separator_style(cursor: &mut Cursor, look: &mut Look) -> Result<(), Refusal> {
+fn separator_style(
+    cursor: &mut Cursor,
+    look: &mut Look,
+    places: &mut Places,
+) -> Result<(), Refusal> {
     section_name(cursor, b"PVSeparatorStyle")?;
     cursor.fixed_byte(0x00)?;
-    look.separators1 = separators(cursor)?;
+    look.separators1 = separators(cursor, &mut places.separators1)?;
     cursor.fixed_bytes(&[0x03, 0x80, 0x00])?;
-    look.separators2 = separators(cursor)?;
+    look.separators2 = separators(cursor, &mut places.separators2)?;
     Ok(())
 }
 
-fn separators<const N: usize>(cursor: &mut Cursor) -> Result<[Separator; N], Refusal> {
+fn separators<const N: usize>(
+    cursor: &mut Cursor,
+    places: &mut [usize; N],
+) -> Result<[Separator; N], Refusal> {
     let mut separators = [Separator::NotDrawn; N];
-    for entry in &mut separators {
+    for (entry, place) in separators.iter_mut().zip(places) {
+        *place = cursor.place();
         *entry = separator(cursor)?;
     }
     Ok(separators)
@@ -114,23 +131,27 @@ fn shading(cursor: &mut Cursor) -> Result<u8, Refusal> {
     Ok(shading)
 }
 
-fn text_style(cursor: &mut Cursor, look: &mut Look) -> Result<(), Refusal> {
+fn text_style(cursor: &mut Cursor, look: &mut Look, places: &mut Places) -> Result<(), Refusal> {
     section_name(cursor, b"PVTextStyle")?;
     cursor.fixed_byte(0x00)?;
-    look.title_style = area_style(cursor)?;
-    for (color, style) in &mut look.most_areas {
+    look.title_style = area_style(cursor, &mut places.title_style)?;
+    for ((color, style), places) in look.most_areas.iter_mut().zip(&mut places.most_areas) {
         cursor.fixed_bytes(&[0x06, 0x80])?;
         *color = area_color(cursor)?;
         cursor.fixed_bytes(&[0x08, 0x80, 0x00])?;
-        *style = area_style(cursor)?;
+        *style = area_style(cursor, places)?;
     }
     Ok(())
 }
 
-fn area_style(cursor: &mut Cursor) -> Result<AreaStyle, Refusal> {
+fn area_style(cursor: &mut Cursor, places: &mut StylePlaces) -> Result<AreaStyle, Refusal> {
+    places.valign = cursor.place();
+    let valign = cursor.int16()?;
+    places.halign = cursor.place();
+    let halign = cursor.int16()?;
     let mut style = AreaStyle {
-        valign: cursor.int16()?,
-        halign: cursor.int16()?,
+        valign,
+        halign,
         decimal_offset: cursor.int16()?,
         left_margin: cursor.int16()?,
         right_margin: cursor.int16()?,
@@ -139,13 +160,18 @@ fn area_style(cursor: &mut Cursor) -> Result<AreaStyle, Refusal> {
         ..AreaStyle::default()
     };
     cursor.fixed_bytes(&[0x00, 0x00, 0x01, 0x00])?;
-    font(cursor, &mut style)?;
+    font(cursor, &mut style, places)?;
     style.text_color = color(cursor)?;
     cursor.fixed_bytes(&[0x00; 2])?;
     Ok(style)
 }
 
-fn font(cursor: &mut Cursor, style: &mut AreaStyle) -> Result<(), Refusal> {
+fn font(
+    cursor: &mut Cursor,
+    style: &mut AreaStyle,
+    places: &mut StylePlaces,
+) -> Result<(), Refusal> {
+    places.font_size = cursor.place();
     style.font_size = cursor.int32()? as i32;
     style.stretch = cursor.int16()?;
     cursor.fixed_bytes(&[0x00; 2])?;
@@ -158,6 +184,7 @@ fn font(cursor: &mut Cursor, style: &mut AreaStyle) -> Result<(), Refusal> {
     style.strikethrough = cursor.bool()?;
     style.rtf_charset_number = cursor.int32()?;
     style.x = cursor.byte()?;
+    places.font_name = cursor.place();
     style.font_name = name(cursor)?;
     Ok(())
 }
@@ -167,9 +194,9 @@ fn name(cursor: &mut Cursor) -> Result<Name, Refusal> {
     Ok(Name { place: span.place as u32, length: span.length as u32 })
 }
 
-fn v2_styles(cursor: &mut Cursor) -> Result<V2Styles, Refusal> {
+fn v2_styles(cursor: &mut Cursor, places: &mut [usize; 11]) -> Result<V2Styles, Refusal> {
     Ok(V2Styles {
-        separators: separators(cursor)?,
+        separators: separators(cursor, places)?,
         continuation: Continuation::Stored(name(cursor)?),
         min_col_width: cursor.int32()?,
         max_col_width: cursor.int32()?,

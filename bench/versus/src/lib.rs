@@ -11,6 +11,7 @@ pub mod member_check;
 pub mod members_check;
 pub mod position_check;
 pub mod repeats;
+pub mod sections_check;
 pub mod stored;
 pub mod table_check;
 pub mod tally;

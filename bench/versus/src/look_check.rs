@@ -160,7 +160,7 @@ impl LookCheck {
         if answer_words >= REWRITE_ANSWER {
             let written = look.and_then(|look| write_look(&look, file, self.expected.out.lent()));
             self.rewritten.count(written.map_or_else(|refusal| refusal.number, |_| 0));
-            expected = self.expected.store(&words::rewrite_answer(&written));
+            expected = self.expected.store(&words::written_answer(&written));
         }
         Difference::compare("rewriting returned", &expected, &found)?;
         self.found.compare(&self.expected)

@@ -5,7 +5,7 @@ use std::fmt;
 use crate::difference::Difference;
 
 /// One more than the largest refusal number.
-const NUMBERS: usize = 27;
+const NUMBERS: usize = 30;
 
 #[derive(Default)]
 pub struct Tally([u64; NUMBERS]);

@@ -33,8 +33,8 @@ pub fn look_answer(result: &Result<Look, Refusal>) -> Vec<u32> {
     }
 }
 
-/// The words of a rewritten look's answer: refusal, place, length.
-pub fn rewrite_answer(result: &Result<usize, Refusal>) -> Vec<u32> {
+/// The words of what was written from a look: refusal, place, length.
+pub fn written_answer(result: &Result<usize, Refusal>) -> Vec<u32> {
     match result {
         Ok(length) => vec![0, 0, *length as u32],
         Err(refusal) => [refusal_words(refusal), vec![0]].concat(),

@@ -3,6 +3,7 @@
 import math
 import os
 import re
+import struct
 import subprocess
 import sys
 import threading
@@ -262,6 +263,39 @@ class Looks(Rows):
         self.assertEqual(digarumbi.rewrite_look(new), new)
         self.assertRefused(11, 674, digarumbi.rewrite_look, OLD_LOOK + b"\0")
 
+    def test_sections(self):
+        sections = digarumbi.look_sections(LOOK)
+        self.assertEqual(len(sections), 804)
+        # a font with no name, 12 pixels high, bold and italic, not underlined, centered, at the bottom
+        area = b"1" + bytes(4) + b"\0\0\x40\x41" + b"\3\0\0\0" + b"\0" + bytes(4) + b"\3\0\0\0"
+        # colors of text and background, no alternate rows, no margins
+        area += b"\7\0\0\0#332211" + b"\7\0\0\0#030201" + bytes(9) + bytes(16)
+        self.assertEqual(sections[:560], b"".join(bytes([index]) + area for index in range(1, 9)))
+        self.assertEqual(self.borders(sections), [(number, 0, 0xFF000000) for number in range(19)])
+
+    def borders(self, sections):
+        """Number, stroke and color of each border."""
+        self.assertEqual(sections[560:572], b"\xf0\0\0\0" + b"\0\0\0\1" + b"\0\0\0\x13")
+        self.assertEqual(sections[800:], bytes(4))
+        return list(struct.iter_unpack(">III", sections[572:800]))
+
+    def test_sections_of_a_file_of_version_00(self):
+        sections = digarumbi.look_sections(OLD_LOOK)
+        self.assertEqual(sections[:560], digarumbi.look_sections(LOOK)[:560])
+        drawn = [number for number, stroke, color in self.borders(sections) if (stroke, color) == (1, 0xFF000000)]
+        self.assertEqual(drawn, [5, 6, 7, 8])
+
+    def test_sections_in_a_member(self):
+        # its own stand from 271 to 1155
+        member = COEFFICIENTS[:271] + digarumbi.look_sections(LOOK) + COEFFICIENTS[1155:]
+        self.assertEqual(digarumbi.read_member(member).cells(), digarumbi.read_member(COEFFICIENTS).cells())
+
+    def test_refused_sections(self):
+        self.assertRefused(2, 709, digarumbi.look_sections, LOOK[:712])
+        # the first alignment stands at 124, the first font size at 142
+        self.assertRefused(29, 124, digarumbi.look_sections, LOOK[:124] + b"\3" + LOOK[125:])
+        self.assertRefused(7, 142, digarumbi.look_sections, LOOK[:142] + bytes(4) + LOOK[146:])
+
 
 class Texts(Rows):
     def test_both_ways(self):
@@ -370,17 +404,17 @@ class Library(unittest.TestCase):
         texts = dict(re.findall(r'case (DIGARUMBI_REFUSED_\w+):\n\s*return "(.*)";', header))
         self.assertEqual({int(numbers[name]): text for name, text in texts.items()}, digarumbi.REFUSALS)
         self.assertEqual(len(numbers), len(texts))
-        for number in (0, 16, 17):
+        for number in (0, 16, 17, 27, 28):
             self.assertIn(f'return "{digarumbi.refusal_text(number)}";', header)
 
     def test_the_sizes_of_the_header(self):
         header = file("include", "digarumbi.h").decode()
         answers = "MEMBERS MEMBER_ANSWER VALUE_WORDS TOTAL_ANSWER TOTALS_ANSWER POSITION_WORDS INDEX_WORDS LOOK_ANSWER REWRITE_ANSWER"
-        answers += " TEXT_ANSWER CASES_ANSWER CASES_FEED_ANSWER"
+        answers += " SECTIONS_ANSWER TEXT_ANSWER CASES_ANSWER CASES_FEED_ANSWER"
         records = "DIMENSION_RECORD NODE_RECORD CELL_RECORD TOTAL_RECORD"
         for name in f"{answers} {records}".split():
             self.assertRegex(header, rf"\bDIGARUMBI_{name} = {getattr(digarumbi, name)}\b")
-        for name in "NODE_AREA CELL_AREA LONGEST_LOOK LOOK_VERSION_PLACE CASES_STATE".split():
+        for name in "NODE_AREA CELL_AREA LONGEST_LOOK LONGEST_SECTIONS LOOK_VERSION_PLACE CASES_STATE".split():
             self.assertIn(f"#define DIGARUMBI_{name} {getattr(digarumbi, name)}\n", header)
         for name in "ABI LOOK_DEFAULT_CONTINUATION".split():
             self.assertIn(f"#define DIGARUMBI_{name} UINT32_C({getattr(digarumbi, name)})\n", header)

@@ -143,6 +143,15 @@ extern "C" {
         answer_words: usize,
     ) -> usize;
 
+    pub fn digarumbi_look_sections(
+        look: *const u8,
+        look_length: usize,
+        out: *mut u8,
+        out_length: usize,
+        answer: *mut u32,
+        answer_words: usize,
+    ) -> usize;
+
     pub fn digarumbi_to_utf8(
         page: u32,
         input: *const u8,

@@ -37,6 +37,8 @@ pub const TOTALS_ANSWER: usize = 5;
 pub const LOOK_ANSWER: usize = 264;
 /// Words of the answer of [`rewrite_look`].
 pub const REWRITE_ANSWER: usize = 3;
+/// Words of the answer of [`look_sections`].
+pub const SECTIONS_ANSWER: usize = 3;
 
 /// Words of the answer of [`to_utf8`] and [`from_utf8`].
 pub const TEXT_ANSWER: usize = 3;
@@ -71,6 +73,8 @@ pub const SMALL_MEMBER: usize = 2_560;
 
 /// Bytes of the longest look.
 pub const LONGEST_LOOK: usize = 3_160;
+/// Bytes of the longest sections that are made from a look.
+pub const LONGEST_SECTIONS: usize = 2_844;
 /// Where the version of a look's file stands, 0 or 2 if the file is accepted.
 pub const LOOK_VERSION_PLACE: usize = 17;
 /// Stands for the place of a look's continuation where that is the default, which is in no file.
@@ -449,6 +453,34 @@ pub fn rewrite_look(file: &[u8], out: &mut [u8], answer: &mut [u32]) -> usize {
         ffi::digarumbi_rewrite_look(
             file.as_ptr(),
             file.len(),
+            out.as_mut_ptr(),
+            out.len(),
+            answer.as_mut_ptr(),
+            answer.len(),
+        )
+    }
+}
+
+/// Reads a look and writes the Areas and Borders of a version 3 member into `out`. Returns
+/// [`SECTIONS_ANSWER`], or 0 if `answer` has fewer words.
+///
+/// ```
+/// use digarumbi::lent::{look_sections, LONGEST_SECTIONS, SECTIONS_ANSWER};
+/// let look = std::fs::read("../../examples/look_02.tlo")?;
+/// let (mut out, mut answer) = ([7; LONGEST_SECTIONS], [7; SECTIONS_ANSWER]);
+/// assert_eq!(look_sections(&look, &mut out, &mut answer), SECTIONS_ANSWER);
+/// // 804 bytes, since its fonts have no names; the first area has index 1
+/// assert_eq!((answer, &out[..2], out[804]), ([0, 0, 804], &[1, 0x31][..], 7));
+/// look_sections(&look, &mut out[..803], &mut answer);
+/// assert_eq!(answer, [15, 0, 0]);
+/// # Ok::<(), std::io::Error>(())
+/// ```
+pub fn look_sections(look: &[u8], out: &mut [u8], answer: &mut [u32]) -> usize {
+    test_abi();
+    unsafe {
+        ffi::digarumbi_look_sections(
+            look.as_ptr(),
+            look.len(),
             out.as_mut_ptr(),
             out.len(),
             answer.as_mut_ptr(),

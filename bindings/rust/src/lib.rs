@@ -23,7 +23,9 @@ mod value;
 pub use members::read_members;
 
 pub use cases::{CaseError, Cases, Element, Kind};
-pub use look::{rewrite_look, Area, Continuation, Frame, Look, Separator, Separators, V2Styles};
+pub use look::{
+    look_sections, rewrite_look, Area, Continuation, Frame, Look, Separator, Separators, V2Styles,
+};
 pub use position::Position;
 pub use refusal::{refusal_text, Reason, Refusal};
 pub use table::{part, read_member, Axes, Category, Cell, Dimension, Node, NodeKind, Table};

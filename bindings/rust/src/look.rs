@@ -3,13 +3,13 @@
 //! The fields are those of source document 002, under its names. In a file each class name that it
 //! quotes has its length before its letters. Files of version 00 and 02 are read; those of version
 //! 00 have no V2Styles, and come back as version 02 looks with 002's defaults. Files are written as
-//! version 02 alone.
+//! version 02 alone. A member's Areas and Borders are made from files of both.
 
 mod words;
 
 use crate::lent::{
-    self, LONGEST_LOOK, LOOK_ANSWER, LOOK_DEFAULT_CONTINUATION_LETTERS, LOOK_VERSION_PLACE,
-    REWRITE_ANSWER,
+    self, LONGEST_LOOK, LONGEST_SECTIONS, LOOK_ANSWER, LOOK_DEFAULT_CONTINUATION_LETTERS,
+    LOOK_VERSION_PLACE, REWRITE_ANSWER, SECTIONS_ANSWER,
 };
 use crate::Refusal;
 use words::Words;
@@ -184,6 +184,30 @@ pub fn rewrite_look(file: &[u8]) -> Result<Vec<u8>, Refusal> {
     let mut out = vec![0; LONGEST_LOOK];
     let mut answer = [0; REWRITE_ANSWER];
     lent::rewrite_look(file, &mut out, &mut answer);
+    written(out, answer)
+}
+
+/// Makes the Areas and Borders sections of a version 3 member from a look, whose file is of either
+/// version. They can stand in the place of a member's own.
+///
+/// ```
+/// let file = std::fs::read("../../examples/look_02.tlo")?;
+/// let sections = digarumbi::look_sections(&file)?;
+/// assert_eq!(sections.len(), 804);
+/// // area 1, the title: a font with no name and a height of 12 pixels, bold and italic
+/// assert_eq!(sections[..6], *b"\x01\x31\0\0\0\0");
+/// assert_eq!(sections[6..14], [12_f32.to_le_bytes(), 3_u32.to_le_bytes()].concat());
+/// # Ok::<(), Box<dyn std::error::Error>>(())
+/// ```
+pub fn look_sections(file: &[u8]) -> Result<Vec<u8>, Refusal> {
+    let mut out = vec![0; LONGEST_SECTIONS];
+    let mut answer = [0; SECTIONS_ANSWER];
+    lent::look_sections(file, &mut out, &mut answer);
+    written(out, answer)
+}
+
+/// What an answer of refusal, place and length says was written.
+fn written(mut out: Vec<u8>, answer: [u32; 3]) -> Result<Vec<u8>, Refusal> {
     let [number, place, length] = answer;
     if number != 0 {
         return Err(Refusal::new(number, place));

@@ -54,7 +54,7 @@ impl Error for Refusal {
 }
 
 /// The refusal numbers of documents 01 and 02, by what they say. More may come; 16 was withdrawn, and
-/// it and 17 are nobody's.
+/// it, 17, 27 and 28 are nobody's.
 #[derive(Clone, Copy, Debug, PartialEq, Eq, Hash)]
 #[non_exhaustive]
 #[repr(u32)]
@@ -83,6 +83,7 @@ pub enum Reason {
     UnknownPage = 24,
     NoCharacter = 25,
     BadList = 26,
+    NoMeaning = 29,
 }
 
 impl Reason {
@@ -112,6 +113,7 @@ impl Reason {
         Reason::UnknownPage,
         Reason::NoCharacter,
         Reason::BadList,
+        Reason::NoMeaning,
     ];
 
     /// The reason with this number, if there is one.
@@ -160,6 +162,9 @@ impl Reason {
                 "a byte without an entry in the page, or a character that has none or isn't UTF-8 in its shortest form"
             }
             Reason::BadList => "a list of more than 64 members, or of an odd number of words",
+            Reason::NoMeaning => {
+                "a drawn separator whose style and width have no meaning, or an alignment that has none"
+            }
         }
     }
 }

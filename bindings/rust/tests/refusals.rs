@@ -43,7 +43,7 @@ fn the_header_has_the_same_words() {
         );
         assert!(HEADER.contains(&case), "{case}");
     }
-    for number in [0, 16, 17] {
+    for number in [0, 16, 17, 27, 28] {
         assert!(HEADER.contains(&format!("return \"{}\";", refusal_text(number))));
     }
 }

@@ -1,9 +1,10 @@
-//! `look`: a table look in words, or written back as version 02.
+//! `look`: a table look in words, written back as version 02, or a member's sections made from it.
 
 use std::ffi::{OsStr, OsString};
 
-use digarumbi::{rewrite_look, Look, Refusal};
+use digarumbi::{look_sections, rewrite_look, Look, Refusal};
 
+use crate::arguments::Options;
 use crate::encoding::Encoding;
 use crate::input::{self, Input};
 use crate::json::Object;
@@ -13,27 +14,33 @@ use crate::replace::replace;
 use crate::session::{reason, Session, Status, Written};
 
 pub fn run(session: &mut Session, files: &[OsString]) -> Written {
-    let output = session.options.output.clone();
+    let Options { output, sections, .. } = session.options.clone();
     let headed = files.len() > 1;
-    session.each_input(files, |session, input| match &output {
-        Some(output) => write_back(session, input, output),
-        None => in_words(session, input, headed),
+    session.each_input(files, |session, input| match (&output, &sections) {
+        (Some(output), _) => write(session, input, rewrite_look(&input.bytes), output),
+        (_, Some(output)) => write(session, input, look_sections(&input.bytes), output),
+        _ => in_words(session, input, headed),
     })
 }
 
-/// Nothing is written after a refusal.
-fn write_back(session: &mut Session, input: &Input, output: &OsStr) -> Written {
-    let look = match rewrite_look(&input.bytes) {
-        Ok(look) => look,
+/// Writes what was made from a look. Nothing is written after a refusal.
+fn write(
+    session: &mut Session,
+    input: &Input,
+    made: Result<Vec<u8>, Refusal>,
+    output: &OsStr,
+) -> Written {
+    let made = match made {
+        Ok(made) => made,
         Err(refusal) => {
             session.say_refused(&input.name, &sentence(&refusal));
             return Ok(());
         }
     };
     if output == "-" {
-        return session.write(&look);
+        return session.write(&made);
     }
-    if let Err(error) = replace(output.as_ref(), &look) {
+    if let Err(error) = replace(output.as_ref(), &made) {
         session.say_failed(&input::shown(output), &reason(&error));
     }
     Ok(())

@@ -25,6 +25,7 @@ use digarumbi_versus::member_check::MemberCheck;
 use digarumbi_versus::members_check;
 use digarumbi_versus::position_check;
 use digarumbi_versus::repeats::{members_with_repeats, CUT_BYTES};
+use digarumbi_versus::sections_check;
 use digarumbi_versus::stored;
 use digarumbi_versus::text_check;
 use digarumbi_versus::totals_check::TotalsCheck;
@@ -57,6 +58,9 @@ const ONE_LEAF_NUMBERS: [u32; 17] = [0, 1, 2, 3, 4, 5, 6, 7, 8, 9, 10, 11, 12, 1
 const ALL_LEAVES_NUMBERS: [u32; 17] = [0, 1, 2, 3, 4, 5, 6, 7, 8, 9, 10, 11, 12, 13, 15, 18, 19];
 const LEAF_NUMBERS: [u32; 2] = [0, 20];
 const LOOK_NUMBERS: [u32; 8] = [2, 3, 4, 5, 7, 11, 14, 15];
+/// Those of the sections of a look, and places in files at which 29, 7 and 18 must be seen.
+const SECTION_NUMBERS: [u32; 11] = [0, 2, 3, 4, 5, 7, 11, 14, 15, 18, 29];
+const SECTION_PLACES: usize = 100;
 const TEXT_NUMBERS: [u32; 4] = [0, 15, 24, 25];
 /// Those of positions.
 const POSITION_NUMBERS: [u32; 4] = [0, 7, 9, 10];
@@ -105,6 +109,10 @@ fn run(seed: u64) -> Result<(), Difference> {
     println!("{} rewritings of them: {}", looks.rewritten.total(), looks.rewritten);
     let Versions { old, new } = looks.versions;
     println!("{old} accepted ones of version 00, rewritten as version 02; {new} of version 02");
+    let sections = sections_check::check(seed)?;
+    println!("{} looks for sections: {}", sections.looks.total(), sections.looks);
+    println!("{} makings of sections: {}", sections.calls.total(), sections.calls);
+    println!("{} members with sections put into them", sections.put);
     println!("{} numbers as points, pixels and font sizes", unit_check::check(seed)?);
     let positions = position_check::check(seed)?;
     println!("{} positions of cells: {}", positions.positions.total(), positions.positions);
@@ -136,6 +144,11 @@ fn run(seed: u64) -> Result<(), Difference> {
     looks.rewritten.all_seen(&LOOK_NUMBERS)?;
     if old == 0 || new == 0 {
         return Err(Difference::missing("an accepted look of version 00 or 02"));
+    }
+    sections.calls.all_seen(&SECTION_NUMBERS)?;
+    sections.seen_at_places(SECTION_PLACES)?;
+    if sections.put == 0 {
+        return Err(Difference::missing("a member for sections"));
     }
     positions.positions.all_seen(&POSITION_NUMBERS)?;
     positions.indexes.all_seen(&POSITION_NUMBERS)?;

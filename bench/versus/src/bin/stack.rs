@@ -1,5 +1,5 @@
 //! The smallest stack of a thread in which the library reads members and lists of them, totals their cells, reads Values
-//! alone and looks, converts texts and decodes case data. Fails if one is larger than `lent::STACK`.
+//! alone and looks, makes sections from looks, converts texts and decodes case data. Fails if one is larger than `lent::STACK`.
 //!
 //! Usage: stack; it runs itself as `stack WORK KIB`, which ends without a result where a stack of
 //! that size is too small.
@@ -198,6 +198,7 @@ fn read_looks(looks: &[Vec<u8>]) {
     for look in looks {
         lent::read_look(look, &mut answer);
         lent::rewrite_look(look, &mut out, &mut answer);
+        lent::look_sections(look, &mut out, &mut answer);
     }
 }
 
