@@ -14,6 +14,7 @@ use Rattle.layout.specs.declared.Step.{Step}
 use Rattle.layout.specs.declared.Step.the-variants as step
 use Rattle.layout.specs.declared.Step.the-variants.{Next}
 use Rattle.grammar.specs.Layout.{Tree, spell, Valid, Derivation}
+use Rattle.grammar.specs.Laws.Layout.Read.{read}
 use Rattle.grammar.specs.Laws.Layout.Check.{check}
 use Rattle.layout.specs.Reads.{forget, chain}
 use Rattle.grammar.specs.Member.{version, MemberDerivation}
@@ -29,11 +30,13 @@ use Rattle.look.specs.declared.Look.{Look}
 use Rattle.look.specs.declared.Answer.{Answer}
 use Rattle.look.specs.declared.Answer.the-variants as read-answer
 use Rattle.look.specs.Look.{TableLook}
+use Rattle.look.specs.Answers.{outcome, expected}
 use Rattle.look.specs.Laws.Bounds.{bounded, most-bytes}
 use Rattle.look.specs.Laws.RefusedExactly as reading
 use Rattle.look_write.specs.Laws.Theorems.{of-file, accepted-exactly, never-two}
 use Rattle.look_rules.specs.StyleRule.{styleRule}
 use Rattle.look_rules.specs.Laws.Exactly as rule
+use Rattle.look_rules.specs.Laws.Styled.{StyledLook}
 use Rattle.grammar.specs.Rule.{Kept}
 use Rattle.styles.specs.Styles.{styles}
 use Rattle.sections_put.specs.Fields.{Sections, longest-sections, fields}
@@ -43,7 +46,7 @@ use Rattle.sections_put.specs.Laws.ReadBack.{sections-written, sections-derived
 use Rattle.look_sections.specs.Writing.{sections, sectioning, sectioned, Wrote}
 use Rattle.look_sections.specs.Refused as refusals
 use Rattle.look_sections.specs.Refused.{Allowed}
-use Rattle.look_sections.specs.Laws.Names.{all-named, names-short}
+use Rattle.look_sections.specs.Laws.Names.{styled-look, all-named, names-short}
 use Rattle.look_sections.specs.Laws.Exactly.{refused-exactly, written-exactly}
 use Rattle.look_sections.specs.Laws.InMember as member
 
@@ -90,12 +93,19 @@ module _ {s out : List ℕ} {r : Written} {out′ : List ℕ} (call : Wrote s ou
     pub written-bytes : List ℕ
     written-bytes = sections the-look s
 
-    names : Each (Named s) (styles the-look .areas)
+    is-read : outcome (read-answer.Accepted the-look) ≡ expected (read TableLook s 0)
     unfolding the-look
-    names =
-        let i = rw (answered .1) at (call .is-read) in
-        let d = of-file s (call .bytes) (answered .0) i in
-        all-named s (call .bytes) (answered .0) i (subst (Kept styleRule) (never-two s (allowed .derived) d) (allowed .kept))
+    is-read = rw (answered .1) at (call .is-read)
+
+    kept : Kept styleRule (of-file s (call .bytes) the-look is-read .tree)
+    kept = subst (Kept styleRule) (never-two s (allowed .derived) (of-file s (call .bytes) the-look is-read)) (allowed .kept)
+
+    -- nothing in it is unlisted, so no style stands for what 002 doesn't list
+    pub styled : StyledLook s the-look
+    styled = styled-look s (call .bytes) the-look is-read kept
+
+    names : Each (Named s) (styles the-look .areas)
+    names = all-named s (call .bytes) the-look is-read kept
 
     fits : Fit Sections s (fields (styles the-look))
     unfolding the-look
