@@ -49,7 +49,7 @@ module _ (s : List ℕ) (bs : Bytes s) (out answer : List ℕ) (a : Answer) (e :
   unfolding pick
   done t o x =
       let st = rewriting a s (length out) in
-      record { look = a; is-read = e; words = with-room write-answer-words (stepWords st) answer (three st) t x; out-area = rw t o }
+      record { look = a; is-read = e; bytes = bs; words = with-room write-answer-words (stepWords st) answer (three st) t x; out-area = rw t o }
 
   pub not-read : {n p : ℕ} {answer′ : List ℕ} {r : Step} → a ≡ look.Refused n p → leb write-answer-words (length answer) ≡ true
       → PutsWords (n ∷ word32 p ∷ 0 ∷ []) answer (Next 0) answer′ r → Rewritten s out answer write-answer-words out answer′
@@ -68,4 +68,4 @@ module _ (s : List ℕ) (bs : Bytes s) (out answer : List ℕ) (a : Answer) (e :
 
   pub not-asked : leb write-answer-words (length answer) ≡ false → Rewritten s out answer 0 out answer
   unfolding pick
-  not-asked t = record { look = a; is-read = e; words = without-room write-answer-words (stepWords (rewriting a s (length out))) answer t; out-area = rw t }
+  not-asked t = record { look = a; is-read = e; bytes = bs; words = without-room write-answer-words (stepWords (rewriting a s (length out))) answer t; out-area = rw t }

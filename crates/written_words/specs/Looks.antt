@@ -8,6 +8,7 @@ use Rattle.sizes.specs.Sizes.{write-answer-words}
 use Rattle.layout.specs.declared.Step.{Step}
 use Rattle.layout.specs.declared.Step.the-variants.{Next, Refused}
 use Rattle.sizes.specs.Basics.{pick}
+use Rattle.grammar.specs.Layout.{Bytes}
 use Rattle.grammar.specs.Laws.Layout.Read.{read}
 use Rattle.store.specs.Puts.{AtFront}
 use Rattle.look.specs.declared.Answer.{Answer as LookAnswer}
@@ -38,4 +39,5 @@ pub record Rewritten (s out answer : List ℕ) (n : ℕ) (out′ answer′ : Lis
   pub look : LookAnswer
   pub is-read : lookOutcome look ≡ expected (read TableLook s 0)
   pub words : AtFront write-answer-words (stepWords (rewriting look s (length out))) answer n answer′
+  pub bytes : Bytes s
   pub out-area : out′ ≡ pick (leb write-answer-words (length answer)) (output (rewriting look s (length out)) (rewritten look s) out) out
