@@ -5,7 +5,7 @@ ghost use Rattle.answer.specs.Answer as spec;
 use sizes::{DIMENSION_AREA, MOST_DIMENSIONS};
 
 // What reading a member answers. Unused entries are 0.
-#[derive(Drop)]
+#[derive(Clone, Copy)]
 pub struct Answer {
     // document 01's refusal number, or 0, and its place
     pub refusal: u32,

@@ -8,7 +8,7 @@ ghost use Rattle.case_codes.specs.Codes as spec;
 use case_state::{BLOCK, FINISH, MISSING, NUMERIC, SPACES};
 
 // What a code says to an element: nothing; that the data ends; that its block follows; that it is refused; the element, eight bytes.
-#[derive(Drop)]
+#[derive(Clone, Copy)]
 pub enum Verdict {
     Skip,
     Finish,

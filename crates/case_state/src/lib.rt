@@ -39,7 +39,7 @@ pub const ENDED: u32 = 252;
 // A state but for its kinds and bias: the position in the case, the bytes taken, and the phase. `codes` are those gathered, or still to act, the
 // first of them the lowest byte, `left` of them; `place` is the place of the next code, or of 22; `block` has the `filled` bytes of the
 // next code's block. Whatever is not in use is 0.
-#[derive(Drop)]
+#[derive(Clone, Copy)]
 pub struct Cursor {
     pub at: usize,
     pub taken: u32,
@@ -52,7 +52,7 @@ pub struct Cursor {
 }
 
 // The state between calls: the kinds of a case's elements, `count` of them, and the bias; then what the calls change.
-#[derive(Drop)]
+#[derive(Clone, Copy)]
 pub struct State {
     pub kinds: [u8; 256],
     pub count: usize,

@@ -19,7 +19,7 @@ pub const BAD_STATE: u32 = 21;
 pub const TOO_SOON: u32 = 23;
 
 // A step, or eight at once: whether there is one, how many bytes it takes, whether it writes an element.
-#[derive(Drop)]
+#[derive(Clone, Copy)]
 pub struct Moved {
     pub cursor: Cursor,
     pub goes: bool,
@@ -29,7 +29,7 @@ pub struct Moved {
 }
 
 // Where a call has come to: bytes taken of its input, elements written to its output.
-#[derive(Drop)]
+#[derive(Clone, Copy)]
 pub struct Fed {
     pub cursor: Cursor,
     pub taken: usize,
@@ -37,26 +37,26 @@ pub struct Fed {
 }
 
 // Where codes that give elements have come to.
-#[derive(Drop)]
+#[derive(Clone, Copy)]
 pub struct Gave {
     pub cursor: Cursor,
     pub written: usize,
 }
 
 // A refusal, or 0, and its place.
-#[derive(Drop)]
+#[derive(Clone, Copy)]
 pub struct Answer {
     pub refusal: u32,
     pub place: u32,
 }
 
-#[derive(Drop)]
+#[derive(Clone, Copy)]
 pub struct Started {
     pub answer: Answer,
     pub state: State,
 }
 
-#[derive(Drop)]
+#[derive(Clone, Copy)]
 pub struct Call {
     pub state: State,
     pub answer: Answer,

@@ -36,7 +36,7 @@ fn elements(s: &[u8], n: usize) {
 }
 
 // One call: the state after it, and whether it took or wrote something and has no refusal.
-#[derive(Drop)]
+#[derive(Clone, Copy)]
 struct Turned {
     state: State,
     taken: usize,

@@ -8,7 +8,7 @@ pub const LEAST_CELL: usize = 9;
 
 // A cell that was read: the next position, or the refusal of its index (which is not below the number of places, or is no field that
 // fits), or that of its Value.
-#[derive(Drop)]
+#[derive(Clone, Copy)]
 enum CellRead {
     Whole(usize),
     BadIndex(u32, usize),

@@ -39,7 +39,7 @@ const OUTPUT_SHORT: u32 = 15;
 
 // A refusal, 0 for none, with its place; and how many bytes were written. (Place and length are not neighbours: the compiler would read both
 // at once, and the processor would wait for the two stores before.)
-#[derive(Drop)]
+#[derive(Clone, Copy)]
 pub struct Answer {
     pub place: usize,
     pub refusal: u32,
@@ -146,7 +146,7 @@ fn refuse(refusal: u32, place: usize) -> Answer
 
 // Where a text stops being converted, and how much is written for it before that; above the room, some number above it. And where its
 // first run of bytes under 128 ends, which need not be looked for again.
-#[derive(Drop)]
+#[derive(Clone, Copy)]
 struct Measured {
     run: usize,
     place: usize,
@@ -189,7 +189,7 @@ fn grown(n: usize, s: usize, room: usize) -> usize
 }
 
 // Bytes taken from the input, none if the character there is refused; and how many are made of them.
-#[derive(Drop)]
+#[derive(Clone, Copy)]
 struct Taken {
     taken: usize,
     made: usize,

@@ -3,7 +3,7 @@
 // the entries of a page
 pub const ENTRIES: usize = 128;
 
-#[derive(Drop)]
+#[derive(Clone, Copy)]
 pub struct Page {
     pub entries: [u16; ENTRIES],
 }

@@ -3,7 +3,7 @@ ghost use Rattle.std.specs.Prelude.{◌≡◌};
 ghost use Rattle.contents.specs.Number.{number_of};
 
 // Whether the bits are a number's, and the number; 0 where they are a NaN's.
-#[derive(Drop)]
+#[derive(Clone, Copy)]
 pub struct Double {
     pub is: bool,
     pub value: f64,

@@ -12,7 +12,7 @@ use layout::{LITTLE, Step};
 use value::cell_zeros;
 
 // The form, 1 or 2, and the bits of the double; both 0 for any other.
-#[derive(Drop)]
+#[derive(Clone, Copy)]
 pub struct Figure {
     pub form: u32,
     pub bits: u64,

@@ -14,7 +14,7 @@ use sizes::BELOW_VALUE;
 use store::Name;
 use value::{arguments, modifiers, value_mod};
 
-#[derive(Drop)]
+#[derive(Clone, Copy)]
 pub struct Got {
     pub value: RawValue,
     pub next: Step,

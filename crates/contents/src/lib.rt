@@ -18,7 +18,7 @@ use store::Name;
 use value::{argument, cell_zeros};
 
 // The fields of a Value without the bytes 00 before it; 0 for those that its form has not.
-#[derive(Drop)]
+#[derive(Clone, Copy)]
 pub struct RawValue {
     // 1 to 6, or 7 for a template
     pub form: u32,
@@ -41,7 +41,7 @@ pub struct RawValue {
 }
 
 // What reading a Value gives: a refusal, or how long it is, how many bytes 00 it begins with, and its fields.
-#[derive(Drop)]
+#[derive(Clone, Copy)]
 pub struct Contents {
     pub refusal: u32,
     pub place: usize,
@@ -51,7 +51,7 @@ pub struct Contents {
 }
 
 // The same of an Argument: how many values it has, and where the first starts.
-#[derive(Drop)]
+#[derive(Clone, Copy)]
 pub struct Argument {
     pub refusal: u32,
     pub place: usize,

@@ -10,7 +10,7 @@ use member::part;
 use sizes::{NAME_LENGTH, NAME_PLACE, NODE_SIZE, NODE_WORDS};
 
 // The lent member, and of the node area only the words filled.
-#[derive(Drop)]
+#[derive(Clone, Copy)]
 pub struct Desk<'a, 'b> {
     member: &'a [u8],
     nodes: &'b [u32],

@@ -7,43 +7,43 @@ use layout::Step;
 use store::Name;
 
 // A value of each kind, and what was read.
-#[derive(Drop)]
+#[derive(Clone, Copy)]
 pub struct Got8 {
     pub value: u8,
     pub next: Step,
 }
 
-#[derive(Drop)]
+#[derive(Clone, Copy)]
 pub struct Got16 {
     pub value: u16,
     pub next: Step,
 }
 
-#[derive(Drop)]
+#[derive(Clone, Copy)]
 pub struct Got32 {
     pub value: u32,
     pub next: Step,
 }
 
-#[derive(Drop)]
+#[derive(Clone, Copy)]
 pub struct Got64 {
     pub value: u64,
     pub next: Step,
 }
 
-#[derive(Drop)]
+#[derive(Clone, Copy)]
 pub struct GotSigned {
     pub value: i32,
     pub next: Step,
 }
 
-#[derive(Drop)]
+#[derive(Clone, Copy)]
 pub struct GotBool {
     pub value: bool,
     pub next: Step,
 }
 
-#[derive(Drop)]
+#[derive(Clone, Copy)]
 pub struct GotName {
     pub value: Name,
     pub next: Step,

@@ -32,7 +32,7 @@ pub fn is_there(dims: [u32; DIMENSION_AREA], d: u32, dimension: u32, leaf: u32) 
 
 // What the sums over the cells of a member need: its version, the places of the dimensions from one on and of those after it, and how many
 // cells there are.
-#[derive(Drop)]
+#[derive(Clone, Copy)]
 pub struct Grid {
     pub version: u64,
     pub block: u64,

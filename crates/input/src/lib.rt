@@ -1,7 +1,7 @@
 // The input of a program, read into a buffer that is lent. Nothing can be promised of the bytes that are read, only of how many they are.
 ghost use Rattle.io.specs.Counts.{IsPrefixLen};
 
-#[derive(Drop)]
+#[derive(Clone, Copy)]
 pub struct Input {
     // whether it was there to be read
     pub found: bool,

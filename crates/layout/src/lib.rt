@@ -6,14 +6,14 @@ pub mod run; // a run of one byte
 pub mod slice; // a part of a slice
 
 // What reading a symbol gives: the next position, or the refusal's number and place.
-#[derive(Drop)]
+#[derive(Clone, Copy)]
 pub enum Step {
     Next(usize),
     Refused(u32, usize),
 }
 
 // Where a counted part lies, from its first byte to past its last; or the refusal.
-#[derive(Drop)]
+#[derive(Clone, Copy)]
 pub enum Span {
     Of(usize, usize),
     Refused(u32, usize),

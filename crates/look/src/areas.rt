@@ -11,7 +11,7 @@ use fields::read::{
 };
 use layout::Step;
 
-#[derive(Drop)]
+#[derive(Clone, Copy)]
 pub struct GotColor {
     pub value: AreaColor,
     pub next: Step,
@@ -46,7 +46,7 @@ pub fn cell_style(s: &[u8], st: Step) -> GotColor
     area_color(s, section(s, st, b"PVCellStyle"))
 }
 
-#[derive(Drop)]
+#[derive(Clone, Copy)]
 pub struct GotAlignment {
     pub value: Alignment,
     pub next: Step,
@@ -87,7 +87,7 @@ pub fn alignment(s: &[u8], st: Step) -> GotAlignment
     }
 }
 
-#[derive(Drop)]
+#[derive(Clone, Copy)]
 pub struct GotFont {
     pub value: Font,
     pub next: Step,
@@ -118,7 +118,7 @@ pub fn font(s: &[u8], st: Step) -> GotFont
     }
 }
 
-#[derive(Drop)]
+#[derive(Clone, Copy)]
 pub struct GotTypeface {
     pub value: Typeface,
     pub next: Step,
@@ -157,7 +157,7 @@ pub fn typeface(s: &[u8], st: Step) -> GotTypeface
     }
 }
 
-#[derive(Drop)]
+#[derive(Clone, Copy)]
 pub struct GotStyle {
     pub value: AreaStyle,
     pub next: Step,
@@ -185,7 +185,7 @@ pub fn area_style(s: &[u8], st: Step) -> GotStyle
     }
 }
 
-#[derive(Drop)]
+#[derive(Clone, Copy)]
 pub struct GotArea {
     pub value: Area,
     pub next: Step,
@@ -211,7 +211,7 @@ pub fn area(s: &[u8], st: Step) -> GotArea
     }
 }
 
-#[derive(Drop)]
+#[derive(Clone, Copy)]
 pub struct GotMost {
     pub value: MostAreas,
     pub next: Step,
@@ -255,7 +255,7 @@ pub fn most_areas(s: &[u8], st: Step) -> GotMost
     }
 }
 
-#[derive(Drop)]
+#[derive(Clone, Copy)]
 pub struct GotText {
     pub title: AreaStyle,
     pub most: MostAreas,

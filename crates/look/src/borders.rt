@@ -10,7 +10,7 @@ use fields::read::{color, fixed_byte, int16};
 use layout::number::{one_of_two, peek};
 use layout::{LITTLE, Step};
 
-#[derive(Drop)]
+#[derive(Clone, Copy)]
 pub struct GotSeparator {
     pub value: Separator,
     pub next: Step,
@@ -45,7 +45,7 @@ pub fn separator(s: &[u8], st: Step) -> GotSeparator
     }
 }
 
-#[derive(Drop)]
+#[derive(Clone, Copy)]
 pub struct GotLines {
     pub value: Lines,
     pub next: Step,
@@ -77,7 +77,7 @@ pub fn lines(s: &[u8], st: Step) -> GotLines
     }
 }
 
-#[derive(Drop)]
+#[derive(Clone, Copy)]
 pub struct GotSeparators {
     pub rows: Lines,
     pub columns: Lines,
@@ -105,7 +105,7 @@ pub fn separator_style(s: &[u8], st: Step) -> GotSeparators
     }
 }
 
-#[derive(Drop)]
+#[derive(Clone, Copy)]
 pub struct GotFrames {
     pub value: Frames,
     pub next: Step,

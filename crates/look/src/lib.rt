@@ -8,13 +8,13 @@ pub mod section; // the first bytes of a section
 use store::Name;
 
 // A border: "either not drawn or drawn with color, style and width" (document 01).
-#[derive(Drop)]
+#[derive(Clone, Copy)]
 pub enum Separator {
     NotDrawn,
     Drawn { color: u32, style: u16, width: u16 },
 }
 
-#[derive(Drop)]
+#[derive(Clone, Copy)]
 pub struct Settings {
     pub flags: u16,
     pub nested_row_labels: bool,
@@ -22,7 +22,7 @@ pub struct Settings {
 }
 
 // The borders of rows (sep1) or of columns (sep2).
-#[derive(Drop)]
+#[derive(Clone, Copy)]
 pub struct Lines {
     pub horizontal_dimension: Separator,
     pub vertical_dimension: Separator,
@@ -30,7 +30,7 @@ pub struct Lines {
     pub vertical_category: Separator,
 }
 
-#[derive(Drop)]
+#[derive(Clone, Copy)]
 pub struct AreaColor {
     pub color10: u32,
     pub color0: u32,
@@ -38,7 +38,7 @@ pub struct AreaColor {
 }
 
 // An area's style, in three parts.
-#[derive(Drop)]
+#[derive(Clone, Copy)]
 pub struct Alignment {
     pub valign: u16,
     pub halign: u16,
@@ -49,7 +49,7 @@ pub struct Alignment {
     pub bottom_margin: u16,
 }
 
-#[derive(Drop)]
+#[derive(Clone, Copy)]
 pub struct Font {
     pub font_size: i32,
     pub stretch: u16,
@@ -57,7 +57,7 @@ pub struct Font {
     pub weight: u16,
 }
 
-#[derive(Drop)]
+#[derive(Clone, Copy)]
 pub struct Typeface {
     pub italic: bool,
     pub underline: bool,
@@ -68,21 +68,21 @@ pub struct Typeface {
     pub text_color: u32,
 }
 
-#[derive(Drop)]
+#[derive(Clone, Copy)]
 pub struct AreaStyle {
     pub alignment: Alignment,
     pub font: Font,
     pub typeface: Typeface,
 }
 
-#[derive(Drop)]
+#[derive(Clone, Copy)]
 pub struct Area {
     pub color: AreaColor,
     pub style: AreaStyle,
 }
 
 // Every area but the title.
-#[derive(Drop)]
+#[derive(Clone, Copy)]
 pub struct MostAreas {
     pub layers: Area,
     pub corner: Area,
@@ -93,7 +93,7 @@ pub struct MostAreas {
     pub footer: Area,
 }
 
-#[derive(Drop)]
+#[derive(Clone, Copy)]
 pub struct Frame {
     pub left: Separator,
     pub right: Separator,
@@ -102,7 +102,7 @@ pub struct Frame {
 }
 
 // The borders of version 02 (sep3).
-#[derive(Drop)]
+#[derive(Clone, Copy)]
 pub struct Frames {
     pub title: Separator,
     pub inner: Frame,
@@ -113,13 +113,13 @@ pub struct Frames {
 
 // The string at the top or bottom of a table that is broken across pages: the letters "(Cont.)", which stand in no file, or those of the
 // file.
-#[derive(Drop)]
+#[derive(Clone, Copy)]
 pub enum Continuation {
     Default,
     Stored(Name),
 }
 
-#[derive(Drop)]
+#[derive(Clone, Copy)]
 pub struct V2Styles {
     pub frames: Frames,
     pub continuation: Continuation,
@@ -130,7 +130,7 @@ pub struct V2Styles {
 }
 
 // A look of version 02: whichever version a file has, what is read is one.
-#[derive(Drop)]
+#[derive(Clone, Copy)]
 pub struct Look {
     pub version: u8,
     pub settings: Settings,
@@ -142,7 +142,7 @@ pub struct Look {
 }
 
 // What reading a look answers: the look, or the refusal's number and place.
-#[derive(Drop)]
+#[derive(Clone, Copy)]
 pub enum Answer {
     Accepted(Look),
     Refused(u32, usize),

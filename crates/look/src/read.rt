@@ -18,7 +18,7 @@ use layout::number::{field, peek};
 use layout::{LITTLE, Step};
 use store::verdict::known_two;
 
-#[derive(Drop)]
+#[derive(Clone, Copy)]
 pub struct GotSettings {
     pub value: Settings,
     pub next: Step,
@@ -49,7 +49,7 @@ pub fn settings(s: &[u8], st: Step) -> GotSettings
     }
 }
 
-#[derive(Drop)]
+#[derive(Clone, Copy)]
 struct GotV2 {
     value: V2Styles,
     next: Step,
@@ -136,7 +136,7 @@ fn v2_styles_if(s: &[u8], st: Step, new: bool) -> GotV2
     }
 }
 
-#[derive(Drop)]
+#[derive(Clone, Copy)]
 struct GotLook {
     value: Look,
     next: Step,

@@ -34,7 +34,7 @@ use sizes::{
 use table::{LEAST_CATEGORY, Section, Walk, dimensions, most_node_words};
 
 // What comes after the dimensions: the axes, or the refusal; how many cells there are; and the dimension numbers on the axes.
-#[derive(Drop)]
+#[derive(Clone, Copy)]
 struct Tail {
     pub axes: AxisCounts,
     pub cells: usize,

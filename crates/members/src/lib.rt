@@ -9,7 +9,7 @@ use member::read_member;
 use sizes::MOST_MEMBERS;
 
 // The words of a share: from a start to an end.
-#[derive(Drop)]
+#[derive(Clone, Copy)]
 struct Share {
     pub start: usize,
     pub end: usize,

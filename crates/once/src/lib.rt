@@ -14,21 +14,21 @@ use sizes::{
 };
 
 // Whether all leaf indexes are as they must be, or the place of the first that is not.
-#[derive(Drop)]
+#[derive(Clone, Copy)]
 pub enum Verdict {
     Fine,
     Bad(usize),
 }
 
 // How many leaves there are, and whether all their indexes are as they must be.
-#[derive(Drop)]
+#[derive(Clone, Copy)]
 pub struct Leaves {
     pub count: usize,
     pub verdict: Verdict,
 }
 
 // Whether leaf indexes are 0, 1, 2 and so on, and how many there are if so.
-#[derive(Drop)]
+#[derive(Clone, Copy)]
 struct Numbered {
     pub holds: bool,
     pub count: usize,

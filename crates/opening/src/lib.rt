@@ -12,7 +12,7 @@ use sections::header::{start, version as known_version};
 use sizes::MEMBER_BYTES;
 
 // The version of a member, and the place after what was read; or the refusal.
-#[derive(Drop)]
+#[derive(Clone, Copy)]
 pub enum Head {
     Of(u64, usize),
     Refused(u32, usize),

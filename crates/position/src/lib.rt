@@ -14,7 +14,7 @@ use once::word;
 use sizes::{MOST_DIMENSIONS, MOST_PLACES};
 
 // Where a cell stands: its layer, row and column position; or the number of a refusal, at place 0, and else 0.
-#[derive(Drop)]
+#[derive(Clone, Copy)]
 pub struct Position {
     pub refusal: u32,
     pub layer: u32,
@@ -23,7 +23,7 @@ pub struct Position {
 }
 
 // The index of a cell; or the number of a refusal, at place 0, and else 0.
-#[derive(Drop)]
+#[derive(Clone, Copy)]
 pub struct CellIndex {
     pub refusal: u32,
     pub index: u32,

@@ -33,28 +33,28 @@ const LONG_SLOTS: usize = BUCKETS + 4 * MOST_CELLS;
 
 // The place of the first number that stands at an earlier place too, or how many numbers there are where none does; and how many steps
 // it took to find.
-#[derive(Drop)]
+#[derive(Clone, Copy)]
 pub struct Repeat {
     pub at: usize,
     pub steps: u64,
 }
 
 // Whether a number stands at an earlier place, and how many steps it took to find out.
-#[derive(Drop)]
+#[derive(Clone, Copy)]
 struct Looked {
     pub old: bool,
     pub steps: u64,
 }
 
 // Whether numbers are in strictly ascending order, and how many steps it took to find out.
-#[derive(Drop)]
+#[derive(Clone, Copy)]
 struct Ascending {
     pub holds: bool,
     pub steps: u64,
 }
 
 // The first repeat where all numbers up to it are small, and how many steps it took.
-#[derive(Drop)]
+#[derive(Clone, Copy)]
 struct Marked {
     pub small: bool,
     pub at: usize,

@@ -9,14 +9,14 @@ pub mod words; // runs of words
 pub mod write; // fields
 
 // What writing answers: how many bytes were written, or the refusal's number and place.
-#[derive(Drop)]
+#[derive(Clone, Copy)]
 pub enum Written {
     Length(usize),
     Refused(u32, usize),
 }
 
 // A name by its place and its length.
-#[derive(Drop)]
+#[derive(Clone, Copy)]
 pub struct Name {
     pub place: usize,
     pub length: usize,

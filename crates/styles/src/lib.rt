@@ -16,7 +16,7 @@ use store::Name;
 
 // An area's style: the name of its typeface by place and length in the look's file, its size as the bits of a float, its colors as those of a
 // look, its margins in pixels.
-#[derive(Drop)]
+#[derive(Clone, Copy)]
 pub struct Area {
     pub typeface: Name,
     pub size: u32,
@@ -33,7 +33,7 @@ pub struct Area {
 }
 
 // In the order of a member.
-#[derive(Drop)]
+#[derive(Clone, Copy)]
 pub struct Areas {
     pub title: Area,
     pub caption: Area,
@@ -45,13 +45,13 @@ pub struct Areas {
     pub layers: Area,
 }
 
-#[derive(Drop)]
+#[derive(Clone, Copy)]
 pub struct Border {
     pub stroke: u32,
     pub color: u32,
 }
 
-#[derive(Drop)]
+#[derive(Clone, Copy)]
 pub struct Frame {
     pub left: Border,
     pub top: Border,
@@ -59,14 +59,14 @@ pub struct Frame {
     pub bottom: Border,
 }
 
-#[derive(Drop)]
+#[derive(Clone, Copy)]
 pub struct Pair {
     pub horizontal: Border,
     pub vertical: Border,
 }
 
 // In the order of their types.
-#[derive(Drop)]
+#[derive(Clone, Copy)]
 pub struct Borders {
     pub title: Border,
     pub outer: Frame,
@@ -79,7 +79,7 @@ pub struct Borders {
     pub category_columns: Pair,
 }
 
-#[derive(Drop)]
+#[derive(Clone, Copy)]
 pub struct Styles {
     pub areas: Areas,
     pub borders: Borders,

@@ -38,14 +38,14 @@ const OWN_PART: usize = 15;
 pub const LEAST_CATEGORY: usize = 16;
 
 // What a walk gives: the next position and the number of nodes so far; or the refusal's number and place.
-#[derive(Drop)]
+#[derive(Clone, Copy)]
 pub enum Walk {
     On(usize, usize),
     Refused(u32, usize),
 }
 
 // What a section gives: the next position, how many dimensions there are, and how many nodes they have; or the refusal.
-#[derive(Drop)]
+#[derive(Clone, Copy)]
 pub enum Section {
     Of(usize, usize, usize),
     Refused(u32, usize),
@@ -53,7 +53,7 @@ pub enum Section {
 
 // What a category begins with: 0 for a leaf or 1 for a group, the length of its name, its last word, how many categories are below it
 // and where they start; or the refusal.
-#[derive(Drop)]
+#[derive(Clone, Copy)]
 enum NodeStart {
     Node(u32, u32, u32, u64, usize),
     Refused(u32, usize),
@@ -61,7 +61,7 @@ enum NodeStart {
 
 // What the bytes after a category's name say, where they are `good`: 0 for a leaf or 1 for a group, its last word, and how many categories
 // are below it.
-#[derive(Drop)]
+#[derive(Clone, Copy)]
 struct Own {
     pub good: bool,
     pub kind: u32,

@@ -18,7 +18,7 @@ use crate::steps::{Asked, FIRST_STEP, Said, from_step};
 // What is answered for a leaf: the refusal, or 0, and its place; how many nodes and cells there are; the total of the numbers under the
 // leaf, how many numbers, texts and missing ones there are, the smallest number and the largest. All but the first two are 0 after a
 // refusal, the counts of nodes and cells not with 12 and 13.
-#[derive(Drop)]
+#[derive(Clone, Copy)]
 pub struct LeafTotal {
     pub refusal: u32,
     pub place: usize,
@@ -33,7 +33,7 @@ pub struct LeafTotal {
 }
 
 // What is answered for all leaves of a dimension: the refusal, or 0, and its place; how many nodes and cells there are, and how many leaves.
-#[derive(Drop)]
+#[derive(Clone, Copy)]
 pub struct DimensionTotals {
     pub refusal: u32,
     pub place: usize,

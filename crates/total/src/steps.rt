@@ -13,14 +13,14 @@ use sizes::{CELL_AREA, CELL_WORDS, NODE_AREA, NODE_WORDS};
 use table::LEAST_CATEGORY;
 
 // What is asked for: a leaf, or all leaves of the dimension.
-#[derive(Drop)]
+#[derive(Clone, Copy)]
 pub enum Asked {
     Leaf(u32),
     Leaves,
 }
 
 // What is answered for it.
-#[derive(Drop)]
+#[derive(Clone, Copy)]
 pub enum Said {
     Leaf(LeafTotal),
     Leaves(DimensionTotals),

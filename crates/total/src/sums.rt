@@ -7,7 +7,7 @@ use counts::Kind;
 
 // How many of the cells are numbers, texts and missing; the total of the numbers, the smallest and the largest, 0 where there are none; and
 // whether a cell is bad, and the place of the first that is.
-#[derive(Drop)]
+#[derive(Clone, Copy)]
 pub struct Sums {
     pub bad: bool,
     pub place: u32,

@@ -2,28 +2,28 @@
 ghost use Rattle.std.specs.Prelude.{◌≡◌};
 ghost use Rattle.units.specs.Units as spec;
 
-#[derive(Drop)]
+#[derive(Clone, Copy)]
 pub struct Pt(pub u32);
 
-#[derive(Drop)]
+#[derive(Clone, Copy)]
 pub struct Px(pub u32);
 
 // The refusal's number, or 0, and its place; then the value, 0 where it is refused.
-#[derive(Drop)]
+#[derive(Clone, Copy)]
 pub struct Pixels {
     pub refusal: u32,
     pub place: usize,
     pub value: Px,
 }
 
-#[derive(Drop)]
+#[derive(Clone, Copy)]
 pub struct Points {
     pub refusal: u32,
     pub place: usize,
     pub value: Pt,
 }
 
-#[derive(Drop)]
+#[derive(Clone, Copy)]
 pub struct Height {
     pub refusal: u32,
     pub place: usize,

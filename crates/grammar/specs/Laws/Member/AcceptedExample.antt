@@ -2,7 +2,7 @@
 -- these bytes have a derivation that is as demanded.
 use Rattle.std.specs.Prelude.{◌≡◌, refl, Bool, true, ◌&&◌, List, [], ◌∷◌, ◌++◌, ℕ, length, take, drop, set, ltb}
 use Rattle.std.proofs.Math.Bool.{and-eq-true_iff}
-use Rattle.std.proofs.Common.{arith, ltb-true}
+use Rattle.std.proofs.Common.{arith, ltb-true, subst, sym}
 use Rattle.sizes.specs.Sizes.{no_parent}
 use Rattle.sizes.specs.Basics.{le, among, pick}
 use Rattle.grammar.specs.Layout.{digits, spell_all, spell_fill, spell, Tree, passes, suits, Bytes, no_bytes, byte, size}
@@ -176,8 +176,9 @@ line_demanded bs b d n c e = go (checked bs) refl e
     go (no k p) f e = absurd (let z : ◌≡◌ {A = ℕ} 0 1 = cc in omega arith)
     go (got t r p) f e =
         let a = accepted bs b t r p f in
+        let Counts : Tree Member → Type 0 = λ x. (length (dimensions x) ≡ d) × (nodes x ≡ n) × (length (cells x) ≡ c) in
         let s = same_counts (length (dimensions t)) (nodes t) (length (cells t)) d n c e in
-        record { derivation = a.derivation; demanded = rw a.its_tree a.demanded; counts = rw a.its_tree s }
+        record { derivation = a.derivation; demanded = rw a.its_tree a.demanded; counts = subst Counts (sym a.its_tree) s }
 
 -- Example: the bytes above have a derivation as demanded, with 2 dimensions, 5 nodes and 2 cells
 pub member_demanded : HasTable member 2 5 2
