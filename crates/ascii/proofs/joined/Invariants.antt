@@ -1,0 +1,6 @@
+
+use Rattle.ascii.proofs.joined.Given as goal
+
+-- LEFT invariant-loop-j: @invariant-loop
+
+-- LEFT decreases-loop-j: @decreases-loop
