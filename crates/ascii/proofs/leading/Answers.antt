@@ -1,19 +1,10 @@
 use native.Mathlib.Omega.{arith}
 use mathlib.Core.Path.{◌≡◌}
 use mathlib.Core.Logic.{⊎_elim}
-use Prim.Native.Nat.{ℕ, ◌+◌, ◌-◌, ◌≤◌, ◌<◌}
-use lib.ListN.{get_or}
-use Rattle.convert.specs.Pages.{ascii}
+use Prim.Native.Nat.{◌≤◌, ◌<◌}
 use Rattle.convert.specs.Laws.Pages.{side}
-use Rattle.ascii.specs.Runs.{block}
 use Rattle.ascii.specs.Laws.{ascii_none}
 use Rattle.ascii.proofs.leading.Goals as goal
-
-abbrev invariant-loop : tie.invariant-loop
-invariant-loop input i n₀ j₀ n j = (j ≤ block) × (n ≤ block) × ((l : ℕ) → l < j → l < n → get_or input (i + l) 0 < ascii)
-
-abbrev decreases-loop : tie.decreases-loop
-decreases-loop input i n₀ j₀ n j = block - j
 
 pub returns-then-input-i : goal.returns-then-input-i
 returns-then-input-i c = (omega arith, ascii_none _ _)
