@@ -15,12 +15,6 @@ returns-then-input-i-lt-BLOCK c = (omega arith, ascii_none _ _)
 pub loop-j-init : goal.loop-j-init
 loop-j-init c = (omega arith, omega arith, (λ l a b. absurd (omega arith)))
 
-pub place_of-requires : goal.place_of-requires
-place_of-requires c = tt
-
-pub least-n-requires : goal.least-n-requires
-least-n-requires c = tt
-
 pub loop-j-preserved : goal.loop-j-preserved
 loop-j-preserved c =
     let v = c.loop-j in
