@@ -1,5 +1,7 @@
 // A member of 9 nodes and 10 cells on standard input, and what it gets with lent areas of several lengths: none, the nodes' one word
 // short, the cells' one word short, both exact. The line, and the counts of nodes and cells.
+#![tactic(auto)]
+
 use answer::Answer;
 use libc::{STDIN_FILENO, STDOUT_FILENO};
 use report::LINE_BYTES;

@@ -1,6 +1,8 @@
 // Streams of case data. Standard input, of at most 65,536 bytes, has one stream after the other: how many kinds and as many bytes; the bias in two bytes; how
 // many bytes a call is offered, and for how many elements it has room, 0, 1 or 8; a length of two bytes, the lowest first, and the stream. For
 // each the answers are written: of the start, of each call with its elements as numbers, and of the end.
+#![tactic(auto)]
+
 use case_state::State;
 use cases::Call;
 use layout::number::{any, at_most, left, peek};

@@ -1,5 +1,7 @@
 // Every byte of every page to UTF-8 and back: a line for each from 80 on, as Unicode's facts of the page have it, and one for each other
 // byte that does not stand for itself. Then what some texts that are refused get.
+#![tactic(auto)]
+
 use codepages::{Answer, from_utf8, to_utf8};
 use libc::STDOUT_FILENO;
 

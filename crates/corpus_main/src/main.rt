@@ -1,5 +1,7 @@
 // For each member that an argument names: its name and the test program's line. For each one after the argument `--sections`: its name
 // and the places of its sections, within its first 65,536 bytes.
+#![tactic(auto)]
+
 mod places;
 
 use libc::STDOUT_FILENO;

@@ -1,5 +1,7 @@
 // One member of at most 65,536 bytes on standard input; the test program's line and, if it is accepted, a line for each node: its number,
 // the node after it and all that is below it, the length of its name and the name's bytes in hexadecimal.
+#![tactic(auto)]
+
 use libc::{STDIN_FILENO, STDOUT_FILENO};
 use report::LINE_BYTES;
 use sizes::{CELL_AREA, NODE_AREA};

@@ -1,4 +1,6 @@
 // The input of a program, read into a buffer that is lent. Nothing can be promised of the bytes that are read, only of how many they are.
+#![tactic(auto)]
+
 ghost use Rattle.io.specs.Counts.{IsPrefixLen};
 
 #[derive(Clone, Copy)]

@@ -1,4 +1,6 @@
 // The look on standard input, read and written as version 02: exactly the rewritten file's bytes, or the line `refused N at P`.
+#![tactic(auto)]
+
 use layout::Span;
 use libc::{STDIN_FILENO, STDOUT_FILENO};
 use look::Answer;

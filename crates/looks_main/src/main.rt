@@ -1,6 +1,8 @@
 // The looks that the arguments name: a line for what each gets, and for an accepted one how it is rewritten, and what its writer answers for
 // too short an output, for no names, for the same look with the default continuation, as version 00 and as version 01, with a title font
 // name of 256 bytes, and with a title color whose high byte is 1.
+#![tactic(auto)]
+
 use layout::Span;
 use libc::STDOUT_FILENO;
 use look::{Answer, Continuation, Look, V2Styles};

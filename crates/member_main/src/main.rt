@@ -1,4 +1,6 @@
 // Document 01's test program: one member of at most 65,536 bytes on standard input, one line on standard output.
+#![tactic(auto)]
+
 use libc::{STDIN_FILENO, STDOUT_FILENO};
 use report::LINE_BYTES;
 

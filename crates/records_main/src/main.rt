@@ -1,4 +1,6 @@
 // One member of at most 65,536 bytes on standard input; the test program's line and, if it is accepted, its records.
+#![tactic(auto)]
+
 use libc::{STDIN_FILENO, STDOUT_FILENO};
 use report::{LINE_BYTES, RECORDS_BYTES};
 use sizes::{CELL_AREA, NODE_AREA};

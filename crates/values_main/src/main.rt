@@ -1,6 +1,8 @@
 // What Values and Arguments say. Standard input, of at most 65,536 bytes, has one after the other: a byte for the version, 0 for a Value or 1
 // for an Argument, a length of two bytes, the lowest first, and as many bytes. For each a line is written: the words of
 // `digarumbi_value` or `digarumbi_argument`, the double's bits as one number.
+#![tactic(auto)]
+
 use contents::{Contents, RawValue};
 use layout::number::{any, peek};
 use layout::{LITTLE, Span, Step};

@@ -1,16 +1,7 @@
 use native.Mathlib.Omega.{arith}
 use mathlib.Core.Path.{◌≡◌}
-use Prim.Native.Nat.{◌-◌, ◌≤◌, ◌<◌}
-use Rattle.convert.specs.Pages.{ascii}
-use Rattle.ascii.specs.Runs.{Ascii}
 use Rattle.ascii.specs.Laws.{ascii_none, ascii_or}
 use Rattle.ascii.proofs.joined.Goals as goal
-
-abbrev invariant-loop : tie.invariant-loop
-invariant-loop input i n bits₀ j₀ bits j = (j ≤ n) × (bits < ascii → Ascii input i j)
-
-abbrev decreases-loop : tie.decreases-loop
-decreases-loop input i n bits₀ j₀ bits j = n - j
 
 pub loop-j-init : goal.loop-j-init
 loop-j-init c = (omega arith, (λ _. ascii_none _ _))

@@ -1,19 +1,10 @@
 use native.Mathlib.Omega.{arith}
 use mathlib.Core.Path.{◌≡◌}
 use mathlib.Core.Logic.{⊎_elim}
-use Prim.Native.Nat.{ℕ, ◌+◌, ◌-◌, ◌≤◌, ◌<◌}
-use lib.ListN.{get_or}
-use Rattle.convert.specs.Pages.{ascii}
+use Prim.Native.Nat.{◌≤◌, ◌<◌}
 use Rattle.convert.specs.Laws.Pages.{side}
-use Rattle.ascii.specs.Runs.{block}
 use Rattle.ascii.specs.Laws.{ascii_none}
 use Rattle.ascii.proofs.leading.Goals as goal
-
-abbrev invariant-loop : tie.invariant-loop
-invariant-loop input i n₀ j₀ n j = (j ≤ block) × (n ≤ block) × ((l : ℕ) → l < j → l < n → get_or input (i + l) 0 < ascii)
-
-abbrev decreases-loop : tie.decreases-loop
-decreases-loop input i n₀ j₀ n j = block - j
 
 pub returns-then-input-i : goal.returns-then-input-i
 returns-then-input-i c = (omega arith, ascii_none _ _)
@@ -23,12 +14,6 @@ returns-then-input-i-lt-BLOCK c = (omega arith, ascii_none _ _)
 
 pub loop-j-init : goal.loop-j-init
 loop-j-init c = (omega arith, omega arith, (λ l a b. absurd (omega arith)))
-
-pub place_of-requires : goal.place_of-requires
-place_of-requires c = tt
-
-pub least-n-requires : goal.least-n-requires
-least-n-requires c = tt
 
 pub loop-j-preserved : goal.loop-j-preserved
 loop-j-preserved c =

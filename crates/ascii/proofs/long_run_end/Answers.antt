@@ -1,5 +1,4 @@
 use native.Mathlib.Omega.{arith}
-use Prim.Native.Nat.{◌-◌}
 use Rattle.ascii.specs.Laws.{run_none, run_more}
 use Rattle.ascii.proofs.long_run_end.Goals as goal
 

@@ -1,5 +1,4 @@
 use native.Mathlib.Omega.{arith}
-use Prim.Native.Nat.{◌-◌}
 use Rattle.ascii.specs.Laws.{run_none, run_more}
 use Rattle.ascii.proofs.run_end.Goals as goal
 
@@ -8,9 +7,6 @@ returns-then-input-start c = run_none _ _
 
 pub returns-then-input-start-ge-ASCII : goal.returns-then-input-start-ge-ASCII
 returns-then-input-start-ge-ASCII c = run_none _ _
-
-pub long_run_end-i-requires : goal.long_run_end-i-requires
-long_run_end-i-requires c = tt
 
 pub loop-i-init : goal.loop-i-init
 loop-i-init c = let r = c.long_run_end-i.ensures in (r.inside (omega arith), r)
