@@ -1,4 +1,6 @@
 // What reading a member answers (document 01, "What the caller gets").
+#![tactic(auto)]
+
 ghost use Rattle.std.specs.Prelude.{◌≡◌};
 ghost use Rattle.answer.specs.Answer as spec;
 

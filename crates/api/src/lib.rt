@@ -1,5 +1,7 @@
 // The library for programs in C, Rust and other languages: numbers and slices alone. A slice is a pointer and a length there;
 // include/digarumbi.h has these functions and the layout of their words.
+#![tactic(auto)]
+
 mod case_data; // compressed case data
 mod encodings; // text in old code pages
 mod member_list; // a night's members in one call

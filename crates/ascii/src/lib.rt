@@ -1,4 +1,6 @@
 // Runs of bytes under 128, which stand for themselves in every page and in UTF-8.
+#![tactic(auto)]
+
 ghost use Rattle.std.specs.Prelude.{◌≡◌, true, ◌+◌, ◌≤◌, ◌<◌, length};
 ghost use Rattle.convert.specs.Pages.{ascii};
 ghost use Rattle.ascii.specs.Runs.{block, Ascii, Run};

@@ -1,4 +1,6 @@
 // Axes, and what they give.
+#![tactic(auto)]
+
 use layout::Step;
 use sizes::MOST_DIMENSIONS;
 

@@ -1,6 +1,6 @@
 -- The state between calls as the code has it, in numbers: which state of the machine it stands for, and which numbers are a state. (Document 02,
 -- T-05: "a state with a number out of range" is 21.)
-use Rattle.std.specs.Prelude.{◌≡◌, Bool, true, false, List, [], ◌∷◌, ℕ, ◌+◌, ◌-◌, ◌*◌, ◌/◌, ◌%◌, ◌^◌, ◌≤◌, ◌<◌, eqb, length}
+use Rattle.std.specs.Prelude.{◌≡◌, ◌∷◌, ℕ, ◌+◌, ◌-◌, ◌*◌, ◌/◌, ◌%◌, ◌^◌, ◌≤◌, ◌<◌, eqb, length}
 use Rattle.sizes.specs.Basics.{le, undigit, pick}
 use Rattle.case_stream.specs.Stream.{limit, block_code, Stop, ended, bad, full}
 use Rattle.case_stream.specs.Machine.{State, gather, acting, stopped}

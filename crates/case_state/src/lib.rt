@@ -1,5 +1,7 @@
 // The state between calls of compressed case data (document 02, T-05), and whether numbers are one. `specs/Cursor.antt` says which state of
 // `case_stream`'s machine it stands for.
+#![tactic(auto)]
+
 pub mod powers; // powers of 256
 pub mod valid; // whether a state is one
 

@@ -1,7 +1,7 @@
 -- What a whole stream of case data means, as a function of all its bytes, with no state and no cuts (document 02, T-05; source document 004,
 -- "Data Record", compression 1).
-use Rattle.std.specs.Prelude.{Bool, true, false, List, [], ◌∷◌, ◌++◌, ℕ, zero, suc, ◌+◌, ◌%◌, eqb, leb, ltb, pos, Float, length, take, drop, get_or}
-use Rattle.std.specs.Float.{Format, binary64}
+use Rattle.std.specs.Prelude.{true, false, List, [], ◌∷◌, ◌++◌, ℕ, zero, suc, ◌+◌, ◌%◌, eqb, leb, ltb, pos, Float, length, take, drop, get_or}
+use Rattle.std.specs.Float.{binary64}
 use Rattle.std.specs.Float.Ieee.{sub, of_int, to_bits}
 use Rattle.sizes.specs.Basics.{le, pick}
 

@@ -1,11 +1,11 @@
 -- T-05's theorem of the code's own calls and states: "However the bytes are cut and whatever room each call had, from the same start, once every
 -- byte was offered and calls with room neither take nor write any more, the elements joined together and the final state are the same."
-use Rattle.std.specs.Prelude.{◌≡◌, refl, Bool, true, false, List, [], ◌∷◌, ◌++◌, ℕ, zero, suc, ◌+◌, ◌-◌, ◌/◌, ◌≤◌, ◌<◌, length, drop}
+use Rattle.std.specs.Prelude.{◌≡◌, refl, true, List, [], ◌∷◌, ◌++◌, ℕ, suc, ◌-◌, ◌/◌, ◌≤◌, length, drop}
 use Rattle.std.proofs.Common.{sym, ◌∙◌, arith}
 use Rattle.std.proofs.Math.Path.{ap}
 use Rattle.sizes.specs.Basics.{le, pick}
 use Rattle.case_stream.specs.Stream.{Element, meaning}
-use Rattle.case_stream.specs.Machine.{State as Machine, fits, out, feed, run, start}
+use Rattle.case_stream.specs.Machine.{fits, out, feed, run, start}
 use Rattle.case_stream.specs.Cuts.{Calls, no_call, call, out_of}
 use Rattle.case_stream.specs.Laws.OneAnswer.{one_answer}
 use Rattle.case_stream.specs.Laws.Meaning.{run_means}
@@ -16,7 +16,7 @@ use Rattle.cases.specs.declared.Call.{Call}
 use Rattle.case_state.specs.Cursor.{view, Good}
 use Rattle.case_state.specs.Tests.{state_ok}
 use Rattle.cases.specs.Steps.{firsts}
-use Rattle.cases.specs.Answers.{padded, cursor₀, start-ok, start_of, elements, fed-of, answered, call-of, Called}
+use Rattle.cases.specs.Answers.{padded, cursor₀, start-ok, elements, fed-of, answered, call-of, Called}
 use Rattle.case_state.specs.Laws.Valid.{state_parts}
 use Rattle.cases.specs.Laws.Canonical.{view_one}
 use Rattle.cases.specs.Laws.Lasting.{start_is, start_lasts, padded_firsts}

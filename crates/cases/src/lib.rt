@@ -1,6 +1,8 @@
 // Compressed case data as it arrives (document 02, T-05; source document 004, "Data Record"): a state that goes in and comes back, fed with
 // bytes in any cuts and an output of any room. `crates/case_stream/specs` says what a stream means and what a call does; `specs/Answers.antt`
 // what these functions answer.
+#![tactic(auto)]
+
 mod bytes; // bytes of the input and of the output
 mod calls; // a call: steps as long as there is one and an element fits
 mod cursors; // a state with one more byte, or one code fewer

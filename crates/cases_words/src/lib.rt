@@ -1,4 +1,6 @@
 // The functions of case data for programs in other languages: a state is 32-bit words in a lent area, and so is an answer.
+#![tactic(auto)]
+
 mod words; // a state from words, and words of a state
 
 ghost use Rattle.std.specs.Prelude.{◌≡◌, length, leb};

@@ -1,4 +1,6 @@
 // Cells, and their records.
+#![tactic(auto)]
+
 mod cell; // cells
 
 pub use cell::{cells, most_cell_words};

@@ -1,4 +1,6 @@
 // Text in windows-1250, 1251 or 1252 to UTF-8, and back.
+#![tactic(auto)]
+
 mod tables; // the constant tables
 mod utf8; // the rows of UTF-8
 
@@ -465,7 +467,7 @@ fn copy_block(input: &[u8], i: usize, out: &mut [u8], w: usize)
     ensures { out.new ≡ sets out.old w (take block (drop i input.now)) }
 {
     let mut held: [u8; BLOCK] = [0; BLOCK];
-    bytes::copy(&input[i..i + BLOCK], &mut held);
+    held.copy_from_slice(&input[i..i + BLOCK]);
     copy_run(&held, 0, BLOCK, out, w);
 }
 
@@ -570,7 +572,9 @@ fn copy_run(input: &[u8], i: usize, e: usize, out: &mut [u8], w: usize) -> usize
     requires { (i ≤ e) × (e ≤ length input.now) × (w + (e - i) ≤ length out.old) }
     ensures { (out.new ≡ sets out.old w (take (e - i) (drop i input.now))) × (result ≡ e - i) }
 {
-    bytes::copy(&input[i..e], &mut out[w..])
+    let n = e - i;
+    out[w..w + n].copy_from_slice(&input[i..e]);
+    n
 }
 
 // Stores the bytes of a code point that has at most three; answers how many.

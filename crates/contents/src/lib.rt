@@ -1,4 +1,6 @@
 // What a Value says: its form, its numbers by value, and its strings and arguments by their places in the bytes given.
+#![tactic(auto)]
+
 mod forms; // the fields of each form
 mod double; // the number that a double is
 mod figure; // the double of a Value

@@ -1,4 +1,6 @@
 // What a cell counts as (document 02, T-01): which doubles are counts, by their bits.
+#![tactic(auto)]
+
 ghost use Rattle.std.specs.Prelude.{◌≡◌, ◌-◌, ◌^◌, ◌≤◌};
 ghost use Rattle.counts.specs.Count as spec;
 

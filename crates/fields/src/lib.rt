@@ -1,5 +1,6 @@
 // The fields of a layout, by value. Each reader takes a slice and what was read so far, as those of `layout` do, and gives the value of
 // the field beside what is read then; after a refusal the value is 0.
+#![tactic(auto)]
 
 pub mod read; // readers
 

@@ -1,4 +1,6 @@
 // Where the cells under a leaf stand: the places of the dimensions of an accepted member.
+#![tactic(auto)]
+
 ghost use Rattle.std.specs.Prelude.{◌≡◌, ◌≤◌};
 ghost use Rattle.sizes.specs.Sizes.{most_cells};
 ghost use Rattle.grid.specs.Grid as spec;

@@ -1,4 +1,6 @@
 // Index arithmetic: the exact product of all n, which is how many places a table has (document 01, "What the caller gets").
+#![tactic(auto)]
+
 ghost use Rattle.std.specs.Prelude.{◌≡◌, ◌+◌, ◌*◌, ◌≤◌, min};
 ghost use Rattle.sizes.specs.Sizes.{most_dimensions, most_places};
 ghost use Rattle.grammar.specs.RecordWords.{sizes};

@@ -1,5 +1,6 @@
 // Readers of the symbols of a layout. Each takes a slice and what was read so far, and gives what is read then: any bytes and any
 // position get an answer, and a refusal is handed on, so a production is read by a straight line of calls.
+#![tactic(auto)]
 
 pub mod number; // numbers and their tests
 pub mod run; // a run of one byte

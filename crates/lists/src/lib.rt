@@ -1,4 +1,6 @@
 // Lists in steps: how many bytes the lists of each step have room for.
+#![tactic(auto)]
+
 ghost use Rattle.std.specs.Prelude.{◌≡◌};
 ghost use Rattle.lists.specs.Lists as spec;
 

@@ -1,4 +1,5 @@
 // Binary table looks (source document 002): the look by value, and its reader.
+#![tactic(auto)]
 
 pub mod areas; // their colors and styles
 pub mod borders; // separators

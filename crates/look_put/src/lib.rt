@@ -1,4 +1,6 @@
 // The productions of 002, each written with its fields into a buffer.
+#![tactic(auto)]
+
 ghost use Rattle.std.specs.Prelude.{◌^◌, ◌<◌, length};
 ghost use Rattle.grammar.specs.Layout.{times};
 ghost use Rattle.store.specs.Puts.{Puts, PutsPlain};

@@ -1,4 +1,5 @@
 // The Areas and Borders sections of a member of version 3 from a look.
+#![tactic(auto)]
 
 ghost use Rattle.sections_put.specs.Names.{Each, Short};
 ghost use Rattle.look_sections.specs.Writing as spec;

@@ -1,4 +1,5 @@
 // A look as 32-bit words in a lent area.
+#![tactic(auto)]
 
 mod areas; // colors and styles
 mod borders; // separators

@@ -1,4 +1,5 @@
 // The writer of binary table looks, of version 02.
+#![tactic(auto)]
 
 ghost use Rattle.look_write.specs.Writing as spec;
 

@@ -1,4 +1,6 @@
 // The whole member.
+#![tactic(auto)]
+
 ghost use Rattle.std.specs.Prelude.{◌≡◌, ◌++◌, ◌≤◌, ◌-◌, length, take, drop};
 ghost use Rattle.sizes.specs.Sizes.{member_bytes, node_area, cell_area};
 ghost use Rattle.grammar.specs.Part.{part_of};

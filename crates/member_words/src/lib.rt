@@ -1,4 +1,6 @@
 // The answer of a member as 32-bit words at the front of a lent area.
+#![tactic(auto)]
+
 ghost use Rattle.std.specs.Prelude.{◌≡◌, ◌++◌, ◌+◌, length};
 ghost use Rattle.sizes.specs.Sizes.{most_dimensions, dimension_area, answer_words};
 ghost use Rattle.layout.specs.declared.Step.TheVariants.{Next};

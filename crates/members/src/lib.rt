@@ -1,4 +1,6 @@
 // A night's members in one call: the members of a list, each read with its share of two areas (document 02, T-09).
+#![tactic(auto)]
+
 ghost use Rattle.std.specs.Prelude.{◌≡◌, ◌+◌, ◌*◌, ◌/◌, ◌<◌, ◌≤◌};
 ghost use Rattle.grammar.specs.Laws.Member.Checked.{checked};
 ghost use Rattle.members.specs.Members.{members, list_refusal, member_at, InShare};

@@ -1,4 +1,6 @@
 // A night's members in one call: their answers as words, one after the other, and the records of each in its share of two areas.
+#![tactic(auto)]
+
 ghost use Rattle.std.specs.Prelude.{◌+◌, ◌*◌, ◌≤◌, length};
 ghost use Rattle.sizes.specs.Sizes.{answer_words};
 ghost use Rattle.members.specs.Members as members_spec;

@@ -1,5 +1,7 @@
 // Whether one of some bytes is 0. Most strings are short: two parts that may overlap are looked through then, each of a size that the
 // compiler knows, so it turns each into one vector instruction.
+#![tactic(auto)]
+
 ghost use Rattle.std.specs.Prelude.{◌≡◌, ◌||◌, ◌≤◌, ◌*◌, length, eqb};
 ghost use Rattle.sizes.specs.Basics.{among};
 

@@ -1,5 +1,7 @@
 // Numbers that stand once each, in the 32-bit words of records: leaf indexes, axis entries and cell indexes. Any words get an answer:
 // one past the last counts as 0. A number above the most there are (document 01, "Sizes we accept") counts as that.
+#![tactic(auto)]
+
 ghost use Rattle.std.specs.Prelude.{◌≡◌, true, [], ◌+◌, ◌*◌, ◌≤◌, min, length};
 ghost use Rattle.sizes.specs.Sizes.{most_nodes, most_cells, node_words};
 ghost use Rattle.sizes.specs.Basics.{among};

@@ -1,4 +1,6 @@
 // The Header and the sections before the dimensions, and the end of a member.
+#![tactic(auto)]
+
 ghost use Rattle.std.specs.Prelude.{◌≡◌};
 ghost use Rattle.opening.specs.Laws.Header.{HeaderRead};
 ghost use Rattle.opening.specs.Laws.Ends.{end_at};

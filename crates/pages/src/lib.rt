@@ -1,4 +1,6 @@
 // The pages that are known, by their numbers.
+#![tactic(auto)]
+
 ghost use Rattle.pages.specs.Numbers.{Numbered};
 
 const FIRST_PAGE: u32 = 1250;

@@ -1,5 +1,7 @@
 // The layer, row and column position of a cell, and the index of a position (document 02, T-11). Any numbers get an answer: a word past
 // the last of a slice counts as 0.
+#![tactic(auto)]
+
 ghost use Rattle.std.specs.Prelude.{◌≡◌, [], ◌∷◌, ◌+◌, ◌*◌, ◌/◌, ◌%◌, ◌≤◌, min, length};
 ghost use Rattle.sizes.specs.Sizes.{most_dimensions, most_places};
 ghost use Rattle.grammar.specs.RecordWords.{word};

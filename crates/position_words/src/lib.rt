@@ -1,4 +1,6 @@
 // The position of a cell and the index of a position, as words at the front of a lent area.
+#![tactic(auto)]
+
 ghost use Rattle.layout.specs.declared.Step.TheVariants.{Next};
 ghost use Rattle.store.specs.Puts.{PutsWords};
 ghost use Rattle.position_words.specs.Positions as spec;

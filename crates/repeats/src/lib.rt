@@ -1,6 +1,8 @@
 // The first repeat among the first words of records. Any words get an answer: a word past the last counts as 0. A number of records
 // above the most cells counts as that, a record longer than a node's as one of these.
 // A step is a comparison of an index, a look for its mark or for a next place, or a store of either: each stands next to its `+= 1`.
+#![tactic(auto)]
+
 ghost use Rattle.std.specs.Prelude.{◌≡◌, true, [], ◌+◌, ◌*◌, ◌≤◌, ◌<◌, min, length};
 ghost use Rattle.sizes.specs.Sizes.{most_cells, node_words, repeat_steps};
 ghost use Rattle.grammar.specs.Repeat.{strided, Answered};

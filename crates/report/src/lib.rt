@@ -1,4 +1,6 @@
 // What the programs print of an answer, into a buffer that is lent.
+#![tactic(auto)]
+
 mod rows;
 mod text;
 

@@ -1,4 +1,6 @@
 // The sections of a member that stand before its dimensions.
+#![tactic(auto)]
+
 ghost use Rattle.layout.specs.Reads.{Reads};
 ghost use Rattle.grammar.specs.Sections as grammar;
 

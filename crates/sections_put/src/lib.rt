@@ -1,4 +1,5 @@
 // The Areas and Borders sections of a version 3 member, written from styles (document 02, T-12).
+#![tactic(auto)]
 
 mod area; // an area's font, colors and margins
 mod line; // borders

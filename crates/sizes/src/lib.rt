@@ -1,5 +1,6 @@
 // The numbers of document 01 that code and specification share, each under one name: `specs/Sizes.antt` has the same ones for the
 // contracts. What is computed from another is written so.
+#![tactic(auto)]
 
 // ---- document 01, "Sizes we accept"
 

@@ -1,4 +1,4 @@
--- Bytes that were copied into the rest of a buffer from a position on, and the bytes of a number.
+-- Bytes that were copied into a buffer from a position on, and the bytes of a number.
 use mathlib.Core.Path.{◌≡◌, refl, ap}
 use mathlib.Core.List.{List, [], ◌∷◌, ◌++◌, reverse, append-nil}
 use Prim.Native.Nat.{ℕ, zero, suc, ◌+◌, ◌-◌, ◌/◌, ◌%◌, ◌≤◌}
@@ -10,15 +10,12 @@ use Rattle.sizes.specs.Basics.{le}
 use Rattle.grammar.specs.Layout.{little, big, digits}
 use Rattle.store.specs.Put.{stored}
 
-pub put_rest : (b : List ℕ) (at : ℕ) (xs ys : List ℕ) → at + length xs ≤ length b
-    → ys ≡ take (length xs) xs ++ drop (length xs) (mid_of at (length b - at) b) → put_mid at (length b - at) b ys ≡ stored b at xs
+pub put_all : (b : List ℕ) (at : ℕ) (xs ys : List ℕ) → at + length xs ≤ length b → ys ≡ xs
+    → put_mid at (at + length xs - at) b ys ≡ stored b at xs
 unfolding stored
-put_rest b at xs ys h e =
-    let k : ℕ = length b - at in
-    let long : length (drop at b) ≡ k = length-drop at b in
-    let whole : mid_of at k b ≡ drop at b = take_all k (drop at b) (omega arith) in
-    let none : post_of at k b ≡ [] = drop_of_length-le (drop at b) {i = k} (omega arith) in
-    rw (none, e, whole, take-length xs, drop-drop, append-nil)
+put_all b at xs ys h e =
+    let k : at + length xs - at ≡ length xs = omega arith in
+    rw (k, e, drop-drop)
 
 -- of the eight bytes of a number the first w, lowest first, or the last w, highest first
 pub low_bytes : (w v : ℕ) → w ≤ 8 → take w (le 8 v) ≡ digits little w v

@@ -14,7 +14,7 @@ pub fn deliver(buf: &[u8], st: Step, out: &mut [u8]) -> Written
             let n = at_most(at, buf.len());
             let fits = n <= out.len();
             if fits {
-                bytes::copy(&buf[..n], out);
+                out[..n].copy_from_slice(&buf[..n]);
                 Written::Length(n)
             } else {
                 Written::Refused(15, 0)

@@ -1,6 +1,7 @@
 // Writing by a layout: fields stored in a buffer one after the other, and runs of 32-bit words likewise. Each writer takes a buffer, what was
 // written so far and the value of a field; it stores the field there and gives what is written then. A refusal is handed on, and the buffer
 // stays as it was before the field that is refused: `specs/Put.antt` says what every buffer then holds.
+#![tactic(auto)]
 
 pub mod deliver; // a buffer handed over
 pub mod region; // the count of a region

@@ -28,7 +28,8 @@ fn raw(buf: &mut [u8], st: Step, text: &[u8], c: u32) -> Step
     if good {
         if at <= buf.len() {
             if text.len() <= buf.len() - at {
-                let n = bytes::copy(text, &mut buf[at..]);
+                let n = text.len();
+                buf[at..at + n].copy_from_slice(text);
                 Step::Next(at + n)
             } else {
                 short

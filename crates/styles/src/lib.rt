@@ -1,4 +1,5 @@
 // From a look to the styles of a member (document 02, T-12): its areas and borders by value, no bytes.
+#![tactic(auto)]
 
 mod alignment; // alignments and margins
 mod area_styles; // the eight areas

@@ -1,4 +1,6 @@
 // Dimensions and their categories: a walk that stores each node's record in a list of words.
+#![tactic(auto)]
+
 ghost use Rattle.std.specs.Prelude.{◌≡◌, true, [], ◌∷◌, ◌≤◌, ◌<◌, ◌-◌, ◌*◌, length, set, drop};
 ghost use Rattle.std.proofs.lemmas.List.Edits.{sets};
 ghost use Rattle.sizes.specs.Sizes.{member_bytes, most_nodes, node_words};

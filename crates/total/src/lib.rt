@@ -1,4 +1,6 @@
 // The total of the cells under a leaf (document 02, T-01).
+#![tactic(auto)]
+
 mod all; // a call for all leaves of a dimension
 pub mod answers; // the answers as words
 mod call; // a call for a leaf

@@ -1,4 +1,6 @@
 // Points, pixels, and the height of a font. Points and pixels are types of their own: only the two conversions go from one to the other.
+#![tactic(auto)]
+
 ghost use Rattle.std.specs.Prelude.{◌≡◌};
 ghost use Rattle.units.specs.Units as spec;
 

@@ -1,5 +1,7 @@
 // The readers of a Value. Those of a value, of a template and of its arguments call each other: the depth that is left falls. In a loop the bytes
 // that are left fall: each Value and each argument takes a byte or more, and a refusal ends it. So a count costs no more than the bytes that are there.
+#![tactic(auto)]
+
 ghost use Rattle.std.specs.Prelude.{◌≡◌};
 ghost use Rattle.grammar.specs.Layout.{times};
 ghost use Rattle.layout.specs.declared.Step.TheVariants.{Next};

@@ -1,4 +1,6 @@
 // What a Value and an Argument say, as words at the front of a lent area.
+#![tactic(auto)]
+
 ghost use Rattle.layout.specs.declared.Step.TheVariants.{Next};
 ghost use Rattle.store.specs.Puts.{PutsWords};
 ghost use Rattle.contents.specs.Laws.Plain.{plain_value};

@@ -1,4 +1,6 @@
 // What was written, as three 32-bit words at the front of a lent area: a look again, the sections of a look, and text in another encoding.
+#![tactic(auto)]
+
 pub mod text; // text in old code pages
 
 ghost use Rattle.std.specs.Prelude.{[], ◌∷◌};

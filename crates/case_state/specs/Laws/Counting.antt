@@ -1,6 +1,6 @@
 -- Elements, codes and blocks before a place: each step counts on, and the test of the counts is exact.
-use Rattle.std.specs.Prelude.{◌≡◌, refl, Bool, true, false, ℕ, zero, suc, ◌+◌, ◌-◌, ◌*◌, ◌/◌, ◌%◌, ◌≤◌, ◌<◌, leb}
-use Rattle.std.proofs.Common.{sym, ap, ◌∙◌, mod-lt, mod-eq_of_lt, div-lt_iff_lt-mul, mul-le-mul_left, arith}
+use Rattle.std.specs.Prelude.{◌≡◌, true, ℕ, suc, ◌+◌, ◌-◌, ◌*◌, ◌/◌, ◌%◌, ◌≤◌, ◌<◌}
+use Rattle.std.proofs.Common.{sym, ◌∙◌, mod-lt, mod-eq_of_lt, div-lt_iff_lt-mul, mul-le-mul_left, arith}
 use Rattle.std.proofs.Math.Nat.{mod-add-mod, mod-le, div-add-mod, add-mul-mod_self_left}
 use borrow.Author.Tests.{leb-true, le-leb}
 use Rattle.sizes.specs.Basics.{pick}

@@ -1,7 +1,7 @@
 -- The tests of a state ask just what `Good` says: they pass exactly the good ones.
 use Rattle.std.proofs.Math.Path.{◌≡◌, refl}
-use Rattle.std.proofs.Common.{sym, ap, ◌∙◌}
-use Rattle.std.specs.Prelude.{Bool, List, ◌↔◌, leb, ltb, get_or}
+use Rattle.std.proofs.Common.{ap}
+use Rattle.std.specs.Prelude.{Bool, List, ◌↔◌, leb, get_or}
 use Rattle.std.proofs.Math.Bool.{true, false}
 use Prim.Native.Nat.{ℕ, zero, suc, ◌+◌, ◌-◌, ◌%◌, ◌^◌, ◌≤◌, ◌<◌, min}
 use native.Mathlib.Omega.{arith}
@@ -12,7 +12,7 @@ use Rattle.case_stream.specs.Stream.{limit, block_code, most_kinds, most_bias, s
 use Rattle.case_state.specs.declared.Cursor.{Cursor}
 use Rattle.case_state.specs.declared.State.{State}
 use Rattle.case_state.specs.Cursor.{Good, Stopped, StoppedBy, by_252, by_22, by_7}
-use Rattle.case_state.specs.Tests.{nothing_held, gather_ok, block_ok, acting_ok, ended_ok, bad_ok, full_ok, stop_ok, resting_ok, cursor_ok, kinds_ok, rest_ok, state_ok}
+use Rattle.case_state.specs.Tests.{gather_ok, block_ok, acting_ok, ended_ok, bad_ok, full_ok, stop_ok, resting_ok, cursor_ok, kinds_ok, rest_ok, state_ok}
 use Rattle.case_state.specs.Laws.Tests.{both}
 use Rattle.case_state.specs.Laws.Counting.{counts_sound, counts_complete}
 

@@ -1,12 +1,12 @@
 -- Feeding a ++ b is feeding a, then b: more bytes and more room change nothing of what was done.
-use Rattle.std.specs.Prelude.{◌≡◌, Bool, ℕ, zero, suc, ◌+◌, ◌-◌, ◌*◌, ◌%◌, ◌≤◌, ◌<◌, eqb, leb, ltb, length, get_or}
+use Rattle.std.specs.Prelude.{◌≡◌, Bool, ℕ, zero, suc, ◌-◌, ◌≤◌, ltb, length, get_or}
 use Rattle.std.proofs.Math.Path.{refl}
 use Rattle.std.proofs.Common.{sym, ap, ◌∙◌, arith, length-append}
 use Rattle.std.proofs.Math.Bool.{true, false}
-use mathlib.Core.List.{List, [], ◌∷◌, ◌++◌, append_assoc, append-nil}
+use mathlib.Core.List.{List, [], ◌∷◌, ◌++◌}
 use Rattle.sizes.specs.Basics.{pick}
-use Rattle.case_stream.specs.Stream.{Element, limit, Stop, ended, bad, full, Says, skip, finish, block, wrong, gives, says}
-use Rattle.case_stream.specs.Machine.{State, gather, acting, stopped, Room, fits, endless, has, less, Step, halts, goes, after, gathered, takes, next, blocked, acts, moves, step, Out, out, put, weight, iterate, feed, run}
+use Rattle.case_stream.specs.Stream.{Element, limit, Says, skip, finish, block, wrong, gives, says}
+use Rattle.case_stream.specs.Machine.{State, gather, acting, stopped, Room, fits, endless, has, less, Step, halts, goes, takes, blocked, acts, moves, step, Out, out, put, feed}
 use Rattle.case_stream.specs.Laws.Steps.{Feeds, over, first, feeds, feed_goes, put_nil, put_put}
 
 pub less_less : (r : Room) (es fs : List Element) → less (less r es) fs ≡ less r (es ++ fs)
@@ -37,6 +37,7 @@ unfolding has
 has_wider (fits zero) (fits b) (w_fits h) e = cc
 has_wider (fits (suc a)) (fits zero) (w_fits h) e = absurd (omega arith)
 has_wider (fits (suc a)) (fits (suc b)) (w_fits h) e = refl
+has_wider endless (fits b) x4 e = elim x4 [ ]
 has_wider r endless w_endless e = refl
 
 -- the second step does what the first does, with the bytes b behind

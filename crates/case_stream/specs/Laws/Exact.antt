@@ -1,20 +1,20 @@
 -- T-05: "the double code minus bias" is exact: the difference of two whole numbers up to 2 ^ 53, as doubles, is the double of their difference.
 use Rattle.std.proofs.Math.Path.{◌≡◌, refl}
-use Rattle.std.proofs.Common.{sym, ap, ◌∙◌, subst, mul-pos}
-use Rattle.std.specs.Prelude.{Bool, not, cond, List, [], ◌∷◌, T, leb, ℤ, pos, negsuc, Float}
+use Rattle.std.proofs.Common.{ap, ◌∙◌, mul-pos}
+use Rattle.std.specs.Prelude.{Bool, not, T, pos, Float}
 use Rattle.std.proofs.Math.Bool.{true, false}
-use Prim.Native.Nat.{ℕ, zero, suc, ◌+◌, ◌-◌, ◌*◌, ◌^◌, ◌≤◌, ◌<◌}
+use Prim.Native.Nat.{ℕ, suc, ◌+◌, ◌-◌, ◌*◌, ◌^◌, ◌≤◌, ◌<◌}
 use native.Mathlib.Omega.{arith}
 use Rattle.std.proofs.Math.Dec.{ltb}
 use borrow.Author.Tests.{ltb-true, ltb-false, lt-ltb, le-ltb, le-leb, lt-leb}
 use Rattle.std.specs.Float.Ieee.{nan, binary64, up, down, minus, prec, round, neg, add, sum, sub, of_int, to_bits, is_nan}
-use Rattle.std.specs.Float.{inf, fin, Format, binary32}
+use Rattle.std.specs.Float.{inf, fin, Format}
 use Rattle.std.specs.Float.Ieee.Exact.{HasValue}
 use Rattle.std.specs.Float.Ieee.Fits.{down_pos}
 use Rattle.std.specs.Float.Ieee.Back.{round_whole}
 use Rattle.std.specs.Float.Ieee.Scale.{round_same}
 use Rattle.sizes.specs.Basics.{le}
-use Rattle.case_stream.specs.Stream.{Element, difference, double, zeros}
+use Rattle.case_stream.specs.Stream.{difference, double, zeros}
 
 module _ (f : Format) where
   -- a fraction whose denominator divides out

@@ -1,8 +1,8 @@
 -- T-05 by example: the definitions compute.
-use Rattle.std.specs.Prelude.{◌≡◌, refl, List, [], ◌∷◌, ◌++◌, ℕ}
+use Rattle.std.specs.Prelude.{◌≡◌, refl, [], ◌∷◌}
 use Rattle.std.specs.Float.Ieee.{sub, of_int, to_bits}
 use Rattle.sizes.specs.Basics.{le, pick}
-use Rattle.case_stream.specs.Stream.{double, numeric, string, value, says, with_element, codes, groups, within, meaning, means, stop, ended, bad, in_group, in_block, missing, spaces, zeros}
+use Rattle.case_stream.specs.Stream.{double, numeric, string, value, says, with_element, codes, groups, within, meaning, means, stop, ended, bad, missing, spaces, zeros}
 
 pub one : double 101 100 ≡ 0 ∷ 0 ∷ 0 ∷ 0 ∷ 0 ∷ 0 ∷ 240 ∷ 63 ∷ []
 unfolding double le to_bits sub of_int

@@ -1,7 +1,7 @@
 -- T-05: what `run` does with a whole stream is what the stream means, 7 at the limit included.
 use Rattle.std.specs.Prelude.{◌≡◌, Bool, ltb, take, drop, get_or}
 use Rattle.std.proofs.Math.Path.{refl, ap}
-use Rattle.std.proofs.Common.{sym, ◌∙◌, take-append-drop}
+use Rattle.std.proofs.Common.{◌∙◌, take-append-drop}
 use Rattle.std.proofs.Math.Bool.{true, false}
 use mathlib.Core.List.{List, [], ◌∷◌, ◌++◌, append-nil}
 use Prim.Native.Nat.{ℕ, zero, suc, ◌+◌, ◌-◌, ◌%◌, ◌≤◌, ◌<◌}
@@ -161,6 +161,7 @@ module _ (kinds : List ℕ) (bias : ℕ) where
   moving_pick false h k = k
 
   not_idle : (x : Step) → Moving x → x ≡ halts → ⊥
+  not_idle halts x3 e = elim x3 [ ]
   not_idle (goes t s es) moving e = let z : ◌≡◌ {A = ℕ} 0 1 = cc in omega arith
 
   acts_idle : (y : Says) (at n p c : ℕ) (cs k s : List ℕ) → acts kinds bias y at n p c cs k s ≡ halts → (y ≡ block) × (s ≡ [])

@@ -1,14 +1,13 @@
 -- Whatever the cuts and rooms, the calls give what one call with endless room gives.
-use Rattle.std.specs.Prelude.{◌≡◌, refl, Bool, true, false, ℕ, zero, suc, ◌+◌, ◌-◌, ◌*◌, ◌%◌, ◌≤◌, ◌<◌, eqb, leb, ltb, length, get_or}
+use Rattle.std.specs.Prelude.{◌≡◌, ℕ, suc}
 use Rattle.std.proofs.Math.Path.{sym, ap}
-use Rattle.std.proofs.Common.{◌∙◌, arith, length-append}
-use mathlib.Core.List.{List, [], ◌∷◌, ◌++◌, append_assoc, append-nil}
-use Rattle.sizes.specs.Basics.{pick}
-use Rattle.case_stream.specs.Stream.{Element, limit, Stop, ended, bad, full, Says, skip, finish, block, wrong, gives, says}
-use Rattle.case_stream.specs.Machine.{State, gather, acting, stopped, Room, fits, endless, has, less, Step, halts, goes, after, gathered, takes, next, blocked, acts, moves, step, Out, out, put, weight, iterate, feed, run}
+use Rattle.std.proofs.Common.{◌∙◌}
+use mathlib.Core.List.{List, [], append-nil}
+use Rattle.case_stream.specs.Stream.{Element}
+use Rattle.case_stream.specs.Machine.{State, Room, fits, endless, has, less, halts, step, Out, out, put, feed, run}
 use Rattle.case_stream.specs.Cuts.{Calls, no_call, call}
 use Rattle.case_stream.specs.Laws.Steps.{Feeds, over, first, feeds, feed_halts, put_nil, put_put}
-use Rattle.case_stream.specs.Laws.Compose.{less_less, less_nil, Wider, w_endless, compose}
+use Rattle.case_stream.specs.Laws.Compose.{less_less, less_nil, w_endless, compose}
 
 module _ (kinds : List ℕ) (bias : ℕ) where
   -- where a call ends, no step is left

@@ -1,13 +1,13 @@
 -- A call is its steps, to the end: each makes the weight smaller.
-use Rattle.std.specs.Prelude.{◌≡◌, Bool, true, false, eqb, leb, ltb, length, get_or}
+use Rattle.std.specs.Prelude.{◌≡◌, Bool, true, false, ltb, length, get_or}
 use Rattle.std.proofs.Math.Path.{refl}
 use Rattle.std.proofs.Common.{sym, ap, ◌∙◌, arith}
-use mathlib.Core.List.{List, [], ◌∷◌, ◌++◌, append_assoc, append-nil}
-use Prim.Native.Nat.{ℕ, zero, suc, ◌+◌, ◌-◌, ◌*◌, ◌%◌, ◌≤◌, ◌<◌}
+use mathlib.Core.List.{List, [], ◌∷◌, ◌++◌, append_assoc}
+use Prim.Native.Nat.{ℕ, zero, suc, ◌+◌, ◌-◌, ◌*◌, ◌≤◌, ◌<◌}
 use Rattle.std.proofs.Math.ListN.{length-append}
 use Rattle.sizes.specs.Basics.{pick}
-use Rattle.case_stream.specs.Stream.{Element, limit, Stop, ended, bad, full, Says, skip, finish, block, wrong, gives, says}
-use Rattle.case_stream.specs.Machine.{State, gather, acting, stopped, Room, fits, endless, has, less, Step, halts, goes, after, gathered, takes, next, blocked, acts, moves, step, Out, out, put, weight, iterate, feed, run}
+use Rattle.case_stream.specs.Stream.{Element, limit, ended, bad, full, Says, skip, finish, block, wrong, gives, says}
+use Rattle.case_stream.specs.Machine.{State, gather, acting, stopped, Room, has, less, Step, halts, goes, after, gathered, takes, next, blocked, acts, moves, step, Out, out, put, weight, iterate, feed}
 
 -- ---- 1. each step makes the weight smaller
 

@@ -1,12 +1,12 @@
 -- Bytes taken, elements written, and where a call with endless room ends.
-use Rattle.std.specs.Prelude.{◌≡◌, Bool, true, false, ℕ, zero, suc, ◌+◌, ◌-◌, ◌*◌, ◌%◌, ◌≤◌, ◌<◌, eqb, leb, ltb, get_or}
+use Rattle.std.specs.Prelude.{◌≡◌, Bool, true, false, ℕ, ◌+◌, ◌-◌, ◌≤◌, ltb, get_or}
 use Rattle.std.proofs.Math.Path.{refl}
-use Rattle.std.proofs.Common.{sym, ap, ◌∙◌, arith}
-use mathlib.Core.List.{List, [], ◌∷◌, ◌++◌, append_assoc, append-nil}
+use Rattle.std.proofs.Common.{arith}
+use mathlib.Core.List.{List, [], ◌∷◌, ◌++◌}
 use Rattle.std.proofs.Math.ListN.{length, length-append}
 use Rattle.sizes.specs.Basics.{pick}
-use Rattle.case_stream.specs.Stream.{Element, limit, Stop, ended, bad, full, Says, skip, finish, block, wrong, gives, says}
-use Rattle.case_stream.specs.Machine.{State, gather, acting, stopped, Room, fits, endless, has, less, Step, halts, goes, after, gathered, takes, next, blocked, acts, moves, step, Out, out, put, weight, iterate, feed, run}
+use Rattle.case_stream.specs.Stream.{Element, limit, ended, bad, full, Says, skip, finish, block, wrong, gives, says}
+use Rattle.case_stream.specs.Machine.{State, gather, acting, stopped, Room, endless, has, less, Step, halts, goes, after, gathered, takes, next, blocked, acts, moves, step, Out, out, put, feed, run}
 use Rattle.case_stream.specs.Laws.Steps.{Feeds, over, first, feeds}
 use Rattle.case_stream.specs.Laws.OneAnswer.{Ends, at_end, ends}
 

@@ -1,7 +1,7 @@
 -- The steps of a call with room; eight bytes at once, of a group and of a block, and what is there of either.
-use Rattle.std.specs.Prelude.{◌≡◌, Bool, true, false, ltb, take, drop, get_or}
+use Rattle.std.specs.Prelude.{◌≡◌, true, take, drop, get_or}
 use Rattle.std.proofs.Math.Path.{refl, ap}
-use Rattle.std.proofs.Common.{sym, ◌∙◌}
+use Rattle.std.proofs.Common.{◌∙◌}
 use mathlib.Core.List.{List, [], ◌∷◌, ◌++◌, append_assoc, append-nil}
 use Prim.Native.Nat.{ℕ, zero, suc, ◌+◌, ◌-◌, ◌≤◌, ◌<◌}
 use native.Mathlib.Omega.{arith}
@@ -9,7 +9,7 @@ use borrow.Author.Tests.{lt-ltb, le-ltb}
 use Rattle.std.proofs.Math.ListN.{length, length-append}
 use Rattle.sizes.specs.Basics.{pick}
 use Rattle.case_stream.specs.Stream.{Element, limit, Stop, Says, block, says}
-use Rattle.case_stream.specs.Machine.{State, gather, acting, stopped, Room, has, less, Step, halts, goes, after, gathered, takes, next, blocked, acts, moves, step, Out, out, put, feed}
+use Rattle.case_stream.specs.Machine.{State, gather, acting, stopped, Room, has, less, halts, goes, after, gathered, takes, next, blocked, acts, moves, step, out, put, feed}
 use Rattle.case_stream.specs.Laws.Steps.{feed_halts, feed_goes, put_nil}
 use Rattle.case_stream.specs.Laws.Compose.{less_nil}
 

@@ -1,23 +1,23 @@
 -- The code's steps are the machine's.
 use Rattle.std.proofs.Math.Path.{◌≡◌, refl}
 use Rattle.std.proofs.Common.{sym, ap, ◌∙◌, mod-lt, mod-eq_of_lt, arith}
-use Rattle.std.specs.Prelude.{Bool, true, false, eqb, ltb, length, drop, get_or}
-use mathlib.Core.List.{List, [], ◌∷◌, ◌++◌}
-use Prim.Native.Nat.{ℕ, zero, suc, ◌+◌, ◌-◌, ◌*◌, ◌/◌, ◌%◌, ◌^◌, ◌≤◌, ◌<◌}
+use Rattle.std.specs.Prelude.{Bool, true, false, eqb, ltb, get_or}
+use mathlib.Core.List.{List, [], ◌∷◌}
+use Prim.Native.Nat.{ℕ, suc, ◌+◌, ◌-◌, ◌*◌, ◌/◌, ◌%◌, ◌^◌, ◌≤◌, ◌<◌}
 use Rattle.std.proofs.Math.Nat.{mod-le, mod_self}
 use Rattle.std.proofs.Math.Numerals.{add-one}
-use borrow.Author.Tests.{eqb-true, eqb-false, ltb-true, ltb-false, lt-ltb, le-ltb}
+use borrow.Author.Tests.{eqb-true, ltb-true, ltb-false, lt-ltb, le-ltb}
 use Rattle.sizes.specs.Basics.{le, pick}
 use Rattle.grammar.specs.Laws.Layout.Digits.{length_le}
 use Rattle.case_stream.specs.Stream.{limit, block_code, Says, skip, finish, block, wrong, gives, says, value, numeric, string}
-use Rattle.case_stream.specs.Machine.{State, gather, acting, stopped, Step, halts, goes, after, takes, next, blocked, acts, moves}
+use Rattle.case_stream.specs.Machine.{acting, goes, after, takes, next, blocked, acts, moves}
 use Rattle.case_state.specs.declared.Cursor.{Cursor}
 use Rattle.cases.specs.declared.Moved.{Moved}
 use Rattle.case_state.specs.Cursor.{stop_of, view, Counts, Good, by_252, by_22, by_7}
 use Rattle.cases.specs.Steps.{gather_byte, passed, block_byte, stop_at, offered, wrote, step_of, halting, silent, writing, Advances}
 use Rattle.cases.specs.Laws.Digits.{le_snoc, snoc_in}
 use Rattle.case_state.specs.Laws.Counting.{counts_skip, counts_gives, counts_block, counts_byte, counts_place}
-use Rattle.cases.specs.Laws.Goods.{good_gather, good_act, good_rest, good_passed, good_gathered, view_gather, view_acting, view_stopped, view_passed, view_gathered}
+use Rattle.cases.specs.Laws.Goods.{good_act, good_rest, good_passed, good_gathered, view_gather, view_acting, view_stopped, view_passed, view_gathered}
 
 -- ---- 1. 253, and no other code, says that a block follows
 
@@ -41,6 +41,9 @@ value_blockless kind bias c = blockless_pick (eqb kind 0)
     (blockless_pick (eqb c 254) b_gives (blockless_pick (ltb c 252) (blockless_pick (eqb c bias) b_gives b_wrong) b_wrong))
 
 no_block : (x : Says) → Blockless x → x ≡ block → ⊥
+no_block skip x3 e = elim x3 [ ]
+no_block finish x4 e = elim x4 [ ]
+no_block block x5 e = elim x5 [ ]
 no_block wrong b_wrong e = let z : ◌≡◌ {A = ℕ} 0 1 = cc in omega arith
 no_block (gives el) b_gives e = let z : ◌≡◌ {A = ℕ} 0 1 = cc in omega arith
 

@@ -1,14 +1,13 @@
 -- The answers of the code, by its numbers, are those of the machine's state.
-use Rattle.std.specs.Prelude.{◌≡◌, refl, Bool, true, false, List, [], ◌∷◌, ◌++◌, ℕ, zero, suc, ◌+◌, ◌-◌, ◌/◌, ◌%◌, ◌≤◌, ◌<◌, eqb, take, drop, set, get_or, replicate}
+use Rattle.std.specs.Prelude.{◌≡◌, refl, Bool, true, false, List, ℕ, zero, suc, ◌+◌, ◌-◌, ◌/◌, ◌%◌, ◌≤◌, ◌<◌, eqb, take, drop, set, get_or, replicate}
 use Rattle.std.proofs.Common.{sym, ap, ◌∙◌, add-one, arith, length-take-le, take-suc, eqb-true, ne_eqb}
 use Rattle.std.proofs.Math.ListN.{length, length-drop}
-use Rattle.std.proofs.lemmas.List.Edits.{sets}
 use Rattle.std.proofs.lemmas.List.{set_at}
 use Rattle.std.proofs.Math.Seq.{append_snoc}
 use Rattle.std.proofs.lemmas.Bool.{eqb-false}
 use Rattle.sizes.specs.Basics.{le, pick}
 use Rattle.grammar.specs.Laws.Layout.Digits.{length_le}
-use Rattle.case_stream.specs.Stream.{Element, limit, ended, bad, full}
+use Rattle.case_stream.specs.Stream.{limit}
 use Rattle.case_stream.specs.Machine.{gather, acting, stopped, fits, out}
 use Rattle.case_stream.specs.Laws.Taken.{taken as Taken-of, held, feed_keeps, feed_spends}
 use Rattle.case_state.specs.declared.Cursor.{Cursor}
@@ -17,8 +16,8 @@ use Rattle.cases.specs.declared.Answer.{Answer}
 use Rattle.cases.specs.declared.Call.{Call}
 use Rattle.case_state.specs.Cursor.{numbers, stop_of, view, Good, StoppedBy, by_252, by_22, by_7}
 use Rattle.case_state.specs.Tests.{state_ok}
-use Rattle.cases.specs.Steps.{joined, firsts, Fed_is}
-use Rattle.cases.specs.Answers.{well, bad-state, too-soon, padded, refusal-of, fed-of, answered, call-of, elements, output-of, Called, ending, refusal-at, unfinished-at, end-at}
+use Rattle.cases.specs.Steps.{firsts, Fed_is}
+use Rattle.cases.specs.Answers.{well, bad-state, too-soon, padded, refusal-of, fed-of, answered, call-of, output-of, Called, ending, refusal-at, unfinished-at, end-at}
 use Rattle.cases.specs.Laws.Goods.{view_gather, view_acting, view_stopped}
 use Rattle.case_state.specs.Laws.Counting.{counts_place}
 use Rattle.case_state.specs.Laws.Valid.{state_sound}

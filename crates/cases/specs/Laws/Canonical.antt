@@ -1,17 +1,16 @@
 -- The state is canonical: the numbers of a good one are those of the state that it stands for.
-use Rattle.std.specs.Prelude.{◌≡◌, Bool, true, false, List, [], ◌∷◌, eqb}
+use Rattle.std.specs.Prelude.{◌≡◌, Bool, true, false, eqb}
 use Rattle.std.proofs.Math.Path.{refl}
 use Rattle.std.proofs.Common.{sym, ap, ◌∙◌, pow-suc, arith}
-use Prim.Native.Nat.{ℕ, zero, suc, ◌+◌, ◌-◌, ◌*◌, ◌/◌, ◌%◌, ◌^◌, ◌≤◌, ◌<◌}
+use Prim.Native.Nat.{ℕ, suc, ◌+◌, ◌-◌, ◌*◌, ◌/◌, ◌%◌, ◌^◌, ◌<◌}
 use Rattle.std.proofs.Math.ListN.{length}
 use borrow.Author.Tests.{eqb-true, eqb-false}
 use Rattle.sizes.specs.Basics.{le, undigit, pick}
 use Rattle.grammar.specs.Layout.{little, undigits, digits}
 use Rattle.grammar.specs.Laws.Layout.Digits.{length_le, undigits_digits}
-use Rattle.case_stream.specs.Stream.{Stop, ended, bad, full}
-use Rattle.case_stream.specs.Machine.{State, gather, acting, stopped}
+use Rattle.case_stream.specs.Machine.{stopped}
 use Rattle.case_state.specs.declared.Cursor.{Cursor}
-use Rattle.case_state.specs.Cursor.{gather_at, act_at, rest_at, numbers, stop_of, view, Good, StoppedBy, by_252, by_22, by_7}
+use Rattle.case_state.specs.Cursor.{rest_at, numbers, stop_of, view, Good, StoppedBy, by_252, by_22, by_7}
 use Rattle.cases.specs.Laws.Goods.{view_gather, view_acting, view_stopped}
 
 undigit_le : (w x : ℕ) → x < 256 ^ w → undigit (le w x) ≡ x

@@ -1,5 +1,5 @@
 -- Bytes as a number, one more of them at the end.
-use Rattle.std.specs.Prelude.{◌≡◌, refl, List, [], ◌∷◌, ◌++◌, ℕ, zero, suc, ◌+◌, ◌*◌, ◌/◌, ◌%◌, ◌^◌, ◌≤◌, ◌<◌, min}
+use Rattle.std.specs.Prelude.{◌≡◌, [], ◌∷◌, ◌++◌, ℕ, zero, suc, ◌+◌, ◌*◌, ◌/◌, ◌%◌, ◌^◌, ◌≤◌, ◌<◌, min}
 use Rattle.std.proofs.Common.{pow-suc, mul-le-mul_right, add-one, arith}
 use Rattle.std.proofs.Math.Nat.{pow-le-pow_right}
 use Rattle.sizes.specs.Basics.{le}

@@ -1,16 +1,15 @@
 -- Which states are good, and what a good one stands for.
-use Rattle.std.specs.Prelude.{◌≡◌, refl, Bool, true, false, List, [], ◌∷◌, ◌++◌, ℕ, zero, suc, ◌+◌, ◌-◌, ◌*◌, ◌/◌, ◌%◌, ◌^◌, ◌≤◌, ◌<◌, eqb, ltb}
-use Rattle.std.proofs.Common.{sym, ap, ◌∙◌, pow-suc, add-one, arith, eqb-true, ltb-true, ltb-false, lt-ltb}
-use Rattle.std.proofs.Math.Nat.{mod-le}
+use Rattle.std.specs.Prelude.{◌≡◌, refl, Bool, true, false, [], ◌∷◌, ◌++◌, ℕ, suc, ◌+◌, ◌-◌, ◌*◌, ◌/◌, ◌%◌, ◌^◌, ◌≤◌, ◌<◌, eqb, ltb}
+use Rattle.std.proofs.Common.{sym, ap, ◌∙◌, pow-suc, add-one, arith, ltb-true, ltb-false, lt-ltb}
 use Rattle.sizes.specs.Basics.{le, pick}
 use Rattle.grammar.specs.Laws.Layout.Digits.{length_le}
-use Rattle.case_stream.specs.Stream.{limit, block_code}
-use Rattle.case_stream.specs.Machine.{State, gather, acting, stopped, after, gathered}
+use Rattle.case_stream.specs.Stream.{block_code}
+use Rattle.case_stream.specs.Machine.{gather, acting, stopped, after, gathered}
 use Rattle.case_state.specs.declared.Cursor.{Cursor}
-use Rattle.case_state.specs.Cursor.{gather_at, act_at, rest_at, stop_of, view, Counts, Good, StoppedBy, by_252, by_22, by_7}
+use Rattle.case_state.specs.Cursor.{gather_at, act_at, rest_at, stop_of, view, Counts, Good, StoppedBy}
 use Rattle.cases.specs.Steps.{gather_byte, passed}
 use Rattle.cases.specs.Laws.Digits.{le_snoc, snoc_in}
-use Rattle.case_state.specs.Laws.Counting.{counts_first, counts_skip, counts_gives, counts_block, counts_place}
+use Rattle.case_state.specs.Laws.Counting.{counts_first}
 
 -- ---- 1. the three kinds of state
 

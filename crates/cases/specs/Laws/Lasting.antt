@@ -1,12 +1,11 @@
 -- T-05: no start that is not refused and no call leaves a state that is 21; a refusal lasts.
-use Rattle.std.specs.Prelude.{◌≡◌, refl, Bool, true, false, List, [], ◌∷◌, ◌++◌, ℕ, zero, suc, ◌+◌, ◌-◌, ◌≤◌, ◌<◌, eqb, leb, ltb, length, take, drop, get_or, replicate}
-use Rattle.std.proofs.Common.{sym, ap, ◌∙◌, arith, length-take-le, get_or-append-add, take_all, ltb-true, leb-true, eq-eqb}
+use Rattle.std.specs.Prelude.{◌≡◌, refl, true, List, [], ◌∷◌, ◌++◌, ℕ, zero, suc, ◌+◌, ◌-◌, ◌≤◌, ◌<◌, leb, ltb, length, take, get_or, replicate}
+use Rattle.std.proofs.Common.{ap, ◌∙◌, arith, length-take-le, get_or-append-add, take_all, leb-true, eq-eqb}
 use Rattle.std.proofs.lemmas.List.{get_or-replicate}
 use Rattle.sizes.specs.Basics.{pick}
 use Rattle.case_stream.specs.Stream.{most_kinds, most_bias}
 use Rattle.case_state.specs.declared.Cursor.{Cursor}
 use Rattle.case_state.specs.declared.State.{State}
-use Rattle.cases.specs.declared.Call.{Call}
 use Rattle.case_state.specs.Cursor.{Good}
 use Rattle.case_state.specs.Tests.{kinds_ok, rest_ok, state_ok, cursor_ok, gather_ok}
 use Rattle.cases.specs.Steps.{firsts}

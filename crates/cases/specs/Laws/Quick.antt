@@ -1,10 +1,10 @@
 -- A step as a call sees it; and eight bytes at once, of a group and of a block, which leave what eight steps leave.
-use Rattle.std.specs.Prelude.{◌≡◌, Bool, ℕ, zero, suc, ◌+◌, ◌-◌, ◌*◌, ◌/◌, ◌%◌, ◌^◌, ◌≤◌, ◌<◌, eqb, leb, ltb, take, drop, get_or}
+use Rattle.std.specs.Prelude.{◌≡◌, Bool, ℕ, suc, ◌+◌, ◌-◌, ◌/◌, ◌%◌, ◌^◌, ◌≤◌, ◌<◌, eqb, ltb, take, drop, get_or}
 use Rattle.std.proofs.Math.Path.{refl}
 use Rattle.std.proofs.Common.{sym, ap, ◌∙◌, true≢false, length-drop, drop_of_length-le, drop-cons}
 use Rattle.std.proofs.Math.Bool.{true, false}
 use Rattle.std.proofs.lemmas.Bool.{false≢true}
-use mathlib.Core.List.{List, [], ◌∷◌, ◌++◌}
+use mathlib.Core.List.{List, [], ◌∷◌}
 use native.Mathlib.Omega.{arith}
 use Rattle.std.proofs.Math.ListN.{length, length-take}
 use borrow.Author.Tests.{eqb-true, leb-true, ltb-true, ltb-false}
@@ -12,8 +12,8 @@ use Rattle.sizes.specs.Basics.{le, undigit, pick}
 use Rattle.grammar.specs.Layout.{little, undigits, digits, Bytes}
 use Rattle.layout.specs.Steps.Slices.{drop_bytes, take_bytes}
 use Rattle.grammar.specs.Laws.Layout.Digits.{length_le, digits_undigits, undigits_lt}
-use Rattle.case_stream.specs.Stream.{Element, limit, block_code, block, says}
-use Rattle.case_stream.specs.Machine.{State, gather, acting, Room, fits, endless, has, less, Step, halts, goes, after, next, moves, step, Out, put, feed, weight}
+use Rattle.case_stream.specs.Stream.{limit, block_code, block, says}
+use Rattle.case_stream.specs.Machine.{gather, acting, fits, endless, has, halts, goes, after, next, moves, step, weight}
 use Rattle.case_stream.specs.Laws.Steps.{μ, after_weight, put_nil, falls_goes, step_falls}
 use Rattle.case_stream.specs.Laws.Compose.{less_nil}
 use Rattle.case_stream.specs.Laws.Whole.{room_goes, gather_whole, block_whole}

@@ -3,7 +3,7 @@ use Rattle.std.specs.Prelude.{◌≡◌, refl, List, ℕ, ◌+◌, ◌-◌, ◌*
 use Rattle.std.proofs.Common.{sym, ap, ◌∙◌, ⊎_elim, arith, ne_eqb}
 use Rattle.sizes.specs.Basics.{pick}
 use Rattle.convert.specs.Pages.{page_count, ascii, no_byte, byte}
-use Rattle.convert.specs.Utf8.{row_two, row_three, row, decode}
+use Rattle.convert.specs.Utf8.{row_two, row_three, decode}
 use Rattle.convert.specs.Laws.Pages.{side, byte_most, byte_below}
 use Rattle.convert.specs.Laws.Utf8.{Decoded, from_one, from_two, from_three, from_four, decoded_by, row_two_is, row_three_is, two_is, three_is, scalar_below}
 use Rattle.convert.specs.Laws.Places.{groups, look, group_of, point, point_low, point_high, look_some, look_none, reach, group_point, lowest_point}

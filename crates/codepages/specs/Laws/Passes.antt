@@ -1,11 +1,11 @@
 -- Both passes over a text, for either direction: several characters at a time are measured, and then written.
-use Rattle.std.specs.Prelude.{◌≡◌, refl, Bool, true, false, List, [], ◌∷◌, ◌++◌, ◌⊎◌, ℕ, zero, suc, ◌+◌, ◌-◌, ◌≤◌, ◌<◌, length, get_or, take, drop, set}
+use Rattle.std.specs.Prelude.{◌≡◌, refl, Bool, true, false, List, [], ◌∷◌, ◌++◌, ℕ, zero, suc, ◌+◌, ◌≤◌, ◌<◌, length, get_or, take, drop, set}
 use Rattle.std.proofs.Common.{sym, ap, ◌∙◌, ⊎_elim, arith, length-append, length-drop, drop_of_length-le, drop-drop, drop-cons}
 use Rattle.std.proofs.lemmas.List.Edits.{sets}
 use Rattle.std.proofs.Math.Seq.{length-sets}
-use Rattle.convert.specs.Pages.{ascii, byte}
+use Rattle.convert.specs.Pages.{ascii}
 use Rattle.convert.specs.Utf8.{decode}
-use Rattle.convert.specs.Convert.{Step, invalid, converts, to, from, way, valid_up_to, output}
+use Rattle.convert.specs.Convert.{Step, invalid, converts, way, valid_up_to, output}
 use Rattle.convert.specs.Laws.Pages.{side, point_low, byte_low}
 use Rattle.convert.specs.Laws.Utf8.{encode_one, row_one_is}
 use Rattle.convert.specs.Laws.Steps.{up_to_step, output_step, up_to_invalid, output_invalid, up_to_end, output_end, to_converts, from_converts}

@@ -92,3 +92,6 @@ at_most (number o w test k) h = number_most (λ n. weaker (at_most (k n) (h n).1
 at_most (string o w c) h = text_most
 at_most (a ▸ b) h = then_most (at_most a h.0) (at_most b h.1)
 at_most (times n a) h = times_most (at_most a h)
+at_most (leading _ _ _) h = elim h [ ]
+at_most (region _ _ _) h = elim h [ ]
+at_most nothing h = elim h [ ]

@@ -122,6 +122,7 @@ writable_placed (leading b n a) t v s at r h =
 writable_placed (region o m a) t v s at r h =
     let xs = spell_fill m (spell a) t in
     writable_in (placed a) (spell a) s (Valid a) (Writable a s) (λ x p at r h. writable_placed a x p s at r h) m t v.1 (at + 4) r (after_number o 4 (length xs) xs h)
+writable_placed nothing t v s at r h = elim t [ ]
 
 -- which a writer answers so
 pub check_placed : (g : Layout) (t : Tree g) → Valid g t → (s : List ℕ) (at : ℕ) (r : List ℕ) → Stands (spell g t) s at r

@@ -1,0 +1,34 @@
+use mathlib.Core.Path.{refl, sym, ◌∙◌}
+use native.Mathlib.Omega.{arith}
+use Rattle.layout.specs.Steps.Keeping.{kept_off}
+use Rattle.layout.specs.Steps.Slices.{bytes_of}
+use Rattle.axes.specs.Laws.Axes.{no_counts, not_summed, no_entries, the_entries}
+use Rattle.axes.proofs.axis.axes.Goals as goal
+
+pub returns-in-Refused : goal.returns-in-Refused
+returns-in-Refused c =
+    let a = c.args in
+    let b = bytes_of _ c.type_inv.s in
+    let m = c.at_most-d.result in
+    (rw (← c.at_most-d.ensures) (no_counts a.s.now b a.at m c.any-a.ensures.0 c.any-b.ensures.0 c.any.ensures.0 c.in-Refused.is), refl)
+
+pub returns-in-Refused-end : goal.returns-in-Refused-end
+returns-in-Refused-end c =
+    let a = c.args in
+    let b = bytes_of _ c.type_inv.s in
+    let m = c.at_most-d.result in
+    (rw (← c.at_most-d.ensures) (no_entries a.s.now b a.at m c.any-a.ensures.0 c.any-b.ensures.0 c.any.ensures.0 c.in-Next.is c.peek-layers.ensures c.peek-rows.ensures c.peek-columns.ensures (sym c.adds_up-good.ensures ∙ c.if-good.true) (kept_off (rw c.in-Refused-end.is at c.entries-e.ensures))), refl)
+
+pub returns-in-Next-end : goal.returns-in-Next-end
+returns-in-Next-end c =
+    let a = c.args in
+    let b = bytes_of _ c.type_inv.s in
+    let m = c.at_most-d.result in
+    (rw (← c.at_most-d.ensures) (the_entries a.s.now b a.at m c.any-a.ensures.0 c.any-b.ensures.0 c.any.ensures.0 c.in-Next.is c.peek-layers.ensures c.peek-rows.ensures c.peek-columns.ensures (sym c.adds_up-good.ensures ∙ c.if-good.true) (omega (arith, c.at_most-d.ensures)) (rw c.in-Next-end.is at c.entries-e.ensures)), tt)
+
+pub returns-else-good : goal.returns-else-good
+returns-else-good c =
+    let a = c.args in
+    let b = bytes_of _ c.type_inv.s in
+    let m = c.at_most-d.result in
+    (rw (← c.at_most-d.ensures) (not_summed a.s.now b a.at m c.any-a.ensures.0 c.any-b.ensures.0 c.any.ensures.0 c.in-Next.is c.peek-layers.ensures c.peek-rows.ensures c.peek-columns.ensures (sym c.adds_up-good.ensures ∙ c.if-good.false)), refl)

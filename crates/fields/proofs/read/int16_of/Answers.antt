@@ -1,0 +1,5 @@
+use Rattle.fields.specs.Laws.Gives.{fixed_gives}
+use Rattle.fields.proofs.read.int16_of.Goals as goal
+
+pub returns : goal.returns
+returns c = fixed_gives c.fixed.ensures

@@ -1,0 +1,18 @@
+use mathlib.Core.Path.{refl}
+use native.Mathlib.Omega.{arith}
+use Rattle.sizes.specs.Basics.{pick}
+use Rattle.grammar.specs.Layout.{suits}
+use Rattle.layout.specs.Steps.Counted.{string_of}
+use Rattle.layout.specs.Reads as spec
+use Rattle.fields.specs.Laws.Gives.{string_gives, next_value}
+use Rattle.fields.proofs.read.name.Goals as goal
+
+pub returns-in-Of : goal.returns-in-Of
+unfolding spec.past suits pick
+returns-in-Of c = next_value refl (string_gives (omega arith) (string_of (rw c.in-Of.is) c.part-p.ensures) c.part-p.ensures c.name_at-value.ensures)
+
+pub returns-in-Refused : goal.returns-in-Refused
+unfolding spec.past suits pick
+returns-in-Refused c =
+    let p = c.in-Refused.is in
+    record { gives = string_gives (omega arith) (string_of (rw p) c.part-p.ensures) c.part-p.ensures c.name_at-value.ensures; none = λ n q j. rw p at c.name_at-value.ensures }

@@ -1,0 +1,5 @@
+use Rattle.layout.specs.Steps.{reads}
+use Rattle.layout.proofs.number.boolean.Goals as goal
+
+pub returns : goal.returns
+returns c = search reads

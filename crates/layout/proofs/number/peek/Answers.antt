@@ -1,0 +1,4 @@
+use Rattle.layout.proofs.number.peek.Goals as goal
+
+pub returns : goal.returns
+returns c = rw (← c.width.ensures) c.number.ensures

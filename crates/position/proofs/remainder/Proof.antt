@@ -1,8 +1,0 @@
-use borrow.Author.Rules.{rules}
-use mathlib.Core.Path.{sym}
-use native.Mathlib.Nat.{mod-zero}
-use Rattle.position.proofs.remainder.Statement.{statement}
-use Rattle.position.proofs.remainder.Tie as tie
-
-pub remainder-spec : {M : Type 1} → statement M
-remainder-spec = tie.close (tie.spec (λ c. search rules) (λ c. rw c.if1.true (sym (mod-zero _))) (λ c. search rules))
