@@ -1,3 +1,4 @@
+use Rattle.std.proofs.Common.{eq-eqb, ne_eqb}
 use Rattle.sizes.specs.Basics.{among, pick}
 use Rattle.grammar.specs.Layout.{passes}
 use Rattle.grammar.specs.Laws.Layout.Read.{refusal}
@@ -6,16 +7,16 @@ use Rattle.table.proofs.known_kind.Goals as goal
 
 pub returns-then-leaf : goal.returns-then-leaf
 unfolding verdict passes among refusal pick
-returns-then-leaf c = simp c.if-leaf.true-raw
+returns-then-leaf c = simp (eq-eqb c.args.v 0 c.if-leaf.true)
 
 pub returns-then-group : goal.returns-then-group
 unfolding verdict passes among refusal pick
-returns-then-group c = simp (c.if-leaf.false-raw, c.if-group.true-raw)
+returns-then-group c = simp (ne_eqb c.args.v 0 c.if-leaf.false, eq-eqb c.args.v 65536 c.if-group.true)
 
 pub returns-then-merged : goal.returns-then-merged
 unfolding verdict passes among refusal pick
-returns-then-merged c = simp (c.if-leaf.false-raw, c.if-group.false-raw, c.if-merged.true-raw)
+returns-then-merged c = simp (ne_eqb c.args.v 0 c.if-leaf.false, ne_eqb c.args.v 65536 c.if-group.false, eq-eqb c.args.v 65537 c.if-merged.true)
 
 pub returns-else-merged : goal.returns-else-merged
 unfolding verdict passes among refusal pick
-returns-else-merged c = simp (c.if-leaf.false-raw, c.if-group.false-raw, c.if-merged.false-raw)
+returns-else-merged c = simp (ne_eqb c.args.v 0 c.if-leaf.false, ne_eqb c.args.v 65536 c.if-group.false, ne_eqb c.args.v 65537 c.if-merged.false)
