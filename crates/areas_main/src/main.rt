@@ -3,55 +3,53 @@
 #![tactic(auto)]
 
 use answer::Answer;
-use libc::{STDIN_FILENO, STDOUT_FILENO};
 use report::LINE_BYTES;
 use sizes::{CELL_WORDS, NODE_WORDS};
+use std::io;
 
 // What the records of that member take.
 const NODES: usize = 9 * NODE_WORDS;
 
 const CELLS: usize = 10 * CELL_WORDS;
 
-fn counts(a: Answer) {
+fn counts(rt: &impl Print, a: Answer) -> io::Result<()> {
     let mut out = [0u8; LINE_BYTES];
     let k = report::line(a, &mut out);
-    io::write_all(STDOUT_FILENO, &out[..k]);
-    io::print_decimal(STDOUT_FILENO, a.nodes as u64);
-    io::write_all(STDOUT_FILENO, b" ");
-    io::print_decimal(STDOUT_FILENO, a.cells as u64);
-    io::write_all(STDOUT_FILENO, b"\n");
+    rt.write_all(&out[..k])?;
+    println!(rt; "{} {}", a.nodes, a.cells)
 }
 
-fn none(s: &[u8]) {
+fn none(rt: &impl Print, s: &[u8]) -> io::Result<()> {
     let mut nodes = [0u32; 0];
     let mut cells = [0u32; 0];
-    counts(member::read_member(s, &mut nodes, &mut cells));
+    counts(rt, member::read_member(s, &mut nodes, &mut cells))
 }
 
-fn few_node_words(s: &[u8]) {
+fn few_node_words(rt: &impl Print, s: &[u8]) -> io::Result<()> {
     let mut nodes = [0u32; NODES - 1];
     let mut cells = [0u32; CELLS];
-    counts(member::read_member(s, &mut nodes, &mut cells));
+    counts(rt, member::read_member(s, &mut nodes, &mut cells))
 }
 
-fn few_cell_words(s: &[u8]) {
+fn few_cell_words(rt: &impl Print, s: &[u8]) -> io::Result<()> {
     let mut nodes = [0u32; NODES];
     let mut cells = [0u32; CELLS - 1];
-    counts(member::read_member(s, &mut nodes, &mut cells));
+    counts(rt, member::read_member(s, &mut nodes, &mut cells))
 }
 
-fn exact(s: &[u8]) {
+fn exact(rt: &impl Print, s: &[u8]) -> io::Result<()> {
     let mut nodes = [0u32; NODES];
     let mut cells = [0u32; CELLS];
-    counts(member::read_member(s, &mut nodes, &mut cells));
+    counts(rt, member::read_member(s, &mut nodes, &mut cells))
 }
 
-fn main() {
-    let mut buf = io::large_buffer();
-    let n = io::read_full(STDIN_FILENO, &mut buf);
+fn main(rt: HostRuntime) -> io::Result<()> {
+    let mut buf = [0u8; input::LARGE];
+    let got = input::read(&mut rt.stdin(), &mut buf)?;
+    let n = got.bytes;
     let s = &buf[..n];
-    none(s);
-    few_node_words(s);
-    few_cell_words(s);
-    exact(s);
+    none(&rt, s)?;
+    few_node_words(&rt, s)?;
+    few_cell_words(&rt, s)?;
+    exact(&rt, s)
 }

@@ -7,34 +7,34 @@ use case_state::State;
 use cases::Call;
 use layout::number::{any, at_most, left, peek};
 use layout::{LITTLE, Span, Step};
-use libc::{STDIN_FILENO, STDOUT_FILENO};
 use regions::region::{bytes, part};
+use std::io;
 
-fn text(s: &[u8]) {
-    io::write_all(STDOUT_FILENO, s);
+fn text(rt: &impl Print, s: &[u8]) -> io::Result<()> {
+    rt.write_all(s)
 }
 
-fn number(n: u64) {
-    text(b" ");
-    io::print_decimal(STDOUT_FILENO, n);
+fn number(rt: &impl Print, n: u64) -> io::Result<()> {
+    print!(rt; " {n}")
 }
 
 // Element i of n, as the number that its bytes spell, the lowest first.
-fn element(s: &[u8], i: usize, n: usize) {
+fn element(rt: &impl Print, s: &[u8], i: usize, n: usize) -> io::Result<()> {
     if i < n {
-        number(peek(s, Step::Next(at_most(i, 7) * 8), LITTLE, 8));
+        number(rt, peek(s, Step::Next(at_most(i, 7) * 8), LITTLE, 8))?;
     }
+    Ok(())
 }
 
-fn elements(s: &[u8], n: usize) {
-    element(s, 0, n);
-    element(s, 1, n);
-    element(s, 2, n);
-    element(s, 3, n);
-    element(s, 4, n);
-    element(s, 5, n);
-    element(s, 6, n);
-    element(s, 7, n);
+fn elements(rt: &impl Print, s: &[u8], n: usize) -> io::Result<()> {
+    element(rt, s, 0, n)?;
+    element(rt, s, 1, n)?;
+    element(rt, s, 2, n)?;
+    element(rt, s, 3, n)?;
+    element(rt, s, 4, n)?;
+    element(rt, s, 5, n)?;
+    element(rt, s, 6, n)?;
+    element(rt, s, 7, n)
 }
 
 // One call: the state after it, and whether it took or wrote something and has no refusal.
@@ -46,49 +46,49 @@ struct Turned {
 }
 
 // The line of a call, and how it goes on.
-fn line(call: Call, out: &[u8]) -> Turned {
+fn line(rt: &impl Print, call: Call, out: &[u8]) -> io::Result<Turned> {
     let answer = call.answer;
     let state = call.state;
-    text(b"feed");
-    number(answer.refusal as u64);
-    number(answer.place as u64);
-    number(call.taken as u64);
-    number(call.written as u64);
-    elements(out, call.written);
-    text(b"\n");
+    text(rt, b"feed")?;
+    number(rt, answer.refusal as u64)?;
+    number(rt, answer.place as u64)?;
+    number(rt, call.taken as u64)?;
+    number(rt, call.written as u64)?;
+    elements(rt, out, call.written)?;
+    text(rt, b"\n")?;
     let some = call.taken != 0 || call.written != 0;
-    Turned {
+    Ok(Turned {
         state,
         taken: call.taken,
         goes_on: some && answer.refusal == 0,
-    }
+    })
 }
 
-fn no_room(state: State, input: &[u8]) -> Turned {
+fn no_room(rt: &impl Print, state: State, input: &[u8]) -> io::Result<Turned> {
     let mut out = [0u8; 7];
     let call = cases::feed(state, input, &mut out);
-    line(call, &out)
+    line(rt, call, &out)
 }
 
-fn one_element(state: State, input: &[u8]) -> Turned {
+fn one_element(rt: &impl Print, state: State, input: &[u8]) -> io::Result<Turned> {
     let mut out = [0u8; 8];
     let call = cases::feed(state, input, &mut out);
-    line(call, &out)
+    line(rt, call, &out)
 }
 
-fn eight_elements(state: State, input: &[u8]) -> Turned {
+fn eight_elements(rt: &impl Print, state: State, input: &[u8]) -> io::Result<Turned> {
     let mut out = [0u8; 64];
     let call = cases::feed(state, input, &mut out);
-    line(call, &out)
+    line(rt, call, &out)
 }
 
-fn turn(state: State, input: &[u8], room: usize) -> Turned {
+fn turn(rt: &impl Print, state: State, input: &[u8], room: usize) -> io::Result<Turned> {
     if room == 0 {
-        no_room(state, input)
+        no_room(rt, state, input)
     } else if room == 1 {
-        one_element(state, input)
+        one_element(rt, state, input)
     } else {
-        eight_elements(state, input)
+        eight_elements(rt, state, input)
     }
 }
 
@@ -97,51 +97,56 @@ fn past(s: &[u8], at: usize, taken: usize) -> usize {
     at + at_most(taken, left(s, at))
 }
 
-fn ended(state: State) {
+fn ended(rt: &impl Print, state: State) -> io::Result<()> {
     let end = cases::finish(state);
-    text(b"end");
-    number(end.refusal as u64);
-    number(end.place as u64);
-    text(b"\n");
+    text(rt, b"end")?;
+    number(rt, end.refusal as u64)?;
+    number(rt, end.place as u64)?;
+    text(rt, b"\n")
 }
 
 // Calls until one takes and writes nothing, at most 512, and the end.
-fn calls(state: State, stream: &[u8], cut: usize, room: usize) {
+fn calls(rt: &impl Print, state: State, stream: &[u8], cut: usize, room: usize) -> io::Result<()> {
     let mut state = state;
     let mut at: usize = 0;
-    let mut k: usize = 512;
-    while 0 < k {
+    for _ in 0..512 {
         let offered = at_most(cut, left(stream, at));
-        let t = turn(state, layout::slice::part(stream, at, offered), room);
+        let t = turn(rt, state, layout::slice::part(stream, at, offered), room)?;
         state = t.state;
         at = past(stream, at, t.taken);
-        k -= 1;
         if !t.goes_on {
-            ended(state);
-            return;
+            return ended(rt, state);
         }
     }
-    ended(state);
+    ended(rt, state)
 }
 
-fn stream(kinds: &[u8], bias: u64, cut: u64, room: u64, s: &[u8]) {
+fn stream(
+    rt: &impl Print,
+    kinds: &[u8],
+    bias: u64,
+    cut: u64,
+    room: u64,
+    s: &[u8],
+) -> io::Result<()> {
     let started = cases::start(kinds, at_most(bias as usize, 65535) as u32);
     let answer = started.answer;
-    text(b"start");
-    number(answer.refusal as u64);
-    number(answer.place as u64);
-    text(b"\n");
+    text(rt, b"start")?;
+    number(rt, answer.refusal as u64)?;
+    number(rt, answer.place as u64)?;
+    text(rt, b"\n")?;
     if answer.refusal == 0 {
         let state = started.state;
-        calls(state, s, cut as usize, room as usize);
+        calls(rt, state, s, cut as usize, room as usize)?;
     }
+    Ok(())
 }
 
 // The stream that starts at a place, and where the next starts.
-fn one(s: &[u8], at: usize) -> usize {
+fn one(rt: &impl Print, s: &[u8], at: usize) -> io::Result<usize> {
     let kinds = part(s, Step::Next(at), LITTLE, 1);
     let Span::Of(_, after) = kinds else {
-        return s.len();
+        return Ok(s.len());
     };
     let st = Step::Next(after);
     let bias = peek(s, st, LITTLE, 2);
@@ -151,29 +156,28 @@ fn one(s: &[u8], at: usize) -> usize {
     let room = peek(s, st, LITTLE, 1);
     let st = any(s, st, 1);
     let data = part(s, st, LITTLE, 2);
-    stream(bytes(s, kinds), bias, cut, room, bytes(s, data));
+    stream(rt, bytes(s, kinds), bias, cut, room, bytes(s, data))?;
     match data {
-        Span::Of(_, end) => end,
-        Span::Refused(_, _) => s.len(),
+        Span::Of(_, end) => Ok(end),
+        Span::Refused(_, _) => Ok(s.len()),
     }
 }
 
 // At most 4,096 of them.
-fn lines(s: &[u8]) {
+fn lines(rt: &impl Print, s: &[u8]) -> io::Result<()> {
     let mut at = 0;
-    let mut left: usize = 4096;
-    while 0 < left {
+    for _ in 0..4096 {
         if s.len() <= at {
-            return;
+            return Ok(());
         }
-        at = one(s, at);
-        left -= 1;
+        at = one(rt, s, at)?;
     }
+    Ok(())
 }
 
-fn main() {
-    let mut buf = io::large_buffer();
-    let got = input::read(STDIN_FILENO, &mut buf);
+fn main(rt: HostRuntime) -> io::Result<()> {
+    let mut buf = [0u8; input::LARGE];
+    let got = input::read(&mut rt.stdin(), &mut buf)?;
     let n = got.bytes;
-    lines(&buf[..n]);
+    lines(&rt, &buf[..n])
 }

@@ -3,10 +3,10 @@
 #![tactic(auto)]
 
 use codepages::{Answer, from_utf8, to_utf8};
-use libc::STDOUT_FILENO;
+use std::io;
 
-fn text(s: &[u8]) {
-    io::write_all(STDOUT_FILENO, s);
+fn text(rt: &impl Print, s: &[u8]) -> io::Result<()> {
+    rt.write_all(s)
 }
 
 fn wide(x: u8) -> u32 {
@@ -14,12 +14,12 @@ fn wide(x: u8) -> u32 {
 }
 
 // A digit of base 16.
-fn digit(n: u32) {
+fn digit(rt: &impl Print, n: u32) -> io::Result<()> {
     let d = n % 16;
     if d < 10 {
-        text(&[(48 + d) as u8]);
+        text(rt, &[(48 + d) as u8])
     } else {
-        text(&[(55 + d) as u8]);
+        text(rt, &[(55 + d) as u8])
     }
 }
 
@@ -51,87 +51,80 @@ fn back(page: u32, out: &[u8], n: usize, byte: u8) -> bool {
 }
 
 // A byte of the upper half, and its code point.
-fn upper(byte: u8, a: Answer, c: u32) {
-    digit(wide(byte) / 16);
-    digit(wide(byte));
-    text(b" ");
+fn upper(rt: &impl Print, byte: u8, a: Answer, c: u32) -> io::Result<()> {
+    digit(rt, wide(byte) / 16)?;
+    digit(rt, wide(byte))?;
+    text(rt, b" ")?;
     if a.refusal == 25 {
-        text(b"-\n");
+        text(rt, b"-\n")
     } else {
-        digit(c / 4096);
-        digit(c / 256);
-        digit(c / 16);
-        digit(c);
-        text(b"\n");
+        digit(rt, c / 4096)?;
+        digit(rt, c / 256)?;
+        digit(rt, c / 16)?;
+        digit(rt, c)?;
+        text(rt, b"\n")
     }
 }
 
-fn one(page: u32, byte: u8) {
+fn one(rt: &impl Print, page: u32, byte: u8) -> io::Result<()> {
     let mut out = [0u8; 4];
     let a = to_utf8(page, &[byte], &mut out);
     let c = code_point(&out, a.length);
     if byte < 128 {
         if c == wide(byte) {} else {
-            upper(byte, a, c);
+            upper(rt, byte, a, c)?;
         }
     } else {
-        upper(byte, a, c);
+        upper(rt, byte, a, c)?;
     }
     if a.refusal == 0 {
         if back(page, &out, a.length, byte) {} else {
-            text(b"not back\n");
+            text(rt, b"not back\n")?;
         }
     }
+    Ok(())
 }
 
-fn page(number: u32) {
-    io::print_decimal(STDOUT_FILENO, number as u64);
-    text(b"\n");
-    let mut byte: u32 = 0;
-    while byte < 256 {
-        one(number, byte as u8);
-        byte += 1;
+fn page(rt: &impl Print, number: u32) -> io::Result<()> {
+    println!(rt; "{number}")?;
+    for byte in 0..=u8::MAX {
+        one(rt, number, byte)?;
     }
+    Ok(())
 }
 
-fn answer(a: Answer) {
-    text(b"refused ");
-    io::print_decimal(STDOUT_FILENO, a.refusal as u64);
-    text(b" at ");
-    io::print_decimal(STDOUT_FILENO, a.place as u64);
-    text(b", length ");
-    io::print_decimal(STDOUT_FILENO, a.length as u64);
-    text(b"\n");
+fn answer(rt: &impl Print, a: Answer) -> io::Result<()> {
+    println!(rt; "refused {} at {}, length {}", a.refusal, a.place, a.length)
 }
 
 // To windows-1252.
-fn to_1252(s: &[u8]) {
+fn to_1252(rt: &impl Print, s: &[u8]) -> io::Result<()> {
     let mut out = [0u8; 4];
-    answer(from_utf8(1252, s, &mut out));
+    answer(rt, from_utf8(1252, s, &mut out))
 }
 
-fn main() {
-    page(1250);
-    page(1251);
-    page(1252);
+fn main(rt: HostRuntime) -> io::Result<()> {
+    page(&rt, 1250)?;
+    page(&rt, 1251)?;
+    page(&rt, 1252)?;
     let mut out = [0u8; 1];
     // unknown pages; a byte without an entry, before an output that is too short; too short an output
-    answer(to_utf8(1249, &[129], &mut out));
-    answer(from_utf8(1253, &[129], &mut out));
-    answer(to_utf8(1252, &[233, 233, 129], &mut out));
-    answer(to_utf8(1252, &[233], &mut out));
-    answer(from_utf8(1251, &[65, 65], &mut out));
+    answer(&rt, to_utf8(1249, &[129], &mut out))?;
+    answer(&rt, from_utf8(1253, &[129], &mut out))?;
+    answer(&rt, to_utf8(1252, &[233, 233, 129], &mut out))?;
+    answer(&rt, to_utf8(1252, &[233], &mut out))?;
+    answer(&rt, from_utf8(1251, &[65, 65], &mut out))?;
     // `C4 41`, cut at the end, overlong forms, a surrogate, above 10FFFF, of no page, no lead byte, a stray continuation byte
-    to_1252(&[65, 196, 65]);
-    to_1252(&[65, 226, 130]);
-    to_1252(&[192, 175]);
-    to_1252(&[193, 129]);
-    to_1252(&[224, 128, 175]);
-    to_1252(&[240, 128, 128, 175]);
-    to_1252(&[237, 160, 128]);
-    to_1252(&[244, 144, 128, 128]);
-    to_1252(&[65, 240, 159, 152, 128]);
-    to_1252(&[65, 255]);
-    to_1252(&[195, 169, 128]);
-    to_1252(&[195, 169, 226, 130, 172]);
+    to_1252(&rt, &[65, 196, 65])?;
+    to_1252(&rt, &[65, 226, 130])?;
+    to_1252(&rt, &[192, 175])?;
+    to_1252(&rt, &[193, 129])?;
+    to_1252(&rt, &[224, 128, 175])?;
+    to_1252(&rt, &[240, 128, 128, 175])?;
+    to_1252(&rt, &[237, 160, 128])?;
+    to_1252(&rt, &[244, 144, 128, 128])?;
+    to_1252(&rt, &[65, 240, 159, 152, 128])?;
+    to_1252(&rt, &[65, 255])?;
+    to_1252(&rt, &[195, 169, 128])?;
+    to_1252(&rt, &[195, 169, 226, 130, 172])
 }

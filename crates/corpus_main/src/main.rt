@@ -4,49 +4,52 @@
 
 mod places;
 
-use libc::STDOUT_FILENO;
 use report::LINE_BYTES;
+use std::env::FillError;
+use std::io;
+use std::rt::{Env, Files};
 
-fn named(name: &[u8], sections: bool) {
-    let mut buf = io::large_buffer();
-    let got = input::read_file(name, &mut buf);
+fn named(rt: &(impl Files + Print + Eprint), name: &[u8], sections: bool) -> io::Result<()> {
+    let mut buf = [0u8; input::LARGE];
+    let got = input::read_file(rt, name, &mut buf)?;
     if !got.found {
-        return;
+        return Ok(());
     }
-    io::write_all(STDOUT_FILENO, name);
+    rt.write_all(name)?;
     let n = got.bytes;
     if sections {
-        places::line(&buf[..n]);
-        return;
+        return places::line(rt, &buf[..n]);
     }
-    io::write_all(STDOUT_FILENO, b" ");
+    rt.write_all(b" ")?;
     let mut out = [0u8; LINE_BYTES];
     if got.more {
         let k = report::refusal(1, 0, &mut out);
-        io::write_all(STDOUT_FILENO, &out[..k]);
-        return;
+        return rt.write_all(&out[..k]);
     }
     let k = report::member_line(&buf[..n], &mut out);
-    io::write_all(STDOUT_FILENO, &out[..k]);
+    rt.write_all(&out[..k])
 }
 
 // The argument, and whether sections are asked for after it.
-fn argument(i: usize, sections: bool) -> bool {
-    let mut name = io::buffer();
-    let n = os::arg(i, &mut name);
-    if check::same(&name[..n], b"--sections") {
-        return true;
+fn argument(rt: &(impl Files + Print + Eprint), name: &[u8], sections: bool) -> io::Result<bool> {
+    if matches!(name, b"--sections") {
+        return Ok(true);
     }
-    named(&name[..n], sections);
-    sections
+    named(rt, name, sections)?;
+    Ok(sections)
 }
 
-fn main() {
-    let n = os::arg_count();
+fn main(rt: HostRuntime) -> io::Result<()> {
     let mut sections = false;
-    let mut i = 1;
-    while i < n {
-        sections = argument(i, sections);
-        i += 1;
+    for i in 1..usize::MAX {
+        let mut name = [0u8; input::SMALL];
+        let n = match rt.arg(i, &mut name) {
+            Ok(n) => n,
+            // one that is too long names no file
+            Err(FillError::TooLong) => 0,
+            Err(FillError::NotPresent) => break,
+        };
+        sections = argument(&rt, &name[..n], sections)?;
     }
+    Ok(())
 }

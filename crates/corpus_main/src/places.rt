@@ -1,64 +1,64 @@
 // The place after each section of a member from Header to Formats, or the refusal of the first section that is refused.
 use layout::number::peek;
 use layout::{LITTLE, Step};
-use libc::STDOUT_FILENO;
 use report::LINE_BYTES;
+use std::io;
 
 // The place, or the refusal and the end of the line; and whether to go on.
-fn told(st: Step) -> bool {
+fn told(rt: &impl Print, st: Step) -> io::Result<bool> {
     match st {
         Step::Next(at) => {
-            io::write_all(STDOUT_FILENO, b" ");
-            io::print_decimal(STDOUT_FILENO, at as u64);
-            true
+            print!(rt; " {at}")?;
+            Ok(true)
         }
         Step::Refused(number, place) => {
-            io::write_all(STDOUT_FILENO, b" ");
+            rt.write_all(b" ")?;
             let mut out = [0u8; LINE_BYTES];
             let k = report::refusal(number, place, &mut out);
-            io::write_all(STDOUT_FILENO, &out[..k]);
-            false
+            rt.write_all(&out[..k])?;
+            Ok(false)
         }
     }
 }
 
 // Areas and what comes after them.
-fn later(s: &[u8], st: Step, version: u64) {
+fn later(rt: &impl Print, s: &[u8], st: Step, version: u64) -> io::Result<()> {
     let st = sections::areas::areas(s, st, version);
-    if !told(st) {
-        return;
+    if !told(rt, st)? {
+        return Ok(());
     }
     let st = sections::borders::borders(s, st);
-    if !told(st) {
-        return;
+    if !told(rt, st)? {
+        return Ok(());
     }
     let st = sections::print_settings::print_settings(s, st);
-    if !told(st) {
-        return;
+    if !told(rt, st)? {
+        return Ok(());
     }
     let st = sections::table_settings::table_settings(s, st, version);
-    if !told(st) {
-        return;
+    if !told(rt, st)? {
+        return Ok(());
     }
-    if told(sections::formats::formats(s, st, version)) {
-        io::write_all(STDOUT_FILENO, b"\n");
+    if told(rt, sections::formats::formats(s, st, version))? {
+        rt.write_all(b"\n")?;
     }
+    Ok(())
 }
 
-pub(crate) fn line(s: &[u8]) {
+pub(crate) fn line(rt: &impl Print, s: &[u8]) -> io::Result<()> {
     let st = sections::header::start(s, Step::Next(0));
     let version = peek(s, st, LITTLE, 4);
     let st = sections::header::rest(s, sections::header::version(s, st));
-    if !told(st) {
-        return;
+    if !told(rt, st)? {
+        return Ok(());
     }
     let st = sections::titles::titles(s, st, version);
-    if !told(st) {
-        return;
+    if !told(rt, st)? {
+        return Ok(());
     }
     let st = sections::footnotes::footnotes(s, st, version);
-    if !told(st) {
-        return;
+    if !told(rt, st)? {
+        return Ok(());
     }
-    later(s, st, version);
+    later(rt, s, st, version)
 }

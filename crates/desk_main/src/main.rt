@@ -2,72 +2,69 @@
 // the node after it and all that is below it, the length of its name and the name's bytes in hexadecimal.
 #![tactic(auto)]
 
-use libc::{STDIN_FILENO, STDOUT_FILENO};
 use report::LINE_BYTES;
 use sizes::{CELL_AREA, NODE_AREA};
+use std::io;
 
-fn text(s: &[u8]) {
-    io::write_all(STDOUT_FILENO, s);
+fn text(rt: &impl Print, s: &[u8]) -> io::Result<()> {
+    rt.write_all(s)
 }
 
-fn number(n: usize) {
-    io::print_decimal(STDOUT_FILENO, n as u64);
+fn number(rt: &impl Print, n: usize) -> io::Result<()> {
+    print!(rt; "{n}")
 }
 
-fn byte(b: u8) {
-    text(b" ");
-    io::print_hex(STDOUT_FILENO, b as u64, 2);
+fn byte(rt: &impl Print, b: u8) -> io::Result<()> {
+    print!(rt; " {b:02x}")
 }
 
-fn bytes(s: &[u8]) {
-    let mut i = 0;
-    while i < s.len() {
-        byte(s[i]);
-        i += 1;
+fn bytes(rt: &impl Print, s: &[u8]) -> io::Result<()> {
+    for b in s {
+        byte(rt, *b)?;
     }
+    Ok(())
 }
 
-fn line(i: usize, after: usize, name: &[u8]) {
-    text(b"name ");
-    number(i);
-    text(b" ");
-    number(after);
-    text(b" ");
-    number(name.len());
-    bytes(name);
-    text(b"\n");
+fn line(rt: &impl Print, i: usize, after: usize, name: &[u8]) -> io::Result<()> {
+    text(rt, b"name ")?;
+    number(rt, i)?;
+    text(rt, b" ")?;
+    number(rt, after)?;
+    text(rt, b" ")?;
+    number(rt, name.len())?;
+    bytes(rt, name)?;
+    text(rt, b"\n")
 }
 
-fn names(s: &[u8], nodes: &[u32], count: usize) {
-    let mut i = 0;
-    while i < count {
+fn names(rt: &impl Print, s: &[u8], nodes: &[u32], count: usize) -> io::Result<()> {
+    for i in 0..count {
         let after = desk::node_after(nodes, count, i);
-        line(i, after, desk::node_name(s, nodes, count, i));
-        i += 1;
+        line(rt, i, after, desk::node_name(s, nodes, count, i))?;
     }
+    Ok(())
 }
 
-fn answer(s: &[u8]) {
+fn answer(rt: &impl Print, s: &[u8]) -> io::Result<()> {
     let mut nodes = [0u32; NODE_AREA];
     let mut cells = [0u32; CELL_AREA];
     let a = member::read_member(s, &mut nodes, &mut cells);
     let mut out = [0u8; LINE_BYTES];
     let k = report::line(a, &mut out);
-    text(&out[..k]);
+    text(rt, &out[..k])?;
     if a.refusal == 0 {
-        names(s, &nodes, a.nodes as usize);
+        names(rt, s, &nodes, a.nodes as usize)?;
     }
+    Ok(())
 }
 
-fn main() {
-    let mut buf = io::large_buffer();
-    let got = input::read(STDIN_FILENO, &mut buf);
+fn main(rt: HostRuntime) -> io::Result<()> {
+    let mut buf = [0u8; input::LARGE];
+    let got = input::read(&mut rt.stdin(), &mut buf)?;
     if got.more {
         let mut out = [0u8; LINE_BYTES];
         let k = report::refusal(1, 0, &mut out);
-        text(&out[..k]);
-        return;
+        return text(&rt, &out[..k]);
     }
     let n = got.bytes;
-    answer(&buf[..n]);
+    answer(&rt, &buf[..n])
 }

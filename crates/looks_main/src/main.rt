@@ -4,47 +4,46 @@
 #![tactic(auto)]
 
 use layout::Span;
-use libc::STDOUT_FILENO;
 use look::{Answer, Continuation, Look, V2Styles};
 use regions::region::bytes;
 use sizes::LONGEST_LOOK;
+use std::env::FillError;
+use std::io;
+use std::rt::{Env, Files};
 use store::Written;
 
 // The shortest look that is written, of version 02 with empty names.
 const SHORTEST_LOOK: usize = 713;
 
-fn text(s: &[u8]) {
-    io::write_all(STDOUT_FILENO, s);
+fn text(rt: &impl Print, s: &[u8]) -> io::Result<()> {
+    rt.write_all(s)
 }
 
-fn number(n: u64) {
-    io::print_decimal(STDOUT_FILENO, n);
+fn number(rt: &impl Print, n: u64) -> io::Result<()> {
+    print!(rt; "{n}")
 }
 
-fn refused(n: u32, p: usize) {
-    text(b"refused ");
-    number(n as u64);
-    text(b" at ");
-    number(p as u64);
+fn refused(rt: &impl Print, n: u32, p: usize) -> io::Result<()> {
+    print!(rt; "refused {n} at {p}")
 }
 
-fn answer(w: Written) {
+fn answer(rt: &impl Print, w: Written) -> io::Result<()> {
     match w {
-        Written::Length(n) => number(n as u64),
-        Written::Refused(n, p) => refused(n, p),
+        Written::Length(n) => number(rt, n as u64),
+        Written::Refused(n, p) => refused(rt, n, p),
     }
 }
 
 // What the writer answers for the look as that version.
-fn as_version(look: Look, version: u8, file: &[u8]) {
+fn as_version(rt: &impl Print, look: Look, version: u8, file: &[u8]) -> io::Result<()> {
     let mut other = look;
     other.version = version;
     let mut out = [0u8; LONGEST_LOOK];
-    answer(look_write::write_look(other, file, &mut out));
+    answer(rt, look_write::write_look(other, file, &mut out))
 }
 
 // What it answers for the look with the default continuation.
-fn with_default(look: Look, file: &[u8]) {
+fn with_default(rt: &impl Print, look: Look, file: &[u8]) -> io::Result<()> {
     let v2 = look.v2;
     let frames = v2.frames;
     let with = V2Styles {
@@ -58,11 +57,11 @@ fn with_default(look: Look, file: &[u8]) {
     let mut other = look;
     other.v2 = with;
     let mut out = [0u8; LONGEST_LOOK];
-    answer(look_write::write_look(other, file, &mut out));
+    answer(rt, look_write::write_look(other, file, &mut out))
 }
 
 // What it answers for the look with another length of the title's font name.
-fn with_name(look: Look, length: usize, file: &[u8]) {
+fn with_name(rt: &impl Print, look: Look, length: usize, file: &[u8]) -> io::Result<()> {
     let mut name = look.title.style.typeface.font_name;
     name.length = length;
     let mut typeface = look.title.style.typeface;
@@ -74,11 +73,11 @@ fn with_name(look: Look, length: usize, file: &[u8]) {
     let mut other = look;
     other.title = title;
     let mut out = [0u8; LONGEST_LOOK];
-    answer(look_write::write_look(other, file, &mut out));
+    answer(rt, look_write::write_look(other, file, &mut out))
 }
 
 // What it answers for the look with another first color of the title.
-fn with_color(look: Look, color: u32, file: &[u8]) {
+fn with_color(rt: &impl Print, look: Look, color: u32, file: &[u8]) -> io::Result<()> {
     let mut area = look.title.color;
     area.color10 = color;
     let mut title = look.title;
@@ -86,109 +85,108 @@ fn with_color(look: Look, color: u32, file: &[u8]) {
     let mut other = look;
     other.title = title;
     let mut out = [0u8; LONGEST_LOOK];
-    answer(look_write::write_look(other, file, &mut out));
+    answer(rt, look_write::write_look(other, file, &mut out))
 }
 
 // What it answers for an output of one byte less than the shortest look has.
-fn short(look: Look, file: &[u8]) {
+fn short(rt: &impl Print, look: Look, file: &[u8]) -> io::Result<()> {
     let mut out = [0u8; SHORTEST_LOOK - 1];
-    answer(look_write::write_look(look, file, &mut out));
+    answer(rt, look_write::write_look(look, file, &mut out))
 }
 
 fn rewritten(look: Look, file: &[u8]) -> bool {
     let mut out = [0u8; LONGEST_LOOK];
     let written = look_write::write_look(look, file, &mut out);
     match written {
-        Written::Length(n) => check::same(bytes(&out, Span::Of(0, n)), file),
+        Written::Length(n) => bytes(&out, Span::Of(0, n)) == file,
         Written::Refused(_, _) => false,
     }
 }
 
 // How the file that was written is rewritten itself.
-fn again(file: &[u8]) {
+fn again(rt: &impl Print, file: &[u8]) -> io::Result<()> {
     let read = look::read::read_look(file);
     match read {
         Answer::Accepted(look) => {
             if rewritten(look, file) {
-                text(b"the same");
+                text(rt, b"the same")
             } else {
-                text(b"differently");
+                text(rt, b"differently")
             }
         }
-        Answer::Refused(n, p) => refused(n, p),
+        Answer::Refused(n, p) => refused(rt, n, p),
     }
 }
 
 // A file that isn't rewritten the same: of version 00.
-fn as_version_02(look: Look, file: &[u8]) {
+fn as_version_02(rt: &impl Print, look: Look, file: &[u8]) -> io::Result<()> {
     let mut out = [0u8; LONGEST_LOOK];
     let written = look_write::write_look(look, file, &mut out);
     match written {
         Written::Length(n) => {
-            text(b"as version 02, ");
-            number(n as u64);
-            text(b" bytes, and that ");
-            again(bytes(&out, Span::Of(0, n)));
+            print!(rt; "as version 02, {n} bytes, and that ")?;
+            again(rt, bytes(&out, Span::Of(0, n)))
         }
-        Written::Refused(n, p) => refused(n, p),
+        Written::Refused(n, p) => refused(rt, n, p),
     }
 }
 
-fn accepted(look: Look, file: &[u8]) {
-    text(b"accepted, ");
-    number(file.len() as u64);
-    text(b" bytes, rewritten ");
+fn accepted(rt: &impl Print, look: Look, file: &[u8]) -> io::Result<()> {
+    print!(rt; "accepted, {} bytes, rewritten ", file.len())?;
     if rewritten(look, file) {
-        text(b"the same");
+        text(rt, b"the same")?;
     } else {
-        as_version_02(look, file);
+        as_version_02(rt, look, file)?;
     }
-    text(b"; too short an output: ");
-    short(look, file);
+    text(rt, b"; too short an output: ")?;
+    short(rt, look, file)?;
     let mut out = [0u8; LONGEST_LOOK];
-    text(b"; no names: ");
-    answer(look_write::write_look(look, b"", &mut out));
-    text(b"; the default continuation: ");
-    with_default(look, file);
-    text(b"; version 00: ");
-    as_version(look, 0, file);
-    text(b"; version 01: ");
-    as_version(look, 1, file);
-    text(b"; a name of 256 bytes: ");
-    with_name(look, 256, file);
-    text(b"; a color of 01000000: ");
-    with_color(look, 0x01000000, file);
+    text(rt, b"; no names: ")?;
+    answer(rt, look_write::write_look(look, b"", &mut out))?;
+    text(rt, b"; the default continuation: ")?;
+    with_default(rt, look, file)?;
+    text(rt, b"; version 00: ")?;
+    as_version(rt, look, 0, file)?;
+    text(rt, b"; version 01: ")?;
+    as_version(rt, look, 1, file)?;
+    text(rt, b"; a name of 256 bytes: ")?;
+    with_name(rt, look, 256, file)?;
+    text(rt, b"; a color of 01000000: ")?;
+    with_color(rt, look, 0x01000000, file)
 }
 
-fn report(file: &[u8]) {
+fn report(rt: &impl Print, file: &[u8]) -> io::Result<()> {
     let read = look::read::read_look(file);
     match read {
-        Answer::Accepted(look) => accepted(look, file),
-        Answer::Refused(n, p) => refused(n, p),
+        Answer::Accepted(look) => accepted(rt, look, file)?,
+        Answer::Refused(n, p) => refused(rt, n, p)?,
     }
-    text(b"\n");
+    text(rt, b"\n")
 }
 
 // The file that an argument names.
-fn one(i: usize) {
-    let mut path = io::buffer();
-    let length = os::arg(i, &mut path);
-    let mut buf = io::buffer();
-    let got = input::read_file(&path[..length], &mut buf);
+fn one(rt: &(impl Files + Print + Eprint), path: &[u8]) -> io::Result<()> {
+    let mut buf = [0u8; input::SMALL];
+    let got = input::read_file(rt, path, &mut buf)?;
     if !got.found {
-        return;
+        return Ok(());
     }
-    text(&path[..length]);
-    text(b": ");
+    text(rt, path)?;
+    text(rt, b": ")?;
     let n = got.bytes;
-    report(&buf[..n]);
+    report(rt, &buf[..n])
 }
 
-fn main() {
-    let n = os::arg_count();
-    let mut i = 1;
-    while i < n {
-        one(i);
-        i += 1;
+fn main(rt: HostRuntime) -> io::Result<()> {
+    for i in 1..usize::MAX {
+        let mut path = [0u8; input::SMALL];
+        let length = match rt.arg(i, &mut path) {
+            Ok(length) => length,
+            // one that is too long names no file
+            Err(FillError::TooLong) => 0,
+            Err(FillError::NotPresent) => break,
+        };
+        one(&rt, &path[..length])?;
     }
+    Ok(())
 }

@@ -1,19 +1,18 @@
 // Document 01's test program: one member of at most 65,536 bytes on standard input, one line on standard output.
 #![tactic(auto)]
 
-use libc::{STDIN_FILENO, STDOUT_FILENO};
 use report::LINE_BYTES;
+use std::io;
 
-fn main() {
-    let mut buf = io::large_buffer();
-    let got = input::read(STDIN_FILENO, &mut buf);
+fn main(rt: HostRuntime) -> io::Result<()> {
+    let mut buf = [0u8; input::LARGE];
+    let got = input::read(&mut rt.stdin(), &mut buf)?;
     let mut out = [0u8; LINE_BYTES];
     if got.more {
         let k = report::refusal(1, 0, &mut out);
-        io::write_all(STDOUT_FILENO, &out[..k]);
-        return;
+        return rt.write_all(&out[..k]);
     }
     let n = got.bytes;
     let k = report::member_line(&buf[..n], &mut out);
-    io::write_all(STDOUT_FILENO, &out[..k]);
+    rt.write_all(&out[..k])
 }

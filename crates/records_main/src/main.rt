@@ -1,33 +1,33 @@
 // One member of at most 65,536 bytes on standard input; the test program's line and, if it is accepted, its records.
 #![tactic(auto)]
 
-use libc::{STDIN_FILENO, STDOUT_FILENO};
 use report::{LINE_BYTES, RECORDS_BYTES};
 use sizes::{CELL_AREA, NODE_AREA};
+use std::io;
 
-fn answer(s: &[u8]) {
+fn answer(rt: &impl Print, s: &[u8]) -> io::Result<()> {
     let mut nodes = [0u32; NODE_AREA];
     let mut cells = [0u32; CELL_AREA];
     let a = member::read_member(s, &mut nodes, &mut cells);
     let mut out = [0u8; LINE_BYTES];
     let k = report::line(a, &mut out);
-    io::write_all(STDOUT_FILENO, &out[..k]);
+    rt.write_all(&out[..k])?;
     if a.refusal == 0 {
         let mut out = [0u8; RECORDS_BYTES];
         let k = report::records(a, &nodes, &cells, &mut out);
-        io::write_all(STDOUT_FILENO, &out[..k]);
+        rt.write_all(&out[..k])?;
     }
+    Ok(())
 }
 
-fn main() {
-    let mut buf = io::large_buffer();
-    let got = input::read(STDIN_FILENO, &mut buf);
+fn main(rt: HostRuntime) -> io::Result<()> {
+    let mut buf = [0u8; input::LARGE];
+    let got = input::read(&mut rt.stdin(), &mut buf)?;
     if got.more {
         let mut out = [0u8; LINE_BYTES];
         let k = report::refusal(1, 0, &mut out);
-        io::write_all(STDOUT_FILENO, &out[..k]);
-        return;
+        return rt.write_all(&out[..k]);
     }
     let n = got.bytes;
-    answer(&buf[..n]);
+    answer(&rt, &buf[..n])
 }

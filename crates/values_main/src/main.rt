@@ -6,109 +6,107 @@
 use contents::{Contents, RawValue};
 use layout::number::{any, peek};
 use layout::{LITTLE, Span, Step};
-use libc::{STDIN_FILENO, STDOUT_FILENO};
 use regions::region::{bytes, part};
+use std::io;
 use store::Name;
 
-fn text(s: &[u8]) {
-    io::write_all(STDOUT_FILENO, s);
+fn text(rt: &impl Print, s: &[u8]) -> io::Result<()> {
+    rt.write_all(s)
 }
 
-fn number(n: u64) {
-    text(b" ");
-    io::print_decimal(STDOUT_FILENO, n);
+fn number(rt: &impl Print, n: u64) -> io::Result<()> {
+    print!(rt; " {n}")
 }
 
-fn name(n: Name) {
-    number(n.place as u64);
-    number(n.length as u64);
+fn name(rt: &impl Print, n: Name) -> io::Result<()> {
+    number(rt, n.place as u64)?;
+    number(rt, n.length as u64)
 }
 
-fn numbers(x: RawValue) {
-    number(x.form as u64);
-    number(x.format as u64);
-    number(x.bits);
-    number(x.show as u64);
-    number(x.fixed as u64);
+fn numbers(rt: &impl Print, x: RawValue) -> io::Result<()> {
+    number(rt, x.form as u64)?;
+    number(rt, x.format as u64)?;
+    number(rt, x.bits)?;
+    number(rt, x.show as u64)?;
+    number(rt, x.fixed as u64)
 }
 
-fn names(x: RawValue) {
+fn names(rt: &impl Print, x: RawValue) -> io::Result<()> {
     let text = x.text;
     let var_name = x.var_name;
     let label = x.label;
     let id = x.id;
     let c = x.c;
-    name(text);
-    name(var_name);
-    name(label);
-    name(id);
-    name(c);
+    name(rt, text)?;
+    name(rt, var_name)?;
+    name(rt, label)?;
+    name(rt, id)?;
+    name(rt, c)
 }
 
-fn value(x: Contents) {
+fn value(rt: &impl Print, x: Contents) -> io::Result<()> {
     let raw = x.raw;
-    text(b"value");
-    number(x.refusal as u64);
-    number(x.place as u64);
-    number(x.length as u64);
-    number(x.zeros as u64);
-    numbers(raw);
-    names(raw);
-    number(raw.arguments as u64);
-    number(raw.first_argument as u64);
-    text(b"\n");
+    text(rt, b"value")?;
+    number(rt, x.refusal as u64)?;
+    number(rt, x.place as u64)?;
+    number(rt, x.length as u64)?;
+    number(rt, x.zeros as u64)?;
+    numbers(rt, raw)?;
+    names(rt, raw)?;
+    number(rt, raw.arguments as u64)?;
+    number(rt, raw.first_argument as u64)?;
+    text(rt, b"\n")
 }
 
-fn argument(s: &[u8], version: u64) {
+fn argument(rt: &impl Print, s: &[u8], version: u64) -> io::Result<()> {
     let x = contents::read_argument(s, version);
-    text(b"argument");
-    number(x.refusal as u64);
-    number(x.place as u64);
-    number(x.length as u64);
-    number(x.values as u64);
-    number(x.first as u64);
-    text(b"\n");
+    text(rt, b"argument")?;
+    number(rt, x.refusal as u64)?;
+    number(rt, x.place as u64)?;
+    number(rt, x.length as u64)?;
+    number(rt, x.values as u64)?;
+    number(rt, x.first as u64)?;
+    text(rt, b"\n")
 }
 
-fn line(s: &[u8], version: u64, kind: u64) {
+fn line(rt: &impl Print, s: &[u8], version: u64, kind: u64) -> io::Result<()> {
     if kind == 0 {
-        value(contents::read_value(s, version));
+        value(rt, contents::read_value(s, version))
     } else {
-        argument(s, version);
+        argument(rt, s, version)
     }
 }
 
 // The one that starts at a place, and where the next starts.
-fn one(s: &[u8], at: usize) -> usize {
+fn one(rt: &impl Print, s: &[u8], at: usize) -> io::Result<usize> {
     let st = Step::Next(at);
     let version = peek(s, st, LITTLE, 1);
     let st = any(s, st, 1);
     let kind = peek(s, st, LITTLE, 1);
     let st = any(s, st, 1);
     let p = part(s, st, LITTLE, 2);
-    line(bytes(s, p), version, kind);
+    line(rt, bytes(s, p), version, kind)?;
     match p {
-        Span::Of(_, end) => end,
-        Span::Refused(_, _) => s.len(),
+        Span::Of(_, end) => Ok(end),
+        Span::Refused(_, _) => Ok(s.len()),
     }
 }
 
 // At most 4,096 of them.
-fn lines(s: &[u8]) {
+fn lines(rt: &impl Print, s: &[u8]) -> io::Result<()> {
     let mut at = 0;
-    let mut left: usize = 4096;
-    while 0 < left {
+    for _ in 0..4096 {
         if s.len() <= at {
-            return;
+            return Ok(());
         }
-        at = one(s, at);
-        left -= 1;
+        at = one(rt, s, at)?;
     }
+    Ok(())
 }
 
-fn main() {
-    let mut buf = io::large_buffer();
-    let got = input::read(STDIN_FILENO, &mut buf);
+fn main(rt: HostRuntime) -> io::Result<()> {
+    let mut buf = [0u8; input::LARGE];
+    let got = input::read(&mut rt.stdin(), &mut buf)?;
     let n = got.bytes;
-    lines(&buf[..n]);
+    lines(&rt, &buf[..n])
 }

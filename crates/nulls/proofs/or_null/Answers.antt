@@ -1,4 +1,3 @@
-
 use Rattle.nulls.proofs.or_null.Goals as goal
 
 pub returns-then-found : goal.returns-then-found

@@ -31,7 +31,7 @@ unfolding spec.leaf
 loop-left-preserved c =
     let h : 0 < c.loop-left.left = omega arith in
     elim c.if-word-eq0.branch [
-      then-word-eq0+else-end-x+else-marks-x-ne0 w ↦ (
+      | then-word-eq0+else-end-x+else-marks-x-ne0 w ↦ (
         omega arith,
         rw w.marks-is
             (past_leaf c.loop-left.invariant.1 h (sym c.word.ensures ∙ w.if-word-eq0.true) _ w.word-x.ensures (omega arith) (omega arith) w.if-marks-x-ne0.false),

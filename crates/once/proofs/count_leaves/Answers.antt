@@ -18,12 +18,12 @@ loop-left-preserved c =
     let ws = c.args.nodes.now in
     let h : 0 < c.loop-left.left = omega arith in
     elim c.if-word-eq0.branch [
-      then-word-eq0 w ↦
-        let e = ap length (at_leaf ws c.loop-left.i c.loop-left.left h (sym c.word.ensures ∙ w.if-word-eq0.true)) in
-        (omega arith, omega arith, omega (arith, c.loop-left.invariant.2, e))
+      | then-word-eq0 w ↦
+          let e = ap length (at_leaf ws c.loop-left.i c.loop-left.left h (sym c.word.ensures ∙ w.if-word-eq0.true)) in
+          (omega arith, omega arith, omega (arith, c.loop-left.invariant.2, e))
       | else-word-eq0 w ↦
-        let e = ap length (at_group ws c.loop-left.i c.loop-left.left h (λ z. w.if-word-eq0.false (c.word.ensures ∙ z))) in
-        (omega arith, omega arith, omega (arith, c.loop-left.invariant.2, e))
+          let e = ap length (at_group ws c.loop-left.i c.loop-left.left h (λ z. w.if-word-eq0.false (c.word.ensures ∙ z))) in
+          (omega arith, omega arith, omega (arith, c.loop-left.invariant.2, e))
     ]
 
 pub returns : goal.returns

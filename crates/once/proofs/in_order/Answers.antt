@@ -25,18 +25,18 @@ loop-left-preserved c =
     let ws = c.args.nodes.now in
     let h : 0 < c.loop-left.left = omega arith in
     elim c.if-word-eq0.branch [
-      then-word-eq0+else-x-next w ↦
-        let z = sym c.word.ensures ∙ w.if-word-eq0.true in
-        let e = ap length (at_leaf ws c.loop-left.i c.loop-left.left h z) in (
-          omega arith,
-          omega arith,
-          omega (arith, c.loop-left.invariant.2, e),
-          rw w.next-is (past_leaf c.loop-left.invariant.3 h z (sym w.word-x.ensures ∙ w.if-x-next.false) (omega (arith, c.loop-left.invariant.2, e))),
-        )
+      | then-word-eq0+else-x-next w ↦
+          let z = sym c.word.ensures ∙ w.if-word-eq0.true in
+          let e = ap length (at_leaf ws c.loop-left.i c.loop-left.left h z) in (
+            omega arith,
+            omega arith,
+            omega (arith, c.loop-left.invariant.2, e),
+            rw w.next-is (past_leaf c.loop-left.invariant.3 h z (sym w.word-x.ensures ∙ w.if-x-next.false) (omega (arith, c.loop-left.invariant.2, e))),
+          )
       | else-word-eq0 w ↦
-        let g : spec.word ws (node_words * c.loop-left.i) ≡ 0 → ⊥ = λ z. w.if-word-eq0.false (c.word.ensures ∙ z) in
-        let e = ap length (at_group ws c.loop-left.i c.loop-left.left h g) in
-        (omega arith, omega arith, omega (arith, c.loop-left.invariant.2, e), rw w.next-is (past_group c.loop-left.invariant.3 h g))
+          let g : spec.word ws (node_words * c.loop-left.i) ≡ 0 → ⊥ = λ z. w.if-word-eq0.false (c.word.ensures ∙ z) in
+          let e = ap length (at_group ws c.loop-left.i c.loop-left.left h g) in
+          (omega arith, omega arith, omega (arith, c.loop-left.invariant.2, e), rw w.next-is (past_group c.loop-left.invariant.3 h g))
     ]
 
 pub returns : goal.returns

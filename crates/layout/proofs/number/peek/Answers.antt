@@ -1,4 +1,3 @@
-
 use Rattle.layout.proofs.number.peek.Goals as goal
 
 pub returns : goal.returns

@@ -1,4 +1,3 @@
-
 use Rattle.regions.proofs.region.nothing.Goals as goal
 
 pub returns-in-Next : goal.returns-in-Next

@@ -14,7 +14,7 @@ returns-then-text-buf c =
     let a = c.args in
     let at = c.in-Next.at in
     stores_done a.text.now a.buf.now a.c c.if-good.true-raw c.in-Next.is (omega arith)
-        (put_all a.buf.now at a.text.now c.copy_from_slice.new.self (omega arith) c.copy_from_slice.ensures.after)
+    (put_all a.buf.now at a.text.now c.copy_from_slice.new.self (omega arith) c.copy_from_slice.ensures.after)
 
 pub returns-else-text-buf : goal.returns-else-text-buf
 returns-else-text-buf c = stores_short c.args.text.now c.args.buf.now c.args.c c.if-good.true-raw c.in-Next.is (omega arith)
