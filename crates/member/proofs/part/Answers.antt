@@ -1,0 +1,4 @@
+use Rattle.member.proofs.part.Goals as goal
+
+pub returns : goal.returns
+returns c = c.part.ensures

@@ -1,0 +1,10 @@
+use mathlib.Core.Path.{refl}
+use Rattle.member.specs.Laws.Whole.{none_stored, enough_later}
+use Rattle.grammar.specs.Laws.Member.Checked.{checked}
+use Rattle.member.proofs.read_ready.Goals as goal
+
+pub read_body-requires : goal.read_body-requires
+read_body-requires c = (enough_later c.args.member.now _ c.requires, rw c.in-Of.is at c.opening.ensures)
+
+pub returns-in-Refused : goal.returns-in-Refused
+returns-in-Refused c = rw c.refused.ensures (none_stored (checked c.args.member.now) (rw c.in-Refused.is at c.opening.ensures) refl refl)

@@ -1,0 +1,17 @@
+use Rattle.std.proofs.Common.{eq-eqb, ne_eqb}
+use Rattle.std.proofs.lemmas.Bool.{le-leb, lt-leb}
+use Rattle.sizes.specs.Basics.{pick}
+use Rattle.members.specs.Members.{list_refusal}
+use Rattle.members.proofs.list_refusal.Goals as goal
+
+pub returns-then-even : goal.returns-then-even
+unfolding list_refusal pick
+returns-then-even c = rw (le-leb _ _ c.if-few.true, eq-eqb _ _ c.if-even.true)
+
+pub returns-else-even : goal.returns-else-even
+unfolding list_refusal pick
+returns-else-even c = rw (le-leb _ _ c.if-few.true, ne_eqb _ _ c.if-even.false)
+
+pub returns-else-few : goal.returns-else-few
+unfolding list_refusal pick
+returns-else-few c = rw (lt-leb _ _ c.if-few.false)
