@@ -1,8 +1,8 @@
 -- Calls with areas that are long enough, and calls with one that is too short.
-use mathlib.Core.Path.{◌≡◌, refl, sym, ap, ◌∙◌}
-use mathlib.Core.Bool.{Bool, true, false, not, true≢false}
+use mathlib.Core.Path.{◌≡◌, refl, sym, ◌∙◌}
+use mathlib.Core.Bool.{true, false, not, true≢false}
 use mathlib.Core.List.{List, [], ◌∷◌, ◌++◌}
-use Prim.Native.Nat.{ℕ, ◌≤◌, ◌<◌}
+use Prim.Native.Nat.{ℕ}
 use native.Mathlib.Omega.{arith}
 use lib.ListN.{length, drop}
 use lib.Dec.{eqb, leb}
@@ -16,10 +16,10 @@ use Rattle.store.specs.Laws.Puts.{with_room}
 use Rattle.cases.specs.declared.Started.{Started as Beginning}
 use Rattle.cases.specs.declared.Answer.{Answer}
 use Rattle.cases.specs.declared.Call.{Call}
-use Rattle.cases.specs.Answers.{start_of, call-of, output-of, finish-of, Called}
+use Rattle.cases.specs.Answers.{start_of, finish-of, Called}
 use Rattle.case_state.specs.Laws.Tests.{both}
 use Rattle.cases_words.specs.StateWords.{state_words, state_words_of, state_of}
-use Rattle.cases_words.specs.Calls.{short_answer, call_answer, answer_words_of, call_words, roomy, front, Started, Fed, Ended}
+use Rattle.cases_words.specs.Calls.{short_answer, call_answer, answer_words_of, call_words, roomy, Started, Fed, Ended}
 
 pub state_room : (s a n : ℕ) → roomy s a n ≡ true → leb state_words s ≡ true
 unfolding roomy

@@ -1,7 +1,7 @@
 -- The state of case data as 32-bit words (our rule: the header calls them opaque). 0 number of kinds, 1 bias, 2 position in the case, 3 bytes taken,
 -- 4 phase, 5 place, 6 and 7 codes, 8 how many, 9 and 10 block, 11 how many bytes of it; from 12 on 256 kinds. Two words of one number: the lower
 -- first.
-use Rattle.std.specs.Prelude.{List, [], ◌∷◌, ◌++◌, ℕ, zero, suc, ◌+◌, ◌*◌, ◌/◌, ◌%◌, ◌^◌, min, drop, get_or}
+use Rattle.std.specs.Prelude.{List, [], ◌∷◌, ◌++◌, ℕ, ◌+◌, ◌*◌, ◌/◌, ◌%◌, ◌^◌, min, drop, get_or}
 use Rattle.layout.specs.Words.{word32}
 use Rattle.case_state.specs.declared.Cursor.{Cursor}
 use Rattle.case_state.specs.declared.State.{State}

@@ -1,5 +1,5 @@
 -- T-05's theorem of the functions for other languages, over chains of their calls: each is lent the words that the call before it left.
-use Rattle.std.specs.Prelude.{◌≡◌, refl, Bool, true, false, List, [], ◌++◌, ℕ, ◌-◌, ◌≤◌, eqb, length, take, drop, get_or}
+use Rattle.std.specs.Prelude.{◌≡◌, refl, true, false, List, [], ◌++◌, ℕ, ◌-◌, ◌≤◌, eqb, length, take, drop, get_or}
 use Rattle.std.proofs.Common.{sym, ap, ◌∙◌, arith, length-append, take_at, length-take-le, leb-true}
 use Rattle.std.proofs.lemmas.List.{length-replicate}
 use Rattle.sizes.specs.Basics.{pick}

@@ -2,7 +2,7 @@
 use Rattle.std.specs.Prelude.{◌≡◌, false, List, ℕ, length, leb}
 use Rattle.sizes.specs.Sizes.{member_bytes, below_value}
 use Rattle.sizes.specs.Basics.{among, pick}
-use Rattle.grammar.specs.Layout.{Test, a_version, Layout, Tree}
+use Rattle.grammar.specs.Layout.{a_version, Layout, Tree}
 use Rattle.grammar.specs.Numbers.{refusal}
 use Rattle.grammar.specs.Fails.{Spells, Fails}
 use Rattle.grammar.specs.Sections.{versions}

@@ -1,12 +1,12 @@
 -- The records of a member and what their Values say: for each category node, dimension and cell of a derivation, `read_value` of the part of
 -- the member at the place and of the length in its record answers what the derivation's Value says, and that length.
-use Rattle.std.specs.Prelude.{◌≡◌, Bool, ℕ, zero, suc, ◌+◌, ◌*◌, ◌%◌, ◌≤◌, ◌<◌, take, drop, get_or, eqb}
+use Rattle.std.specs.Prelude.{◌≡◌, Bool, ℕ, zero, suc, ◌+◌, ◌*◌, ◌≤◌, take, drop, get_or, eqb}
 use Rattle.std.proofs.Math.Path.{refl, sym, ap}
 use Rattle.std.proofs.Common.{◌∙◌, add-zero}
 use Rattle.std.proofs.Math.Bool.{true, false}
 use Rattle.std.proofs.lemmas.Bool.{false≢true}
 use Rattle.std.proofs.Math.Option.{some}
-use mathlib.Core.List.{List, [], ◌∷◌, ◌++◌, append-nil}
+use mathlib.Core.List.{List, [], append-nil}
 use native.Mathlib.Omega.{arith}
 use Rattle.std.proofs.Math.ListN.{length, get_elem?, length-drop}
 use Rattle.std.proofs.Math.Seq.{length-take-le}
@@ -14,14 +14,13 @@ use Rattle.std.proofs.Math.Dec.{leb}
 use borrow.Author.Tests.{le-leb, leb-true}
 use Rattle.sizes.specs.Sizes.{member_bytes, node_words, cell_words, dimension_words, name_place, name_length, below_value}
 use Rattle.sizes.specs.Basics.{among, le, pick}
-use Rattle.grammar.specs.Layout.{little, passes, Layout, number, leading, Tree, digits, spell, size, Leads, All, all_none, all_more, Valid}
-use Rattle.grammar.specs.Fails.{Spells}
+use Rattle.grammar.specs.Layout.{passes, Layout, Tree, digits, spell, size, Leads, All, all_none, all_more, Valid}
 use Rattle.grammar.specs.Part.{part_of}
-use Rattle.grammar.specs.Value.{Value, CellValue, RawValueOf, ValueIn, cell_zeros, forms, left_out}
+use Rattle.grammar.specs.Value.{Value, CellValue, RawValueOf, ValueIn, cell_zeros}
 use Rattle.grammar.specs.Sections.{versions}
 use Rattle.grammar.specs.RecordWords.{word}
 use Rattle.grammar.specs.Laws.Table.RecordsPoint.{Points, record_of}
-use Rattle.grammar.specs.Member.{Member, version, node_records, dimension_entries, cell_records, MemberDerivation, node_names, dimension_names, cell_values}
+use Rattle.grammar.specs.Member.{version, node_records, dimension_entries, cell_records, MemberDerivation, node_names, dimension_names, cell_values}
 use Rattle.grammar.specs.Laws.Member.RecordsSpelt.{nodes_point, dimensions_point, values_point, part_of_lem}
 use Rattle.grammar.specs.Laws.Member.ValidValues.{nodes_valid, dimensions_valid, cells_valid}
 use Rattle.contents.specs.declared.Contents.{Contents}

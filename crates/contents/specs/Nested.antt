@@ -1,12 +1,11 @@
 -- Values inside a Value: the arguments of a template stand one after the other from the place that its contents give, and a Value or an Argument
 -- at any depth is read, by `read_value` and `read_argument`, as what the derivation has there.
-use Rattle.std.specs.Prelude.{◌≡◌, List, [], ◌∷◌, ◌++◌, ℕ, suc, ◌+◌, drop}
+use Rattle.std.specs.Prelude.{◌≡◌, List, ◌++◌, ℕ, suc, ◌+◌, drop}
 use Rattle.std.proofs.Math.Path.{refl}
-use Rattle.std.proofs.Common.{sym, ap, ◌∙◌, append_assoc, arith}
+use Rattle.std.proofs.Common.{◌∙◌, append_assoc, arith}
 use Rattle.std.proofs.Math.ListN.{length, length-append}
 use Rattle.sizes.specs.Sizes.{value_depth, below_value}
 use Rattle.grammar.specs.Layout.{little, Layout, Tree, digits, spell_all, spell, Valid}
-use Rattle.grammar.specs.Conventions.{lestring}
 use Rattle.grammar.specs.Fails.{Spells}
 use Rattle.grammar.specs.Laws.Layout.{digits_length}
 use Rattle.grammar.specs.Laws.Layout.Spelt as spelt

@@ -1,5 +1,5 @@
-// The member and its filled node area, kept together (01, "What the caller gets"). The functions over `Desk` are thin and proved by
-// hand; the work is in `filled`, `name_of` and `after_of`, which take slices.
+// The member and its filled node area, kept together (01, "What the caller gets"). The functions over `Desk` are thin; the work is in
+// `filled`, `name_of` and `after_of`, which take slices.
 #![tactic(auto)]
 
 pub mod place; // where a name stands

@@ -42,7 +42,7 @@ listed style width = pick (eqb style 0) (leb width 3) (pick (eqb style 1) (leb w
 -- a border that isn't drawn has no style
 abbrev pub listed_border : border.Separator → Bool
 listed_border NotDrawn = true
-listed_border (Drawn color style width) = listed style width
+listed_border (Drawn _ style width) = listed style width
 
 -- of a tree: 01 00 int32[color] int16[style] int16[width]
 abbrev pub listed_if : (b : Bool) → Tree (SeparatorIf b) → Bool

@@ -1,5 +1,5 @@
 -- Arrays of 256 numbers that a loop fills.
-use Rattle.std.specs.Prelude.{◌≡◌, refl, List, [], ◌∷◌, ◌++◌, ℕ, zero, suc, ◌+◌, ◌-◌, ◌≤◌, ◌<◌, min, length, take, drop, get_or, replicate, set}
+use Rattle.std.specs.Prelude.{◌≡◌, refl, List, [], ◌∷◌, ℕ, zero, suc, ◌+◌, ◌≤◌, ◌<◌, min, length, drop, get_or, replicate, set}
 use Rattle.std.proofs.Common.{sym, ap, ◌∙◌, append-nil, arith, length-append, get_or-drop, take_all}
 use Rattle.cases.specs.Steps.{firsts}
 use Rattle.cases.specs.Answers.{padded}

@@ -1,5 +1,5 @@
 -- The answer for some bytes from what was read in front of them.
-use Rattle.std.specs.Prelude.{◌≡◌, Bool, true, false, List, ℕ, ◌+◌, length, drop, eqb, ltb}
+use Rattle.std.specs.Prelude.{◌≡◌, Bool, true, false, List, ℕ, ◌+◌, drop, eqb, ltb}
 use Rattle.std.proofs.Math.Path.{refl, ap}
 use Rattle.std.proofs.Common.{sym, ◌∙◌, zero-add, arith, drop-drop, eqb-true}
 use Rattle.std.proofs.lemmas.Bool.{eqb-false}
@@ -7,7 +7,7 @@ use Rattle.layout.specs.declared.Step.{Step}
 use Rattle.layout.specs.declared.Step.TheVariants.{Next, Refused}
 use Rattle.sizes.specs.Sizes.{below_value}
 use Rattle.sizes.specs.Basics.{pick}
-use Rattle.grammar.specs.Layout.{little, Layout, leading, Tree, spell, size, Bytes}
+use Rattle.grammar.specs.Layout.{little, Layout, leading, Tree, size, Bytes}
 use Rattle.grammar.specs.Fails.{Spells, Fails}
 use Rattle.grammar.specs.Laws.Layout.Read.{Got, got, no, bind, lead, read_leading, read, differs}
 use Rattle.layout.specs.Reads.{forget, step, chain, Reads, peek, skip}

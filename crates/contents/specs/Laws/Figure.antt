@@ -1,5 +1,5 @@
 -- The double of a Value that is a number: what of a reading is asked for there.
-use Rattle.std.specs.Prelude.{◌≡◌, Bool, true, false, List, [], ◌∷◌, ℕ, ◌+◌, eqb}
+use Rattle.std.specs.Prelude.{◌≡◌, Bool, true, false, List, [], ◌∷◌, ℕ, eqb}
 use Rattle.std.proofs.Math.Path.{refl, ap}
 use Rattle.std.proofs.Common.{sym, ◌∙◌, ne_eqb}
 use Rattle.std.proofs.lemmas.Bool.{false≢true}
@@ -11,17 +11,17 @@ use Rattle.grammar.specs.Layout.{little, Layout, Tree, Bytes}
 use Rattle.grammar.specs.Conventions.{choose}
 use Rattle.grammar.specs.Laws.Layout as laws
 use Rattle.grammar.specs.Laws.Layout.Read.{Got, got, no, read}
-use Rattle.layout.specs.Reads.{Reads, chain, step, peek, skip}
+use Rattle.layout.specs.Reads.{chain, step, peek, skip}
 use Rattle.fields.specs.Gives.{Shows}
 use Rattle.fields.specs.Laws.Shows.{number_shows}
 use Rattle.store.specs.Fields.{Fields, placed}
 use Rattle.layout.specs.Steps.Runs.{begins}
-use Rattle.grammar.specs.Value.{cell_zeros, CellValue, RawValueOf, ValueIn, Form01, Form02}
+use Rattle.grammar.specs.Value.{cell_zeros, CellValue, RawValueOf, ValueIn}
 use Rattle.contents.specs.declared.RawValue.{RawValue}
 use Rattle.contents.specs.declared.Contents.{Contents}
 use Rattle.contents.specs.declared.figure.Figure.{Figure}
 use Rattle.contents.specs.Contents.{position_of, said, Form, layouts, Raw, either, chosen, each_form, raw_says, contents, says_01, says_02, says_03, says_04, says_05, says_06, says_31, says_58}
-use Rattle.contents.specs.Answers.{unread, Answers, refused}
+use Rattle.contents.specs.Answers.{unread, refused}
 use Rattle.contents.specs.Laws.Answers.{outcome, value_of, value-answers, leading-shows, after_run, answer_is, valueAnswer, answer_of, readingSays, derived-in-front}
 use Rattle.contents.specs.Laws.Plain.{plain, plain_answers}
 

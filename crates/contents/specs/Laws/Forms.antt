@@ -1,11 +1,9 @@
 -- What a template says, and a Value from its form.
-use Rattle.std.specs.Prelude.{◌≡◌, refl, Bool, true, false, List, ℕ, ◌+◌, eqb, length}
+use Rattle.std.specs.Prelude.{◌≡◌, refl, true, false, List, ℕ, ◌+◌, eqb, length}
 use Rattle.std.proofs.Common.{sym, ap, ◌∙◌, arith, length-append}
-use Rattle.sizes.specs.Sizes.{below_value}
 use Rattle.layout.specs.declared.Step.{Step}
-use Rattle.layout.specs.declared.Step.TheVariants.{Next, Refused}
 use Rattle.sizes.specs.Basics.{among}
-use Rattle.grammar.specs.Layout.{little, any_number, passes, Layout, empty, number, ◌▸◌, times, Tree, spell}
+use Rattle.grammar.specs.Layout.{little, any_number, passes, Layout, empty, ◌▸◌, times, Tree, spell}
 use Rattle.grammar.specs.Conventions.{byte, int32, lestring, choose, keys}
 use Rattle.layout.specs.Reads.{Reads, peek, field}
 use Rattle.layout.specs.Steps.Chain.{Refuses, refuses, empty_of}
@@ -19,7 +17,7 @@ use Rattle.fields.specs.Laws.Gives.{to_shows}
 use Rattle.grammar.specs.Value.{Modifiers, ArgumentOf, TemplateOf, without_long_form, forms, RawValueOf}
 use Rattle.value.specs.Laws.Forms.{first_byte, form_passes, long_passes}
 use Rattle.contents.specs.declared.RawValue.{RawValue}
-use Rattle.contents.specs.Contents.{none, bytes_of, raw, template_form, template_says, position_of, said, says_31, says_58, chosen, each_form, raw_says}
+use Rattle.contents.specs.Contents.{none, bytes_of, raw, template_form, position_of, said, says_31, says_58, chosen, each_form, raw_says}
 
 -- the arguments start after the template's bytes and their number
 first_argument : (at : ℕ) (t : List ℕ) → at + length (spell lestring t) + 4 ≡ at + 4 + length t + 4

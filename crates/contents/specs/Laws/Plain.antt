@@ -1,11 +1,10 @@
 -- A number with no modifier and no byte 00 before it: 01 58, its format and its double.
 use Rattle.std.specs.Prelude.{◌≡◌, Bool, true, List, [], ◌∷◌, ℕ, zero, suc, ◌+◌, ◌*◌, ◌≤◌, length, drop, eqb, leb}
 use Rattle.std.proofs.Math.Path.{refl}
-use Rattle.std.proofs.Common.{sym, ◌∙◌, arith, length-drop, eqb-true, ne_eqb, leb-true, le-leb}
+use Rattle.std.proofs.Common.{sym, arith, length-drop, eqb-true, ne_eqb, leb-true, le-leb}
 use Rattle.std.proofs.Math.Bool.{false}
 use Rattle.std.proofs.lemmas.Bool.{false≢true}
 use Rattle.sizes.specs.Sizes.{below_value}
-use Rattle.layout.specs.declared.Step.{Step}
 use Rattle.layout.specs.declared.Step.TheVariants.{Next}
 use Rattle.sizes.specs.Basics.{among, pick}
 use Rattle.grammar.specs.Layout.{little, one_of_but, passes, Layout, empty, undigits, Bytes}

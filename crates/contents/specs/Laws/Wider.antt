@@ -1,7 +1,7 @@
 -- A layout in the place of another that allows less: what is nested in it may be nested deeper. A tree of the narrower is one of the wider, and
 -- spells the same bytes.
-use Rattle.std.specs.Prelude.{◌≡◌, refl, Bool, true, false, List, [], ◌∷◌, ◌++◌, map, ℕ, zero, suc, length, eqb}
-use Rattle.std.proofs.Common.{ap, ◌∙◌, sym}
+use Rattle.std.specs.Prelude.{◌≡◌, refl, Bool, true, false, List, [], ◌∷◌, map, ℕ, zero, suc, length, eqb}
+use Rattle.std.proofs.Common.{ap, ◌∙◌}
 use Rattle.sizes.specs.Basics.{pick}
 use Rattle.grammar.specs.Layout.{Order, Test, Layout, number, ◌▸◌, times, leading, nothing, Tree, spell_all, spell, All, all_none, all_more, Valid}
 use Rattle.grammar.specs.Conventions.{choose}

@@ -4,7 +4,7 @@ use Rattle.std.proofs.Common.{sym, suc-mul, mul-le-mul_right, length-append}
 use Rattle.std.proofs.lemmas.Bool.{false≢true}
 use native.Mathlib.Omega.{arith}
 use Rattle.sizes.specs.Basics.{among, pick}
-use Rattle.grammar.specs.Layout.{Test, any_number, the_number, a_version, a_bool, at_most, one_of, one_of_but, a_color, passes, suits, Layout, empty, number, string, ◌▸◌, times, Tree, spell_all, spell, All, all_none, all_more, Valid}
+use Rattle.grammar.specs.Layout.{Test, any_number, the_number, a_version, a_bool, at_most, one_of, one_of_but, a_color, passes, suits, Layout, empty, number, string, ◌▸◌, times, leading, region, nothing, Tree, spell_all, spell, All, all_none, all_more, Valid}
 use Rattle.grammar.specs.Numbers.{refusal}
 use Rattle.grammar.specs.Fails.{Fails, number_short, number_wrong, number_then, string_short, string_wrong, first, second, item, after_run, run_alone, region_short, content, bytes_left, too_deep}
 use Rattle.grammar.specs.Laws.Layout as laws
@@ -25,6 +25,9 @@ spell_most (number o w test k) h t v = rw (length-append, laws.digits_length) (o
 spell_most (string o w c) h t v = rw (length-append, laws.digits_length) (omega (arith, v.0))
 spell_most (a ▸ b) h t v = rw length-append (omega (arith, spell_most a h.0 t.0 v.0, spell_most b h.1 t.1 v.1))
 spell_most (times n a) h t v = rw (← v.0) (all_most (spell a) (Valid a) (most a) (spell_most a h) v.1)
+spell_most (leading _ _ _) h t v = elim h [ ]
+spell_most (region _ _ _) h t v = elim h [ ]
+spell_most nothing h t v = elim h [ ]
 
 -- ---- where bytes fail
 

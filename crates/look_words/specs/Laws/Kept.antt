@@ -57,6 +57,7 @@ kept_placed (a ▸ b) t at h =
 kept_placed (times n a) t at h = kept_all (placed a) (spell a) (Kept a) (λ x at h. kept_placed a x at h) t at h
 kept_placed (leading b n a) t at h = tt
 kept_placed (region o m a) t at h = tt
+kept_placed nothing t at h = elim t [ ]
 
 -- ---- an accepted look has so few bytes
 

@@ -1,18 +1,18 @@
 -- The Header as far as its version, against the member's rule.
 use Rattle.std.proofs.Math.Path.{◌≡◌, refl, sym, subst}
 use Rattle.std.proofs.Common.{ap, ◌∙◌, arith, length-append}
-use Rattle.std.specs.Prelude.{Bool, true, false, List, ℕ, ◌+◌, ◌≤◌, drop, length}
+use Rattle.std.specs.Prelude.{Bool, true, false, List, ℕ, ◌≤◌, drop, length}
 use Rattle.layout.specs.declared.Step.{Step}
 use Rattle.layout.specs.declared.Step.TheVariants.{Next, Refused}
 use Rattle.sizes.specs.Basics.{pick}
 use Rattle.grammar.specs.Layout.{little, Test, a_version, Tree, Bytes, passes, spell, size}
 use Rattle.grammar.specs.Conventions.{field}
-use Rattle.grammar.specs.Laws.Layout.Read.{Got, got, no, refusal, bind, read_number, read}
+use Rattle.grammar.specs.Laws.Layout.Read.{Got, got, no, refusal, bind, read_number}
 use Rattle.grammar.specs.Laws.Layout.Check.{check}
 use Rattle.layout.specs.Reads.{Reads, chain, peek, number_of}
 use Rattle.grammar.specs.Laws.Layout.{digits_length}
 use Rattle.grammar.specs.Laws.Layout.Binds.{bind_assoc}
-use Rattle.layout.specs.Steps.Spelt.{Read, read_on, read_off, stays_inside}
+use Rattle.layout.specs.Steps.Spelt.{read_on, read_off, stays_inside}
 use Rattle.grammar.specs.Sections.{HeaderStart, versions}
 use Rattle.opening.specs.declared.Head.{Head}
 use Rattle.opening.specs.declared.Head.TheVariants as head

@@ -1,9 +1,7 @@
-use Prim.Native.Nat.{◌-◌}
 use mathlib.Core.Path.{◌≡◌, refl, sym, ◌∙◌}
 use native.Mathlib.Omega.{arith}
 use lib.ListN.{length, get_or-replicate}
 use Rattle.sizes.specs.Sizes.{most_dimensions}
-use Rattle.grammar.specs.RecordWords.{word}
 use Rattle.position.specs.Axes.{position_on}
 use Rattle.position.specs.Laws.Table.{down, index_down}
 use Rattle.position.specs.Laws.Accepted.{first_small, layers, rows, columns}

@@ -11,7 +11,7 @@ pub returns-then-places-k : goal.returns-then-places-k
 returns-then-places-k c = c.no_position-then-places-k.ensures ∙ outside _ _ _ _ _ _ c.refusal-no.ensures c.if-no-ne0.false c.places.ensures (omega arith) (omega arith)
 
 pub along-layer-requires : goal.along-layer-requires
-along-layer-requires c = let q = c in on_layers _ _ _ _ _ _ q.before.before.before.refusal.ensures q.before.before.if1.false q.before.places.ensures (omega arith)
+along-layer-requires c = on_layers _ _ _ _ _ _ c.refusal-no.ensures c.if-no-ne0.false c.places.ensures (omega arith)
 
 pub along-row-requires : goal.along-row-requires
 along-row-requires c = on_rows _ _ _ _ _ _ c.refusal-no.ensures c.if-no-ne0.false c.places.ensures (omega arith)

@@ -68,6 +68,8 @@ coordinates_back n x (a ∷ axs) h e m =
 pub at_inside : (n : ℕ → ℕ) (axs : List (List ℕ)) (ks : List ℕ) → Fits n axs ks → Inside n (coordinate_at n axs ks) (joined axs)
 unfolding joined
 at_inside n [] [] fits_none e m = none_among e m
+at_inside n [] (k ∷ ks) f e m = elim f [ ]
+at_inside n (a ∷ axs) [] f e m = elim f [ ]
 at_inside n (a ∷ axs) (k ∷ ks) (fits_more l f) e m =
     on_one e a (joined axs) m
     (λ q. rw (from_first n a axs k ks e q) (coordinate_inside n a k l e q))
@@ -87,6 +89,8 @@ positions_same n x y (a ∷ axs) h =
 positions_back : (n : ℕ → ℕ) (axs : List (List ℕ)) (ks : List ℕ) → Distinct (joined axs) → Fits n axs ks → positions n (coordinate_at n axs ks) axs ≡ ks
 unfolding joined positions
 positions_back n [] [] o fits_none = refl
+positions_back n [] (k ∷ ks) o f = elim f [ ]
+positions_back n (a ∷ axs) [] o f = elim f [ ]
 positions_back n (a ∷ axs) (k ∷ ks) o (fits_more l f) =
     let p = parted a (joined axs) o in
     rw (

@@ -1,7 +1,7 @@
 -- The laws by which the first repeat is found: what stands before a place is among the first words before it. There is one (`grammar`).
 use Rattle.std.proofs.Math.Path.{◌≡◌, refl}
 use Rattle.std.proofs.Common.{sym, ◌∙◌, arith, add-one, eqb-true, eq-eqb, ne_eqb, below_more}
-use Rattle.std.specs.Prelude.{Bool, true, false, not, ◌||◌, List, [], ◌∷◌, eqb, get_or, set}
+use Rattle.std.specs.Prelude.{Bool, true, false, not, ◌||◌, List, eqb, get_or, set}
 use Rattle.std.proofs.lemmas.Bool.{false≢true, eqb-false, not-true}
 use Prim.Native.Nat.{ℕ, zero, suc, ◌+◌, ◌*◌, ◌≤◌, ◌<◌}
 use Rattle.sizes.specs.Basics.{among}

@@ -1,5 +1,5 @@
 -- A Value from its parts, at the depth that the code has.
-use Rattle.std.specs.Prelude.{◌≡◌, refl, Bool, true, ◌&&◌, not, List, [], ◌∷◌, ℕ, zero, suc, ◌-◌, eqb}
+use Rattle.std.specs.Prelude.{◌≡◌, refl, Bool, true, List, [], ◌∷◌, ℕ, zero, suc, ◌-◌, eqb}
 use Rattle.std.proofs.Math.Bool.{false}
 use Rattle.std.proofs.Common.{sub-one, arith, ne_eqb}
 use Rattle.sizes.specs.Sizes.{below_value}

@@ -1,4 +1,3 @@
-
 use Rattle.fields.proofs.read.name_at.Goals as goal
 
 pub returns-in-Of : goal.returns-in-Of

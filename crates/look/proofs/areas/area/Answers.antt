@@ -1,0 +1,5 @@
+use Rattle.fields.specs.Laws.Gives.{gives}
+use Rattle.look.proofs.areas.area.Goals as goal
+
+pub returns : goal.returns
+returns c = search gives depth 20

@@ -1,0 +1,5 @@
+use Rattle.look_rules.specs.Laws.Walk.{checks}
+use Rattle.look_rules.proofs.check.sections.Goals as goal
+
+pub returns : goal.returns
+returns c = search checks depth 20

@@ -1,0 +1,11 @@
+use Rattle.opening.proofs.Ends.{end_never, end_yes, end_no}
+use Rattle.opening.proofs.ending.Goals as goal
+
+pub returns-in-Refused : goal.returns-in-Refused
+returns-in-Refused c = end_never _ _ c.skip.ensures c.in-Refused.is
+
+pub returns-then-over : goal.returns-then-over
+returns-then-over c = end_yes _ _ c.skip.ensures c.in-Next.is c.if-over.true-raw
+
+pub returns-else-over : goal.returns-else-over
+returns-else-over c = end_no _ _ c.skip.ensures c.in-Next.is c.if-over.false-raw

@@ -1,0 +1,7 @@
+use Rattle.grammar.specs.Sections.{Area}
+use Rattle.layout.specs.Steps.{reads}
+use Rattle.sections.proofs.areas.area.Goals as goal
+
+pub returns : goal.returns
+unfolding Area
+returns c = search reads depth 20

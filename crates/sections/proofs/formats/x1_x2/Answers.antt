@@ -1,0 +1,7 @@
+use Rattle.grammar.specs.Sections.{X1X2}
+use Rattle.layout.specs.Steps.{reads}
+use Rattle.sections.proofs.formats.x1_x2.Goals as goal
+
+pub returns : goal.returns
+unfolding X1X2
+returns c = search reads depth 20

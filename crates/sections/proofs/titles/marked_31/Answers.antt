@@ -1,0 +1,7 @@
+use mathlib.Core.Path.{refl}
+use Rattle.layout.specs.Steps.Runs.{begins, leading_of}
+use Rattle.sections.proofs.titles.marked_31.Goals as goal
+
+pub returns : goal.returns
+unfolding begins
+returns c = leading_of refl c.fixed.ensures c.skip.ensures

@@ -1,0 +1,5 @@
+use Rattle.layout.specs.Steps.{reads}
+use Rattle.value.proofs.modifier.template_content.Goals as goal
+
+pub returns : goal.returns
+returns c = search reads depth 20
