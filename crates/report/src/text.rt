@@ -6,7 +6,8 @@ pub(crate) fn put(out: &mut [u8], at: usize, s: &[u8]) -> usize
     requires { at + length s.now ≤ length out.old }
     ensures { Puts s.now out.old at out.new result }
 {
-    let n = bytes::copy(s, &mut out[at..]);
+    let n = s.len();
+    out[at..at + n].copy_from_slice(s);
     at + n
 }
 

@@ -31,7 +31,7 @@ use Rattle.layout.specs.Laws.Words.{word_same}
 use Rattle.grammar.specs.RecordWords.{firsts}
 use Rattle.grammar.specs.Once.{fresh}
 use Rattle.grammar.specs.Table.{Axes}
-use Rattle.grammar.specs.Records.{entry_index, rows_words, sum, axis_layers, axis_rows, axis_columns, axis_entries}
+use Rattle.grammar.specs.Records.{entry_index, rows_words, axis_layers, axis_rows, axis_columns, axis_entries}
 use Rattle.grammar.specs.Rules.{entry_rule, three_rule, counts_rule}
 use Rattle.axes.specs.declared.AxisCounts.{AxisCounts}
 use Rattle.axes.specs.declared.AxisCounts.TheVariants as counts

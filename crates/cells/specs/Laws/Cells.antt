@@ -1,7 +1,7 @@
 -- Cells against their rules.
 use Rattle.std.specs.Prelude.{◌≡◌, List, [], ◌∷◌, ℕ, ◌+◌, ◌-◌, ◌*◌, ◌^◌, ◌≤◌, ◌<◌, drop, ltb}
 use Rattle.std.proofs.Math.Path.{refl, sym, ap}
-use Rattle.std.proofs.Common.{◌∙◌, add-zero, add-one, length-append, lt-ltb}
+use Rattle.std.proofs.Common.{◌∙◌, add-zero, length-append, lt-ltb}
 use Rattle.std.proofs.Math.Bool.{true, false}
 use Rattle.std.proofs.Math.Option.{none, some}
 use native.Mathlib.Omega.{arith}
@@ -20,8 +20,7 @@ use Rattle.grammar.specs.Laws.Layout.Check.{judge, check}
 use Rattle.layout.specs.Reads.{Reads, peek}
 use Rattle.grammar.specs.Laws.Layout.{digits_length}
 use Rattle.layout.specs.Keeps.{Out, on, off, Keeps, keeps_on, keeps_off, Each}
-use Rattle.layout.specs.Steps.Keeping.{kept_on}
-use Rattle.layout.specs.Steps.Spelt.{found_by, Read, read_on, read_off, ends_inside, stays_inside, read_number_lem, ReadNumber}
+use Rattle.layout.specs.Steps.Spelt.{Read, read_on, read_off, stays_inside, read_number_lem, ReadNumber}
 use Rattle.layout.specs.Words.{word32}
 use Rattle.layout.specs.Laws.Words.{word_same}
 use Rattle.grammar.specs.Value.{CellValue}

@@ -1,13 +1,12 @@
 -- Cells that are read with no look at the indexes before them, and looked through after for the first index that stands again. Where
 -- reading stops, such an index comes first.
-use Rattle.std.specs.Prelude.{◌≡◌, refl, true, false, List, ℕ, ◌+◌, ◌-◌, ◌*◌, ◌≤◌, ◌<◌, length}
-use Rattle.std.proofs.Common.{sym, ap, ◌∙◌, arith, below_more}
+use Rattle.std.specs.Prelude.{◌≡◌, refl, List, ℕ, ◌+◌, ◌-◌, ◌*◌, ◌≤◌, ◌<◌, length}
+use Rattle.std.proofs.Common.{sym, ◌∙◌, arith, below_more}
 use Rattle.sizes.specs.Sizes.{cell_words}
 use Rattle.layout.specs.declared.Step.{Step}
 use Rattle.layout.specs.declared.Step.TheVariants.{Next, Refused}
-use Rattle.sizes.specs.Basics.{among}
 use Rattle.layout.specs.Keeps.{Out, on, off}
-use Rattle.grammar.specs.RecordWords.{word, firsts}
+use Rattle.grammar.specs.RecordWords.{word}
 use Rattle.grammar.specs.Repeat.{strided, Before, FirstRepeat}
 use Rattle.repeats.specs.Laws.Repeats.{AllNew, before_among, none_among}
 use Rattle.grammar.specs.Laws.Table.LeastBytes.{least_cell}
@@ -141,5 +140,8 @@ module _ (version : ℕ) where
 
     -- Tested: the first repeat, or else the answer of the reading
     pub answered : {m : ℕ} {end r : Step} {vs : List ℕ} → Testable m end vs → Tested vs m end r → AllRead version s at places n ws r vs
-    answered t (all_once a) = t.once a
-    answered t (repeated k l a b) = t.repeats k l a b
+    answered {m} {end} {r} {vs} t x = go vs r t x
+      where
+        go : (vs : List ℕ) (r : Step) → Testable m end vs → Tested vs m end r → AllRead version s at places n ws r vs
+        go vs r t (all_once a) = t.once a
+        go vs r t (repeated k l a b) = t.repeats k l a b

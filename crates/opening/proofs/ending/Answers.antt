@@ -1,3 +1,4 @@
+use Rattle.std.proofs.lemmas.Bool.{le-leb, lt-leb}
 use Rattle.opening.proofs.Ends.{end_never, end_yes, end_no}
 use Rattle.opening.proofs.ending.Goals as goal
 
@@ -5,7 +6,7 @@ pub returns-in-Refused : goal.returns-in-Refused
 returns-in-Refused c = end_never _ _ c.skip.ensures c.in-Refused.is
 
 pub returns-then-over : goal.returns-then-over
-returns-then-over c = end_yes _ _ c.skip.ensures c.in-Next.is c.if-over.true-raw
+returns-then-over c = end_yes _ _ c.skip.ensures c.in-Next.is (le-leb _ _ c.if-over.true)
 
 pub returns-else-over : goal.returns-else-over
-returns-else-over c = end_no _ _ c.skip.ensures c.in-Next.is c.if-over.false-raw
+returns-else-over c = end_no _ _ c.skip.ensures c.in-Next.is (lt-leb _ _ c.if-over.false)

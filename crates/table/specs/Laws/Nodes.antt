@@ -10,7 +10,6 @@ use Rattle.std.proofs.lemmas.List.Edits.{sets}
 use Rattle.sizes.specs.Sizes.{most_nodes, node_words}
 use Rattle.sizes.specs.Basics.{pick}
 use Rattle.grammar.specs.Layout.{empty, Tree, passes, spell, size}
-use Rattle.grammar.specs.Conventions.{i}
 use Rattle.grammar.specs.Laws.Layout.Read.{Got, got, no, bind, read}
 use Rattle.grammar.specs.Rule.{Rule, items}
 use Rattle.grammar.specs.Laws.Layout.Check.{check_times, check}
@@ -131,15 +130,15 @@ module _ (version : ℕ) where
           few = few;
           words = own_first (m, (zero, t)) e₁ few w' own;
         }
-    joined (m, (suc k, (t, (n, u)))) {p} e₁ l c (keeps_on {t = ts} {p = q} {x = z} e v) (stored {ms = ms} own) =
+    joined (m, (suc k, r)) {p} e₁ l c (keeps_on {t = ts} {p = q} {x = z} e v) (stored {ms = ms} own) =
         let w : Nodes d dim used p (used + 1, ns) ts q z = all_nodes v in
-        let tree : Tree (CategoryIn version (suc d)) = (m, (suc k, (t, (n, ts)))) in
+        let tree : Tree (CategoryIn version (suc d)) = (m, (suc k, (r.0, (r.1.0, ts)))) in
         let few : z.0 ≤ most_nodes = w.few (omega arith) in
         keeps_on {t = tree} {p = q} {x = (z.0, ms)} e record {
           place = omega (arith, (size_category version) d tree, w.place, e₁);
           count = omega (arith, w.count);
           few = few;
-          words = own_first (m, (suc k, (t, (n, u)))) e₁ few w own;
+          words = own_first (m, (suc k, r)) e₁ few w own;
         }
     joined h e₁ l c keeps_off not_stored = keeps_off
 

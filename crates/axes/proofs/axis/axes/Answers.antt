@@ -10,25 +10,25 @@ returns-in-Refused c =
     let a = c.args in
     let b = bytes_of _ c.type_inv.s in
     let m = c.at_most-d.result in
-    (rw (← c.at_most-d.ensures) (no_counts a.s.now b a.at m c.any-a.ensures.0 c.any-b.ensures.0 c.any.ensures.0 c.in-Refused.is), refl)
+    record { axes = rw (← c.at_most-d.ensures) (no_counts a.s.now b a.at m c.any-a.ensures.low c.any-b.ensures.low c.any.ensures.low c.in-Refused.is); refused = refl }
 
 pub returns-in-Refused-end : goal.returns-in-Refused-end
 returns-in-Refused-end c =
     let a = c.args in
     let b = bytes_of _ c.type_inv.s in
     let m = c.at_most-d.result in
-    (rw (← c.at_most-d.ensures) (no_entries a.s.now b a.at m c.any-a.ensures.0 c.any-b.ensures.0 c.any.ensures.0 c.in-Next.is c.peek-layers.ensures c.peek-rows.ensures c.peek-columns.ensures (sym c.adds_up-good.ensures ∙ c.if-good.true) (kept_off (rw c.in-Refused-end.is at c.entries-e.ensures))), refl)
+    record { axes = rw (← c.at_most-d.ensures) (no_entries a.s.now b a.at m c.any-a.ensures.low c.any-b.ensures.low c.any.ensures.low c.in-Next.is c.peek-layers.ensures c.peek-rows.ensures c.peek-columns.ensures (sym c.adds_up-good.ensures ∙ c.if-good.true) (kept_off (rw c.in-Refused-end.is at c.entries-e.ensures))); refused = refl }
 
 pub returns-in-Next-end : goal.returns-in-Next-end
 returns-in-Next-end c =
     let a = c.args in
     let b = bytes_of _ c.type_inv.s in
     let m = c.at_most-d.result in
-    (rw (← c.at_most-d.ensures) (the_entries a.s.now b a.at m c.any-a.ensures.0 c.any-b.ensures.0 c.any.ensures.0 c.in-Next.is c.peek-layers.ensures c.peek-rows.ensures c.peek-columns.ensures (sym c.adds_up-good.ensures ∙ c.if-good.true) (omega (arith, c.at_most-d.ensures)) (rw c.in-Next-end.is at c.entries-e.ensures)), tt)
+    record { axes = rw (← c.at_most-d.ensures) (the_entries a.s.now b a.at m c.any-a.ensures.low c.any-b.ensures.low c.any.ensures.low c.in-Next.is c.peek-layers.ensures c.peek-rows.ensures c.peek-columns.ensures (sym c.adds_up-good.ensures ∙ c.if-good.true) (omega (arith, c.at_most-d.ensures)) (rw c.in-Next-end.is at c.entries-e.ensures)); refused = tt }
 
 pub returns-else-good : goal.returns-else-good
 returns-else-good c =
     let a = c.args in
     let b = bytes_of _ c.type_inv.s in
     let m = c.at_most-d.result in
-    (rw (← c.at_most-d.ensures) (not_summed a.s.now b a.at m c.any-a.ensures.0 c.any-b.ensures.0 c.any.ensures.0 c.in-Next.is c.peek-layers.ensures c.peek-rows.ensures c.peek-columns.ensures (sym c.adds_up-good.ensures ∙ c.if-good.false)), refl)
+    record { axes = rw (← c.at_most-d.ensures) (not_summed a.s.now b a.at m c.any-a.ensures.low c.any-b.ensures.low c.any.ensures.low c.in-Next.is c.peek-layers.ensures c.peek-rows.ensures c.peek-columns.ensures (sym c.adds_up-good.ensures ∙ c.if-good.false)); refused = refl }
