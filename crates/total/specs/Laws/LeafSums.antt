@@ -1,8 +1,8 @@
 -- The sums that the code makes, over the words of the records, are those of the derivation.
-use Rattle.std.specs.Prelude.{◌≡◌, refl, List, [], ◌∷◌, ◌++◌, ℕ, zero, suc, ◌+◌, ◌*◌, ◌≤◌, ◌<◌, length, drop}
+use Rattle.std.specs.Prelude.{◌≡◌, refl, List, [], ◌∷◌, ◌++◌, ℕ, zero, suc, ◌*◌, ◌≤◌, ◌<◌, length, drop}
 use Rattle.std.proofs.Common.{zero-mul, mul-zero, suc-mul, arith}
 use Rattle.grammar.specs.Layout.{Tree, All, all_none, all_more}
-use Rattle.grammar.specs.Index.{product, coordinate}
+use Rattle.grammar.specs.Index.{product}
 use Rattle.grammar.specs.Member.{Member, version, cells, cells_start, final, ns, places, cell_records, MemberDerivation, AsDemanded}
 use Rattle.grammar.specs.Laws.Member.RecordsSpelt.{cells_there}
 use Rattle.contents.specs.Members.{part_read}

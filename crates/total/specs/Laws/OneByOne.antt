@@ -9,7 +9,7 @@ use Rattle.grammar.specs.Member.{Member, dimensions, nodes, cells}
 use Rattle.grammar.specs.Laws.Member.Checked.{checked}
 use Rattle.answer.specs.Answer.{wide, long}
 use Rattle.total.specs.declared.DimensionTotals.{DimensionTotals}
-use Rattle.total.specs.Words.{leaf_words, rows}
+use Rattle.total.specs.Words.{leaf_words}
 use Rattle.total.specs.Answers.{memberFirst, leafAnswer, totalAnswer, refusedAll, leaves, dimensionAnswer, totalsAnswer, totalsAfter, AllTotalled}
 use Rattle.total.specs.Laws.Rows.{row_at}
 
