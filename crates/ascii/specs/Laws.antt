@@ -4,7 +4,7 @@ use Rattle.std.proofs.Common.{⊎_elim, arith}
 use Rattle.std.specs.Int.Bits.{bit_or, or_add_and}
 use Rattle.std.proofs.lemmas.Nat.{and_le_l, and_le_r}
 use Rattle.convert.specs.Pages.{ascii}
-use Rattle.convert.specs.Laws.Pages.{side}
+use Rattle.convert.proofs.Laws.Pages.{side}
 use Rattle.ascii.specs.Runs.{Ascii, Run}
 
 pub ascii_none : (u : List ℕ) (i : ℕ) → Ascii u i 0

@@ -1,3 +1,2 @@
 pub mod Cursor
 pub mod Tests
-pub mod Laws

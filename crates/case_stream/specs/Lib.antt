@@ -1,5 +1,3 @@
 pub mod Stream
 pub mod Machine
 pub mod Cuts
-pub mod Theorem
-pub mod Laws

@@ -7,8 +7,8 @@ use Rattle.sizes.specs.Basics.{le, pick}
 use Rattle.case_stream.specs.Stream.{Element, meaning}
 use Rattle.case_stream.specs.Machine.{fits, out, feed, run, start}
 use Rattle.case_stream.specs.Cuts.{Calls, no_call, call, out_of}
-use Rattle.case_stream.specs.Laws.OneAnswer.{one_answer}
-use Rattle.case_stream.specs.Laws.Meaning.{run_means}
+use Rattle.case_stream.proofs.Laws.OneAnswer.{one_answer}
+use Rattle.case_stream.proofs.Laws.Meaning.{run_means}
 use Rattle.case_state.specs.declared.Cursor.{Cursor}
 use Rattle.case_state.specs.declared.State.{State}
 use Rattle.cases.specs.declared.Answer.{Answer}
@@ -17,7 +17,7 @@ use Rattle.case_state.specs.Cursor.{view, Good}
 use Rattle.case_state.specs.Tests.{state_ok}
 use Rattle.cases.specs.Steps.{firsts}
 use Rattle.cases.specs.Answers.{padded, cursor₀, start-ok, elements, fed-of, answered, call-of, Called}
-use Rattle.case_state.specs.Laws.Valid.{state_parts}
+use Rattle.case_state.proofs.Laws.Valid.{state_parts}
 use Rattle.cases.specs.Laws.Canonical.{view_one}
 use Rattle.cases.specs.Laws.Lasting.{start_is, start_lasts, padded_firsts}
 

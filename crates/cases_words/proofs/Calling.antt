@@ -17,7 +17,7 @@ use Rattle.cases.specs.declared.Started.{Started as Beginning}
 use Rattle.cases.specs.declared.Answer.{Answer}
 use Rattle.cases.specs.declared.Call.{Call}
 use Rattle.cases.specs.Answers.{start_of, finish-of, Called}
-use Rattle.case_state.specs.Laws.Tests.{both}
+use Rattle.case_state.proofs.Laws.Tests.{both}
 use Rattle.cases_words.specs.StateWords.{state_words, state_words_of, state_of}
 use Rattle.cases_words.specs.Calls.{short_answer, call_answer, answer_words_of, call_words, roomy, Started, Fed, Ended}
 

@@ -5,7 +5,7 @@ use Rattle.sizes.specs.Basics.{pick}
 use Rattle.grammar.specs.Layout.{Bytes}
 use Rattle.answer.specs.Answer.{Delivered}
 use Rattle.answer.specs.Demand3.{Demand3}
-use Rattle.answer.specs.Laws.Holds.{demand3}
+use Rattle.answer.proofs.Laws.Holds.{demand3}
 use Rattle.members.specs.Members.{members, start, size, list_refusal, member_at, share_of, share_answer, node_share_at, cell_share_at, answer_at, nodes_then, cells_then}
 use Rattle.members.specs.Laws.Shares.{share_inside, share_length}
 use Rattle.members.specs.Laws.Areas as areas

@@ -5,7 +5,7 @@ use borrow.Author.Tests.{lt-ltb, le-ltb}
 use Rattle.sizes.specs.Basics.{pick}
 use Rattle.convert.specs.Pages.{first_page, page_count}
 use Rattle.convert.specs.Convert.{Step, unknown_page, refused, converted}
-use Rattle.convert.specs.Laws.SameText.{page_known}
+use Rattle.convert.proofs.Laws.SameText.{page_known}
 use Rattle.pages.specs.Numbers.{number_of, Numbered}
 
 module _ (f : ℕ → List ℕ → Step) (page room : ℕ) (u : List ℕ) where

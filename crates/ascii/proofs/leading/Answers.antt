@@ -2,7 +2,7 @@ use native.Mathlib.Omega.{arith}
 use mathlib.Core.Path.{◌≡◌}
 use mathlib.Core.Logic.{⊎_elim}
 use Prim.Native.Nat.{◌≤◌, ◌<◌}
-use Rattle.convert.specs.Laws.Pages.{side}
+use Rattle.convert.proofs.Laws.Pages.{side}
 use Rattle.ascii.specs.Laws.{ascii_none}
 use Rattle.ascii.proofs.leading.Goals as goal
 

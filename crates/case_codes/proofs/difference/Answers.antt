@@ -1,6 +1,6 @@
 -- `case_codes::difference` meets its contract: the difference is no NaN.
 use native.Mathlib.Omega.{arith}
-use Rattle.case_stream.specs.Laws.Exact.{not_nan}
+use Rattle.case_stream.proofs.Laws.Exact.{not_nan}
 use Rattle.case_codes.proofs.difference.Goals as goal
 
 pub float_to_bits-result : goal.float_to_bits-result

@@ -1,6 +1,6 @@
 use mathlib.Core.Path.{sym, ◌∙◌}
 use native.Mathlib.Omega.{arith}
-use Rattle.case_state.specs.Laws.Valid.{state_sound, bias_sound}
+use Rattle.case_state.proofs.Laws.Valid.{state_sound, bias_sound}
 use Rattle.cases.specs.Laws.Answering.{call_fed, call_refused}
 use Rattle.cases.proofs.feed.Goals as goal
 

@@ -1,7 +1,7 @@
 use mathlib.Core.Path.{sym, ◌∙◌}
 use Rattle.sizes.specs.Basics.{pick}
 use Rattle.cases.specs.Answers.{finish-of}
-use Rattle.case_state.specs.Laws.Valid.{state_sound}
+use Rattle.case_state.proofs.Laws.Valid.{state_sound}
 use Rattle.cases.specs.Laws.Answering.{end_is}
 use Rattle.cases.proofs.finish.Goals as goal
 

@@ -2,7 +2,7 @@ use mathlib.Core.Path.{sym, ◌∙◌}
 use borrow.Author.Tests.{leb-true}
 use native.Mathlib.Omega.{arith}
 use Rattle.sizes.specs.Basics.{pick}
-use Rattle.case_state.specs.Laws.Valid.{kinds_few}
+use Rattle.case_state.proofs.Laws.Valid.{kinds_few}
 use Rattle.cases.specs.Answers.{start-ok, start_of}
 use Rattle.cases.proofs.start.Goals as goal
 

@@ -16,7 +16,7 @@ use Rattle.cases.specs.declared.Moved.{Moved}
 use Rattle.case_state.specs.Cursor.{stop_of, view, Counts, Good, by_252, by_22, by_7}
 use Rattle.cases.specs.Steps.{gather_byte, passed, block_byte, stop_at, offered, wrote, step_of, halting, silent, writing, Advances}
 use Rattle.cases.specs.Laws.Digits.{le_snoc, snoc_in}
-use Rattle.case_state.specs.Laws.Counting.{counts_skip, counts_gives, counts_block, counts_byte, counts_place}
+use Rattle.case_state.proofs.Laws.Counting.{counts_skip, counts_gives, counts_block, counts_byte, counts_place}
 use Rattle.cases.specs.Laws.Goods.{good_act, good_rest, good_passed, good_gathered, view_gather, view_acting, view_stopped, view_passed, view_gathered}
 
 -- ---- 1. 253, and no other code, says that a block follows

@@ -9,7 +9,7 @@ use Rattle.sizes.specs.Basics.{le, pick}
 use Rattle.grammar.specs.Laws.Layout.Digits.{length_le}
 use Rattle.case_stream.specs.Stream.{limit}
 use Rattle.case_stream.specs.Machine.{gather, acting, stopped, fits, out}
-use Rattle.case_stream.specs.Laws.Taken.{taken as Taken-of, held, feed_keeps, feed_spends}
+use Rattle.case_stream.proofs.Laws.Taken.{taken as Taken-of, held, feed_keeps, feed_spends}
 use Rattle.case_state.specs.declared.Cursor.{Cursor}
 use Rattle.case_state.specs.declared.State.{State}
 use Rattle.cases.specs.declared.Answer.{Answer}
@@ -19,8 +19,8 @@ use Rattle.case_state.specs.Tests.{state_ok}
 use Rattle.cases.specs.Steps.{firsts, Fed_is}
 use Rattle.cases.specs.Answers.{well, bad-state, too-soon, padded, refusal-of, fed-of, answered, call-of, output-of, Called, ending, refusal-at, unfinished-at, end-at}
 use Rattle.cases.specs.Laws.Goods.{view_gather, view_acting, view_stopped}
-use Rattle.case_state.specs.Laws.Counting.{counts_place}
-use Rattle.case_state.specs.Laws.Valid.{state_sound}
+use Rattle.case_state.proofs.Laws.Counting.{counts_place}
+use Rattle.case_state.proofs.Laws.Valid.{state_sound}
 use Rattle.cases.specs.Laws.Canonical.{numbers_view}
 use Rattle.cases.specs.Laws.Lasting.{with_cursor}
 

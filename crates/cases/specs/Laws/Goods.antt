@@ -9,7 +9,7 @@ use Rattle.case_state.specs.declared.Cursor.{Cursor}
 use Rattle.case_state.specs.Cursor.{gather_at, act_at, rest_at, stop_of, view, Counts, Good, StoppedBy}
 use Rattle.cases.specs.Steps.{gather_byte, passed}
 use Rattle.cases.specs.Laws.Digits.{le_snoc, snoc_in}
-use Rattle.case_state.specs.Laws.Counting.{counts_first}
+use Rattle.case_state.proofs.Laws.Counting.{counts_first}
 
 -- ---- 1. the three kinds of state
 

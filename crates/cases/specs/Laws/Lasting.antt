@@ -10,8 +10,8 @@ use Rattle.case_state.specs.Cursor.{Good}
 use Rattle.case_state.specs.Tests.{kinds_ok, rest_ok, state_ok, cursor_ok, gather_ok}
 use Rattle.cases.specs.Steps.{firsts}
 use Rattle.cases.specs.Answers.{padded, cursor₀, start-ok, start_of}
-use Rattle.case_state.specs.Laws.Tests.{both}
-use Rattle.case_state.specs.Laws.Valid.{complete, state_parts}
+use Rattle.case_state.proofs.Laws.Tests.{both}
+use Rattle.case_state.proofs.Laws.Valid.{complete, state_parts}
 
 -- a good cursor in the place of a state's own
 pub with_cursor : (s : State) (c : Cursor) → state_ok s ≡ true → Good s.count c

@@ -14,16 +14,16 @@ use Rattle.layout.specs.Steps.Slices.{drop_bytes, take_bytes}
 use Rattle.grammar.specs.Laws.Layout.Digits.{length_le, digits_undigits, undigits_lt}
 use Rattle.case_stream.specs.Stream.{limit, block_code, block, says}
 use Rattle.case_stream.specs.Machine.{gather, acting, fits, endless, has, halts, goes, after, next, moves, step, weight}
-use Rattle.case_stream.specs.Laws.Steps.{μ, after_weight, put_nil, falls_goes, step_falls}
-use Rattle.case_stream.specs.Laws.Compose.{less_nil}
-use Rattle.case_stream.specs.Laws.Whole.{room_goes, gather_whole, block_whole}
+use Rattle.case_stream.proofs.Laws.Steps.{μ, after_weight, put_nil, falls_goes, step_falls}
+use Rattle.case_stream.proofs.Laws.Compose.{less_nil}
+use Rattle.case_stream.proofs.Laws.Whole.{room_goes, gather_whole, block_whole}
 use Rattle.case_state.specs.declared.Cursor.{Cursor}
 use Rattle.cases.specs.declared.Moved.{Moved}
 use Rattle.case_state.specs.Cursor.{act_at, view, Counts, Good}
 use Rattle.cases.specs.Steps.{passed, offered, wrote, step_of, halting, silent, writing, Advances, Strides, Given, eight_at, whole}
-use Rattle.case_state.specs.Laws.Counting.{counts_first}
+use Rattle.case_state.proofs.Laws.Counting.{counts_first}
 use Rattle.cases.specs.Laws.Goods.{good_act, view_gather, view_acting, view_passed, view_eight}
-use Rattle.case_state.specs.Laws.Tests.{both}
+use Rattle.case_state.proofs.Laws.Tests.{both}
 use Rattle.cases.specs.Laws.Agree.{block_says, says_block, good_block}
 
 has_one : (r : ℕ) → has (fits (suc r)) ≡ true

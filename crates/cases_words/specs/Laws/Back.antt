@@ -9,8 +9,8 @@ use Rattle.case_state.specs.declared.Cursor.{Cursor}
 use Rattle.case_state.specs.declared.State.{State}
 use Rattle.case_state.specs.Cursor.{Good}
 use Rattle.case_state.specs.Tests.{kinds_ok, rest_ok, state_ok}
-use Rattle.case_state.specs.Laws.Tests.{both}
-use Rattle.case_state.specs.Laws.Valid.{state_parts}
+use Rattle.case_state.proofs.Laws.Tests.{both}
+use Rattle.case_state.proofs.Laws.Valid.{state_parts}
 use Rattle.cases.specs.Steps.{firsts}
 use Rattle.cases.specs.Laws.Lasting.{firsts_of}
 use Rattle.cases_words.specs.StateWords.{head_words, state_words_of, joint, narrowed, kinds_of, cursor_of, state_of}

@@ -1,7 +1,7 @@
 use native.Mathlib.Omega.{arith}
 use Rattle.codepages.specs.Laws.Branches.{point_none, point_entry}
 use mathlib.Core.Path.{sym}
-use Rattle.convert.specs.Laws.Pages.{point_low}
+use Rattle.convert.proofs.Laws.Pages.{point_low}
 use Rattle.codepages.proofs.code_point.Goals as goal
 
 pub returns-then-b-lt-ASCII : goal.returns-then-b-lt-ASCII

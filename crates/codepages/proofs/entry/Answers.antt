@@ -3,7 +3,7 @@ use mathlib.Core.Path.{ap, ◌∙◌}
 use mathlib.Core.List.{List}
 use Prim.Native.Nat.{ℕ}
 use lib.ListN.{get_or, length}
-use Rattle.convert.specs.Laws.Pages.{length_page}
+use Rattle.convert.proofs.Laws.Pages.{length_page}
 use Rattle.codepages.proofs.entry.Goals as goal
 
 pub offset_bounds-t-i : goal.offset_bounds-t-i

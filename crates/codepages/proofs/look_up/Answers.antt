@@ -3,7 +3,8 @@ use mathlib.Core.Path.{ap, ◌∙◌}
 use mathlib.Core.List.{List}
 use Prim.Native.Nat.{ℕ}
 use lib.ListN.{get_or, length}
-use Rattle.convert.specs.Laws.Places.{look, length_rows, row_below}
+use Rattle.convert.specs.Laws.Places.{look}
+use Rattle.convert.proofs.Laws.Places.{length_rows, row_below}
 use Rattle.codepages.proofs.look_up.Goals as goal
 
 pub bounds-y-i : goal.bounds-y-i

@@ -5,7 +5,7 @@ use borrow.Author.Tests.{lt-ltb, le-ltb}
 use Rattle.sizes.specs.Basics.{pick}
 use Rattle.codepages.specs.declared.Answer.{Answer}
 use Rattle.convert.specs.Convert.{Step, valid_up_to, output, no_character, output_short, Outcome, refused, written, outcome, after}
-use Rattle.convert.specs.Laws.Steps.{up_to_most}
+use Rattle.convert.proofs.Laws.Steps.{up_to_most}
 use Rattle.codepages.specs.Answer.{answer}
 use Rattle.codepages.specs.Laws.Passes.{Counts}
 

@@ -4,9 +4,10 @@ use Rattle.std.proofs.Common.{sym, ap, ◌∙◌, ⊎_elim, arith, ne_eqb}
 use Rattle.sizes.specs.Basics.{pick}
 use Rattle.convert.specs.Pages.{page_count, ascii, no_byte, byte}
 use Rattle.convert.specs.Utf8.{row_two, row_three, decode}
-use Rattle.convert.specs.Laws.Pages.{side, byte_most, byte_below}
-use Rattle.convert.specs.Laws.Utf8.{Decoded, from_one, from_two, from_three, from_four, decoded_by, row_two_is, row_three_is, two_is, three_is, scalar_below}
-use Rattle.convert.specs.Laws.Places.{groups, look, group_of, point, point_low, point_high, look_some, look_none, reach, group_point, lowest_point}
+use Rattle.convert.proofs.Laws.Pages.{side, byte_most, byte_below}
+use Rattle.convert.proofs.Laws.Utf8.{Decoded, from_one, from_two, from_three, from_four, decoded_by, row_two_is, row_three_is, two_is, three_is, scalar_below}
+use Rattle.convert.specs.Laws.Places.{groups, look, group_of}
+use Rattle.convert.proofs.Laws.Places.{point, point_low, point_high, look_some, look_none, reach, group_point, lowest_point}
 use Rattle.convert.specs.Convert.{from}
 use Rattle.codepages.specs.Laws.Passes.{Ready, fits, Wrote, wrote}
 use Rattle.codepages.specs.Laws.Branches.{past, decode_two, decode_three, decode_four, lead_size, from_at, from_some, from_ready}

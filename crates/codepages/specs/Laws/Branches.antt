@@ -9,9 +9,9 @@ use Rattle.sizes.specs.Basics.{pick}
 use Rattle.convert.specs.Pages.{page_count, ascii, no_code_point, no_byte, page, listed, code_point, byte}
 use Rattle.convert.specs.Utf8.{two_bytes, three_bytes, four_bytes, surrogates, encode, row_two, row_three, decode}
 use Rattle.convert.specs.Convert.{invalid, converts, to, from, way, valid_up_to, output}
-use Rattle.convert.specs.Laws.Pages.{side, point_high, point_byte, byte_low, byte_below, byte_none}
-use Rattle.convert.specs.Laws.Utf8.{encode_one, encode_two, encode_three, encode_four, encode_length, row_one_is, row_two_is, row_three_is, decoded_by, Decoded, from_one, from_two, from_three, from_four, encode_decode}
-use Rattle.convert.specs.Laws.Steps.{to_converts, to_invalid, from_converts, from_invalid}
+use Rattle.convert.proofs.Laws.Pages.{side, point_high, point_byte, byte_low, byte_below, byte_none}
+use Rattle.convert.proofs.Laws.Utf8.{encode_one, encode_two, encode_three, encode_four, encode_length, row_one_is, row_two_is, row_three_is, decoded_by, Decoded, from_one, from_two, from_three, from_four, encode_decode}
+use Rattle.convert.proofs.Laws.Steps.{to_converts, to_invalid, from_converts, from_invalid}
 use Rattle.ascii.specs.Runs.{Run}
 use Rattle.ascii.specs.Laws.{ascii_one, ascii_more}
 use Rattle.codepages.specs.Laws.Passes.{half, Tally, tally, tally_step, Grown, sets_append, passes_ascii, Passes, passes_one, Skips, skips, Found, found_some, Ready, not_refused, fits, Wrote, wrote}

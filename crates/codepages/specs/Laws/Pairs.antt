@@ -6,8 +6,8 @@ use Rattle.sizes.specs.Basics.{pick}
 use Rattle.convert.specs.Pages.{page_count, ascii, no_byte, page, code_point}
 use Rattle.convert.specs.Utf8.{two_bytes, three_bytes, four_bytes, encode}
 use Rattle.convert.specs.Convert.{to, output}
-use Rattle.convert.specs.Laws.Pages.{side, rule, point_low}
-use Rattle.convert.specs.Laws.Utf8.{encode_one, encode_two, encode_length}
+use Rattle.convert.proofs.Laws.Pages.{side, rule, point_low}
+use Rattle.convert.proofs.Laws.Utf8.{encode_one, encode_two, encode_length}
 use Rattle.codepages.specs.Laws.Passes.{Passes, skips, overwritten, Ready, Wrote, wrote}
 use Rattle.codepages.specs.Laws.Branches.{point_none, point_entry, put_two, to_ready}
 

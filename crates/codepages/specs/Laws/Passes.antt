@@ -6,9 +6,9 @@ use Rattle.std.proofs.Math.Seq.{length-sets}
 use Rattle.convert.specs.Pages.{ascii}
 use Rattle.convert.specs.Utf8.{decode}
 use Rattle.convert.specs.Convert.{Step, invalid, converts, way, valid_up_to, output}
-use Rattle.convert.specs.Laws.Pages.{side, point_low, byte_low}
-use Rattle.convert.specs.Laws.Utf8.{encode_one, row_one_is}
-use Rattle.convert.specs.Laws.Steps.{up_to_step, output_step, up_to_invalid, output_invalid, up_to_end, output_end, to_converts, from_converts}
+use Rattle.convert.proofs.Laws.Pages.{side, point_low, byte_low}
+use Rattle.convert.proofs.Laws.Utf8.{encode_one, row_one_is}
+use Rattle.convert.proofs.Laws.Steps.{up_to_step, output_step, up_to_invalid, output_invalid, up_to_end, output_end, to_converts, from_converts}
 use Rattle.ascii.specs.Runs.{Ascii}
 
 -- a slice is shorter than that

@@ -13,8 +13,8 @@ use Rattle.convert.specs.Table.{entries}
 use Rattle.convert.specs.Pages.{page_count, ascii, no_code_point, no_byte, page, listed, code_point}
 use Rattle.convert.specs.Utf8.{two_bytes, three_bytes, encode}
 use Rattle.convert.specs.Convert.{Step, to}
-use Rattle.convert.specs.Laws.Pages.{side, both, both_left, both_right, is_true, every, at_each, length_page, point_low, point_high}
-use Rattle.convert.specs.Laws.Utf8.{encode_one, encode_two}
+use Rattle.convert.proofs.Laws.Pages.{side, both, both_left, both_right, is_true, every, at_each, length_page, point_low, point_high}
+use Rattle.convert.proofs.Laws.Utf8.{encode_one, encode_two}
 use Rattle.codepages.specs.Laws.Passes.{Skips, skips, skips_more}
 use Rattle.codepages.specs.Laws.Branches.{to_at}
 

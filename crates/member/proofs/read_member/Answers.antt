@@ -1,6 +1,6 @@
 use Rattle.layout.specs.Steps.Slices.{bytes_of}
 use Rattle.member.specs.Laws.Whole.{not_delivered}
-use Rattle.answer.specs.Laws.Holds.{demand3}
+use Rattle.answer.proofs.Laws.Holds.{demand3}
 use Rattle.member.proofs.read_member.Goals as goal
 
 pub read_from_step-requires : goal.read_from_step-requires

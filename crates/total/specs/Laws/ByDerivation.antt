@@ -14,7 +14,7 @@ use Rattle.grammar.specs.Member.{Member, nodes, cells}
 use Rattle.grammar.specs.Laws.Member.Checked.{checked}
 use Rattle.answer.specs.Answer.{wide, long, refusal, accepted, answer_of, nodes_after, cells_after}
 use Rattle.answer.specs.Demand3.{Demand3, Accepted}
-use Rattle.answer.specs.Laws.Holds.{demand3}
+use Rattle.answer.proofs.Laws.Holds.{demand3}
 use Rattle.grammar.specs.Laws.Member.Demanded.{derivation_checked}
 use Rattle.total.specs.declared.LeafTotal.{LeafTotal}
 use Rattle.total.specs.declared.DimensionTotals.{DimensionTotals}

@@ -12,7 +12,7 @@ use Rattle.grammar.specs.Laws.Member.Checked.{checked}
 use Rattle.answer.specs.Answer.{refusal, accepted}
 use Rattle.member.specs.Laws.IntoLists.{LongEnough, into_lists, Stored, all_stored, not_stored}
 use Rattle.grammar.specs.Laws.Member.Demanded as demanded
-use Rattle.answer.specs.Laws.Holds.{not_zero}
+use Rattle.answer.proofs.Laws.Holds.{not_zero}
 use Rattle.member.specs.Laws.Whole.{as_checked}
 
 -- it was accepted with the answer a, and the lists begin with its records

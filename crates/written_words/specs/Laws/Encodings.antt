@@ -6,7 +6,7 @@ use Rattle.layout.specs.Words.{word32}
 use Rattle.layout.specs.Laws.Words.{word_same}
 use Rattle.convert.specs.Pages.{first_page, page_count}
 use Rattle.convert.specs.Convert.{Step, valid_up_to, output, unknown_page, no_character, output_short, Outcome, refused, written, outcome, converted}
-use Rattle.convert.specs.Laws.Steps.{up_to_most}
+use Rattle.convert.proofs.Laws.Steps.{up_to_most}
 
 -- the number that an outcome gives of a text of that length, for an output of `room` bytes
 Within : ℕ → ℕ → Outcome → Type 0

@@ -2,7 +2,7 @@ use borrow.Author.Tests.{leb-true}
 use native.Mathlib.Omega.{arith}
 use Rattle.sizes.specs.Basics.{pick}
 use Rattle.case_state.specs.Tests.{blocks_of, counts_ok}
-use Rattle.case_state.specs.Laws.Counting.{fewest_below}
+use Rattle.case_state.proofs.Laws.Counting.{fewest_below}
 use Rattle.case_state.proofs.valid.counts_ok.Goals as goal
 
 pub overflow_sub-blocks : goal.overflow_sub-blocks

@@ -1,7 +1,7 @@
 use Rattle.std.proofs.Common.{◌≡◌, sym, ◌∙◌}
 use native.Mathlib.Omega.{arith}
 use Rattle.case_state.specs.Tests.{kinds_ok}
-use Rattle.case_state.specs.Laws.Valid.{kinds_bad, kinds_next}
+use Rattle.case_state.proofs.Laws.Valid.{kinds_bad, kinds_next}
 use Rattle.case_state.proofs.valid.kinds_ok.Goals as goal
 
 pub loop-i-init : goal.loop-i-init

@@ -1,6 +1,6 @@
 use mathlib.Core.Path.{refl, sym, ◌∙◌}
 use native.Mathlib.Omega.{arith}
-use Rattle.case_state.specs.Laws.Valid.{rest_bad, rest_next, rest_none}
+use Rattle.case_state.proofs.Laws.Valid.{rest_bad, rest_next, rest_none}
 use Rattle.case_state.proofs.valid.rest_ok.Goals as goal
 
 pub loop-i-init : goal.loop-i-init

@@ -2,7 +2,7 @@ use mathlib.Core.Path.{sym, ◌∙◌}
 use borrow.Author.Tests.{leb-true}
 use Rattle.sizes.specs.Basics.{pick}
 use Rattle.case_state.specs.Tests.{state_ok}
-use Rattle.case_state.specs.Laws.Valid.{kinds_few}
+use Rattle.case_state.proofs.Laws.Valid.{kinds_few}
 use Rattle.case_state.proofs.valid.state_ok.Goals as goal
 
 pub rest_ok-t4-requires : goal.rest_ok-t4-requires

@@ -14,9 +14,9 @@ use Rattle.sizes.specs.Basics.{pick}
 use Rattle.case_stream.specs.Stream.{Element, limit, Stop, ended, bad, full, Says, skip, finish, block, wrong, gives, says, Why, in_group, in_block, stop, Meaning, means, with_element, kind_of, codes, groups, too_many, within, meaning}
 use Rattle.case_stream.specs.Machine.{State, gather, acting, stopped, endless, has, less, Step, halts, goes, after, takes, next, blocked, acts, moves, out, put, run, start}
 use Rattle.case_stream.specs.Cuts.{out_of}
-use Rattle.case_stream.specs.Laws.Compose.{w_endless, compose}
-use Rattle.case_stream.specs.Laws.Taken.{feed_keeps, run_idle}
-use Rattle.case_stream.specs.Laws.Whole.{room_halts, room_goes, room_silent, room_stopped, moves_acting, gather_part, gather_whole, block_part, block_whole}
+use Rattle.case_stream.proofs.Laws.Compose.{w_endless, compose}
+use Rattle.case_stream.proofs.Laws.Taken.{feed_keeps, run_idle}
+use Rattle.case_stream.proofs.Laws.Whole.{room_halts, room_goes, room_silent, room_stopped, moves_acting, gather_part, gather_whole, block_part, block_whole}
 
 module _ (kinds : List ℕ) (bias : ℕ) where
   -- ---- 1. the steps of `run`

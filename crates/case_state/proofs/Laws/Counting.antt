@@ -6,7 +6,7 @@ use borrow.Author.Tests.{leb-true, le-leb}
 use Rattle.sizes.specs.Basics.{pick}
 use Rattle.case_state.specs.Cursor.{Counts}
 use Rattle.case_state.specs.Tests.{blocks_of, fewest, counts_ok}
-use Rattle.case_state.specs.Laws.Tests.{both}
+use Rattle.case_state.proofs.Laws.Tests.{both}
 
 -- ---- 1. on from one code to the next
 

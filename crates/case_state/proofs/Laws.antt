@@ -1,4 +1,4 @@
 -- The laws of the state and of its test.
-pub mod Tests
 pub mod Counting
+pub mod Tests
 pub mod Valid

@@ -12,7 +12,7 @@ use Rattle.std.specs.Float.Ieee.{binary64, up, down, odd, of_fields, of_bits, lo
 use Rattle.std.specs.Float.Ieee.Exact.{HasValue, odd_sign}
 use Rattle.sizes.specs.Basics.{pick}
 use Rattle.counts.specs.Count.{no_count, exponent, significand, divisor, count}
-use Rattle.counts.specs.Laws.Value.{fields, normal, zero_value}
+use Rattle.counts.proofs.Laws.Value.{fields, normal, zero_value}
 
 -- ---- numbers of the form s * 2 ^ x over 2 ^ l
 

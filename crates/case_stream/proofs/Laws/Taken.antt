@@ -7,8 +7,8 @@ use Rattle.std.proofs.Math.ListN.{length, length-append}
 use Rattle.sizes.specs.Basics.{pick}
 use Rattle.case_stream.specs.Stream.{Element, limit, ended, bad, full, Says, skip, finish, block, wrong, gives, says}
 use Rattle.case_stream.specs.Machine.{State, gather, acting, stopped, Room, endless, has, less, Step, halts, goes, after, gathered, takes, next, blocked, acts, moves, step, Out, out, put, feed, run}
-use Rattle.case_stream.specs.Laws.Steps.{Feeds, over, first, feeds}
-use Rattle.case_stream.specs.Laws.OneAnswer.{Ends, at_end, ends}
+use Rattle.case_stream.proofs.Laws.Steps.{Feeds, over, first, feeds}
+use Rattle.case_stream.proofs.Laws.OneAnswer.{Ends, at_end, ends}
 
 abbrev pub taken : State → ℕ
 taken (gather at n g) = n

@@ -13,8 +13,8 @@ use Rattle.case_state.specs.declared.Cursor.{Cursor}
 use Rattle.case_state.specs.declared.State.{State}
 use Rattle.case_state.specs.Cursor.{Good, Stopped, StoppedBy, by_252, by_22, by_7}
 use Rattle.case_state.specs.Tests.{gather_ok, block_ok, acting_ok, ended_ok, bad_ok, full_ok, stop_ok, resting_ok, cursor_ok, kinds_ok, rest_ok, state_ok}
-use Rattle.case_state.specs.Laws.Tests.{both}
-use Rattle.case_state.specs.Laws.Counting.{counts_sound, counts_complete}
+use Rattle.case_state.proofs.Laws.Tests.{both}
+use Rattle.case_state.proofs.Laws.Counting.{counts_sound, counts_complete}
 
 module _ (count : ℕ) (c : Cursor) (in_case : c.at < count) where
   -- ---- 1. what passes is good

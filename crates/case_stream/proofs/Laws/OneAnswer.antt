@@ -6,8 +6,8 @@ use mathlib.Core.List.{List, [], append-nil}
 use Rattle.case_stream.specs.Stream.{Element}
 use Rattle.case_stream.specs.Machine.{State, Room, fits, endless, has, less, halts, step, Out, out, put, feed, run}
 use Rattle.case_stream.specs.Cuts.{Calls, no_call, call}
-use Rattle.case_stream.specs.Laws.Steps.{Feeds, over, first, feeds, feed_halts, put_nil, put_put}
-use Rattle.case_stream.specs.Laws.Compose.{less_less, less_nil, w_endless, compose}
+use Rattle.case_stream.proofs.Laws.Steps.{Feeds, over, first, feeds, feed_halts, put_nil, put_put}
+use Rattle.case_stream.proofs.Laws.Compose.{less_less, less_nil, w_endless, compose}
 
 module _ (kinds : List ℕ) (bias : ℕ) where
   -- where a call ends, no step is left

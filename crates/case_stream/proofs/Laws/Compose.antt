@@ -7,7 +7,7 @@ use mathlib.Core.List.{List, [], ◌∷◌, ◌++◌}
 use Rattle.sizes.specs.Basics.{pick}
 use Rattle.case_stream.specs.Stream.{Element, limit, Says, skip, finish, block, wrong, gives, says}
 use Rattle.case_stream.specs.Machine.{State, gather, acting, stopped, Room, fits, endless, has, less, Step, halts, goes, takes, blocked, acts, moves, step, Out, out, put, feed}
-use Rattle.case_stream.specs.Laws.Steps.{Feeds, over, first, feeds, feed_goes, put_nil, put_put}
+use Rattle.case_stream.proofs.Laws.Steps.{Feeds, over, first, feeds, feed_goes, put_nil, put_put}
 
 pub less_less : (r : Room) (es fs : List Element) → less (less r es) fs ≡ less r (es ++ fs)
 unfolding less

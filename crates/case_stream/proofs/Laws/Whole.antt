@@ -10,8 +10,8 @@ use Rattle.std.proofs.Math.ListN.{length, length-append}
 use Rattle.sizes.specs.Basics.{pick}
 use Rattle.case_stream.specs.Stream.{Element, limit, Stop, Says, block, says}
 use Rattle.case_stream.specs.Machine.{State, gather, acting, stopped, Room, has, less, halts, goes, after, gathered, takes, next, blocked, acts, moves, step, out, put, feed}
-use Rattle.case_stream.specs.Laws.Steps.{feed_halts, feed_goes, put_nil}
-use Rattle.case_stream.specs.Laws.Compose.{less_nil}
+use Rattle.case_stream.proofs.Laws.Steps.{feed_halts, feed_goes, put_nil}
+use Rattle.case_stream.proofs.Laws.Compose.{less_nil}
 
 module _ (kinds : List ℕ) (bias : ℕ) (r : Room) (roomy : has r ≡ true) where
   -- ---- 1. steps

@@ -6,9 +6,9 @@ use Rattle.sizes.specs.Basics.{pick}
 use Rattle.convert.specs.Pages.{first_page, page_count, no_code_point, no_byte, code_point, byte}
 use Rattle.convert.specs.Utf8.{encode, decode}
 use Rattle.convert.specs.Convert.{SameText, empty, more, Step, invalid, converts, to, from, valid_up_to, output, unknown_page, no_character, output_short, Outcome, refused, written, outcome, converted}
-use Rattle.convert.specs.Laws.Pages.{side, point_byte, byte_point, byte_below}
-use Rattle.convert.specs.Laws.Utf8.{encode_length, scalar_below, decode_encode, encode_decode}
-use Rattle.convert.specs.Laws.Steps.{up_to_step, output_step, up_to_invalid, output_invalid, up_to_end, output_end, up_to_most, to_converts, to_invalid, from_converts, from_invalid}
+use Rattle.convert.proofs.Laws.Pages.{side, point_byte, byte_point, byte_below}
+use Rattle.convert.proofs.Laws.Utf8.{encode_length, scalar_below, decode_encode, encode_decode}
+use Rattle.convert.proofs.Laws.Steps.{up_to_step, output_step, up_to_invalid, output_invalid, up_to_end, output_end, up_to_most, to_converts, to_invalid, from_converts, from_invalid}
 
 -- ---- what a direction makes of a text that is the same as another
 

@@ -5,8 +5,8 @@ use Rattle.std.proofs.Common.{sym, ◌∙◌}
 use Rattle.case_stream.specs.Stream.{Element, meaning}
 use Rattle.case_stream.specs.Machine.{State, fits, out, feed, start}
 use Rattle.case_stream.specs.Cuts.{Calls, out_of}
-use Rattle.case_stream.specs.Laws.OneAnswer.{one_answer}
-use Rattle.case_stream.specs.Laws.Meaning.{run_means}
+use Rattle.case_stream.proofs.Laws.OneAnswer.{one_answer}
+use Rattle.case_stream.proofs.Laws.Meaning.{run_means}
 
 -- Calls from a start, then one with room that was offered all that is left and took and wrote nothing: the elements joined together, the final
 -- state and the bytes never taken are those of the whole stream's meaning, which knows of no state and no cut.

@@ -4,7 +4,7 @@ use Rattle.std.proofs.Common.{sym, ◌∙◌, ⊎_elim, arith, ltb-true, ltb-fal
 use Rattle.sizes.specs.Basics.{pick}
 use Rattle.convert.specs.Pages.{ascii, no_code_point}
 use Rattle.convert.specs.Utf8.{two_bytes, three_bytes, four_bytes, surrogates, after_surrogates, scalar, encode, continuation, shortest, row_two, row_three, row_four, row, decode}
-use Rattle.convert.specs.Laws.Pages.{side}
+use Rattle.convert.proofs.Laws.Pages.{side}
 
 -- ---- each row
 
