@@ -1,3 +1,4 @@
 -- The laws of counts.
 pub mod Value
+pub mod Normal
 pub mod Whole

@@ -1,7 +1,8 @@
 use Rattle.std.proofs.lemmas.Bool.{le-leb, lt-leb}
 use mathlib.Core.Path.{sym, ◌∙◌}
 use Rattle.layout.specs.Steps.Slices.{bytes_of}
-use Rattle.contents.specs.Laws.Plain.{plain_value, plain_answers}
+use Rattle.contents.specs.Laws.Plain.{plain_value}
+use Rattle.contents.proofs.Laws.Plain.{plain_answers}
 use Rattle.value_words.proofs.ValueCalls.{with_value, without_value}
 use Rattle.value_words.proofs.value_answer.Goals as goal
 

@@ -4,7 +4,7 @@ use Rattle.sizes.specs.Basics.{pick, among}
 use Rattle.layout.specs.Steps.Slices.{bytes_of}
 use Rattle.contents.specs.Contents.{chosen, either}
 use Rattle.contents.specs.Laws.Forms.{form_shows}
-use Rattle.contents.specs.Laws.Figure.{figure_unread, figure_read, figure_other}
+use Rattle.contents.proofs.Laws.Figure.{figure_unread, figure_read, figure_other}
 use Rattle.contents.proofs.figure.figure_at.Goals as goal
 
 pub returns-then-n-ne0 : goal.returns-then-n-ne0

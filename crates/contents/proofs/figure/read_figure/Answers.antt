@@ -1,6 +1,6 @@
 use mathlib.Core.Path.{sym, ◌∙◌}
 use Rattle.layout.specs.Steps.Slices.{bytes_of}
-use Rattle.contents.specs.Laws.Figure.{figure_plain}
+use Rattle.contents.proofs.Laws.Figure.{figure_plain}
 use Rattle.contents.proofs.figure.read_figure.Goals as goal
 
 pub returns-then-plain : goal.returns-then-plain
