@@ -1,7 +1,7 @@
 -- The laws by which a reader that gives the fields is proved from what its callees ensure.
 use Rattle.std.specs.Prelude.{◌≡◌, refl, ◌⊎◌, Bool, true, false, ◌||◌, List, [], ◌∷◌, ℕ, zero, suc, ◌+◌, ◌-◌, ◌≤◌, ◌<◌, take, drop, eqb, leb}
 use Rattle.std.proofs.Math.Path.{ap}
-use Rattle.std.proofs.Common.{sym, ◌∙◌, subst, inl, inr, sub-one, arith, length-drop, drop-drop, length-take-le}
+use Rattle.std.proofs.Common.{sym, ◌∙◌, inl, inr, sub-one, arith, length-drop, length-take-le}
 use Rattle.std.proofs.Math.Logic.{⊎_elim}
 use Rattle.std.proofs.lemmas.Bool.{false≢true}
 use Rattle.std.proofs.Math.Nat.{add-sub_cancel_left}
@@ -9,20 +9,16 @@ use Rattle.std.proofs.Math.ListN.{length}
 use borrow.Author.Tests.{eqb-true, ne_eqb, leb-true, leb-false, le-leb}
 use Rattle.layout.specs.declared.Span.{Span}
 use Rattle.layout.specs.declared.Span.TheVariants.{Of}
-use Rattle.layout.specs.declared.Span.TheVariants as span
 use Rattle.layout.specs.declared.Step.{Step}
 use Rattle.layout.specs.declared.Step.TheVariants.{Next, Refused}
 use Rattle.sizes.specs.Basics.{among, pick}
-use Rattle.grammar.specs.Layout.{Order, Test, any_number, the_number, a_bool, one_of, passes, Content, suits, Layout, empty, number, string, ◌▸◌, times, Tree, spell, Bytes, undigits}
+use Rattle.grammar.specs.Layout.{Order, Test, any_number, the_number, a_bool, one_of, passes, Content, suits, Layout, empty, number, string, ◌▸◌, times, spell, Bytes}
 use Rattle.layout.specs.Steps.Slices.{drop_bytes}
 use Rattle.grammar.specs.Laws.Layout.Read.{Got, got, no, bind, read_number, read_times, read, zero_byte}
 use Rattle.grammar.specs.Laws.Layout as laws
 use Rattle.grammar.specs.Laws.Layout.Places.{Announced, announced, too_few, counted_view, announced_length}
-use Rattle.grammar.specs.Laws.Layout.IfGot.{IfGot, is_got, is_no, bind_got, pick_got, of_got}
-use Rattle.layout.specs.Reads.{forget, step, chain, Reads, peek, span_of, part, bytes, past}
-use Rattle.layout.specs.Steps.Chain.{then, empty_of, times_none, times_more}
-use Rattle.layout.specs.Steps.Numbers.{switch_of}
-use Rattle.layout.specs.Steps.Counted.{string_of}
+use Rattle.layout.specs.Reads.{step, chain, Reads, peek, span_of, part, bytes}
+use Rattle.layout.specs.Steps.Chain.{empty_of, times_none, times_more}
 use Rattle.store.specs.declared.Name.{Name}
 use Rattle.store.specs.Values.{bit}
 use Rattle.store.specs.Fields.{lent, Fields, placed_all, placed}

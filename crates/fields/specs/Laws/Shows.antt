@@ -7,7 +7,7 @@ use Rattle.std.proofs.Math.Seq.{drop-drop}
 use Rattle.layout.specs.declared.Step.{Step}
 use Rattle.layout.specs.declared.Step.TheVariants.{Next, Refused}
 use Rattle.sizes.specs.Basics.{pick}
-use Rattle.grammar.specs.Layout.{Order, Test, any_number, passes, Layout, empty, number, ◌▸◌, Tree, spell, Bytes, undigits}
+use Rattle.grammar.specs.Layout.{Order, Test, passes, Layout, empty, number, ◌▸◌, Tree, spell, Bytes, undigits}
 use Rattle.layout.specs.Steps.Slices.{drop_bytes}
 use Rattle.grammar.specs.Laws.Layout.Read.{Got, got, no, bind, read_number, read, too_short}
 use Rattle.grammar.specs.Laws.Layout as laws

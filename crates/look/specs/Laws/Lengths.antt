@@ -3,7 +3,7 @@
 -- name has 255 bytes.
 use Rattle.std.specs.Prelude.{◌≡◌, refl, Bool, true, false, List, [], ◌∷◌, ◌++◌, map, ℕ, zero, suc, length, replicate}
 use Rattle.sizes.specs.Basics.{pick, le, undigit, among}
-use Rattle.grammar.specs.Layout.{Tree, passes, suits, undigits}
+use Rattle.grammar.specs.Layout.{passes, suits, undigits}
 use Rattle.grammar.specs.Laws.Layout.Read.{Got, got, no, bind, read_number, read_counted, read_times, read, refusal}
 use Rattle.look.specs.Look.{TableLook, PTTable_look_name, PVSeparator_style_name, PVCell_style_name, PVText_style_name}
 

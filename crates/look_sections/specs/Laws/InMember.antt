@@ -7,7 +7,7 @@ use Rattle.sizes.specs.Sizes.{member_bytes}
 use Rattle.grammar.specs.Layout.{little, Layout, ◌▸◌, Tree, digits, spell, size, Valid}
 use Rattle.grammar.specs.Sections.{HeaderStart, HeaderRest, Titles, Footnotes, Areas, Borders, PrintSettings, TableSettings, Formats, Front}
 use Rattle.grammar.specs.Table.{Dimensions, Axes, Cells}
-use Rattle.grammar.specs.Member.{Member, version, front_section, dimensions_section, axes_section, cells_section, dimensions, cells, nodes, places, dimensions_at, cells_start, final, MemberDerivation, AsDemanded}
+use Rattle.grammar.specs.Member.{Member, version, front_section, dimensions_section, axes_section, cells_section, dimensions, cells, dimensions_at, cells_start, final, MemberDerivation, AsDemanded}
 
 -- the two sections, one after the other
 abbrev pub Sections : ℕ → Layout

@@ -3,7 +3,7 @@ use Rattle.std.specs.Prelude.{◌≡◌, true, false, refl}
 use Rattle.std.specs.Float.Ieee.{of_int, to_bits}
 use Rattle.sizes.specs.Basics.{pick}
 use Rattle.look.specs.declared.Separator.TheVariants.{NotDrawn, Drawn}
-use Rattle.styles.specs.Styles.{listed, mixed, background, opaque, size, style, halign, valign, margin, single, doubled, stroke, border}
+use Rattle.styles.specs.Styles.{listed, background, opaque, size, style, halign, valign, margin, single, doubled, stroke, border}
 
 -- left, right, center, mixed and decimal; and what 002 does not list
 halign_listed : (halign 0 ≡ 2) × (halign 1 ≡ 4) × (halign 2 ≡ 0) × (halign 3 ≡ 64173) × (halign 4 ≡ 61453) × (halign 5 ≡ 0)

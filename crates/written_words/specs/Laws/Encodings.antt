@@ -1,6 +1,6 @@
 -- No place and no length of a text loses a bit in a word, where text and output are shorter than 4 GiB.
 use Rattle.std.specs.Prelude.{◌≡◌, refl, Bool, true, false, List, ℕ, ◌-◌, ◌^◌, ◌≤◌, ◌<◌, length, ltb}
-use Rattle.std.proofs.Common.{sym, ap, arith, ltb-false}
+use Rattle.std.proofs.Common.{arith, ltb-false}
 use Rattle.sizes.specs.Basics.{pick}
 use Rattle.layout.specs.Words.{word32}
 use Rattle.layout.specs.Laws.Words.{word_same}

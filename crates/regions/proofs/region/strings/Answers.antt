@@ -1,8 +1,6 @@
 use Rattle.layout.specs.Steps.Chain.{left_more, left_none, left_kept}
 use Rattle.regions.proofs.region.strings.Goals as goal
 
--- LEFT loop-k-init: λ c r h. h
-
 pub returns-in-Refused : goal.returns-in-Refused
 returns-in-Refused c = left_kept c.loop-k.invariant c.in-Refused.is
 

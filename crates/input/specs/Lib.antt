@@ -1,0 +1,3 @@
+pub mod Stopped
+pub use Rattle.std.specs.Counts
+pub use Rattle.std.specs.Io.KnownBytes

@@ -1,0 +1,11 @@
+use Rattle.store.specs.Laws.Puts.{◌⊳◌, long_plain}
+use Rattle.sections_put.proofs.line.border.Goals as goal
+
+pub returns : goal.returns
+returns c =
+    c.be32-st.ensures
+    ⊳ c.be32-st-2.ensures
+    ⊳ c.be32.ensures
+
+pub shape_of-buf : goal.shape_of-buf
+shape_of-buf c = long_plain (returns c)
