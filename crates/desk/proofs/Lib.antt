@@ -1,2 +1,3 @@
 mod Tests
 mod Names
+pub mod Laws

@@ -7,7 +7,7 @@ use Rattle.layout.specs.declared.Step.{Step}
 use Rattle.layout.specs.Steps.Chain.{empty_of}
 use Rattle.look_rules.specs.StyleRule.{V2StylesRule, V2StylesIfRule}
 use Rattle.look_rules.specs.Checks.{Checks}
-use Rattle.look_rules.specs.Laws.Walk.{of_reads}
+use Rattle.look_rules.proofs.Laws.Walk.{of_reads}
 
 pub with_v2 : (b : Bool) {s : List ℕ} {st r : Step} → b ≡ true → Checks V2StylesRule s st r → Checks (V2StylesIfRule b) s st r
 with_v2 true e h = h

@@ -1,3 +1,2 @@
 pub mod StyleRule
 pub mod Checks
-pub mod Laws

@@ -25,7 +25,7 @@ use Rattle.look.specs.Look.{TableLook}
 use Rattle.look.specs.Answers.{outcome, expected}
 use Rattle.look_write.specs.Laws.Theorems.{of_file}
 use Rattle.look_rules.specs.StyleRule.{style_rule}
-use Rattle.look_rules.specs.Laws.Exactly.{kept_next}
+use Rattle.look_rules.proofs.Laws.Exactly.{kept_next}
 use Rattle.styles.specs.declared.Styles.{Styles}
 use Rattle.styles.specs.Styles.{styles}
 use Rattle.sections_put.specs.Fields.{Sections, longest_sections, fields}

@@ -31,8 +31,8 @@ use Rattle.look.specs.Laws.Bounds.{bounded, most_bytes}
 use Rattle.look.specs.Laws.RefusedExactly as reading
 use Rattle.look_write.specs.Laws.Theorems.{of_file, accepted_exactly, never_two}
 use Rattle.look_rules.specs.StyleRule.{style_rule}
-use Rattle.look_rules.specs.Laws.Exactly as rule
-use Rattle.look_rules.specs.Laws.Styled.{StyledLook}
+use Rattle.look_rules.proofs.Laws.Exactly as rule
+use Rattle.look_rules.proofs.Laws.Styled.{StyledLook}
 use Rattle.grammar.specs.Rule.{Kept}
 use Rattle.styles.specs.Styles.{styles}
 use Rattle.sections_put.specs.Fields.{Sections, longest_sections, fields}

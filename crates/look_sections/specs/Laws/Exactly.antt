@@ -24,7 +24,7 @@ use Rattle.look.specs.Answers.{look-of, outcome, expected}
 use Rattle.look.specs.Laws.RefusedExactly as reading
 use Rattle.look_write.specs.Laws.Theorems.{of_file, fields_are, accepted_exactly, never_two}
 use Rattle.look_rules.specs.StyleRule.{style_rule}
-use Rattle.look_rules.specs.Laws.Exactly as rule
+use Rattle.look_rules.proofs.Laws.Exactly as rule
 use Rattle.styles.specs.Laws.ByFields.{same_styles}
 use Rattle.look_sections.specs.Writing.{sections, sectioning}
 use Rattle.look_sections.specs.Refused.{LookOf, Refused, own, style, too_short, Allowed}

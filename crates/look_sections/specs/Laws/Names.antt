@@ -15,7 +15,7 @@ use Rattle.look.specs.Values as values
 use Rattle.look.specs.Answers.{outcome, expected}
 use Rattle.look_write.specs.Laws.Theorems.{of_file, fields_are, can_be_written}
 use Rattle.look_rules.specs.StyleRule.{style_rule}
-use Rattle.look_rules.specs.Laws.Styled.{StyledArea, StyledLook, styled}
+use Rattle.look_rules.proofs.Laws.Styled.{StyledArea, StyledLook, styled}
 use Rattle.styles.specs.declared.Areas.{Areas}
 use Rattle.styles.specs.Styles.{areas, styles}
 use Rattle.sections_put.specs.Names.{Each, Short, Named}

@@ -1,7 +1,7 @@
 use mathlib.Core.Path.{refl}
 use lib.Dec.{leb}
 use Rattle.look_rules.specs.StyleRule.{align_rule}
-use Rattle.look_rules.specs.Laws.Walk.{asks_number}
+use Rattle.look_rules.proofs.Laws.Walk.{asks_number}
 use Rattle.look_rules.proofs.areas.aligned.Goals as goal
 
 pub returns : goal.returns

@@ -1,5 +1,5 @@
 use Rattle.look_rules.specs.StyleRule.{alignment_rule}
-use Rattle.look_rules.specs.Laws.Walk.{◌⟩◌, of_reads}
+use Rattle.look_rules.proofs.Laws.Walk.{◌⟩◌, of_reads}
 use Rattle.look_rules.proofs.areas.alignment.Goals as goal
 
 pub returns : goal.returns

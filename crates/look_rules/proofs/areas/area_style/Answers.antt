@@ -1,4 +1,4 @@
-use Rattle.look_rules.specs.Laws.Walk.{checks}
+use Rattle.look_rules.proofs.Laws.Walk.{checks}
 use Rattle.look_rules.specs.StyleRule.{AreaStyleRule}
 use Rattle.look_rules.proofs.areas.area_style.Goals as goal
 

@@ -1,4 +1,4 @@
-use Rattle.look_rules.specs.Laws.Walk.{left_more, left_none}
+use Rattle.look_rules.proofs.Laws.Walk.{left_more, left_none}
 use Rattle.look_rules.proofs.areas.areas.Goals as goal
 
 pub loop-k-preserved : goal.loop-k-preserved

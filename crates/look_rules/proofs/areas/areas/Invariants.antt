@@ -1,5 +1,5 @@
 use Rattle.look_rules.specs.StyleRule.{MostAreasRule}
-use Rattle.look_rules.specs.Laws.Walk.{Left}
+use Rattle.look_rules.proofs.Laws.Walk.{Left}
 use Rattle.look_rules.proofs.areas.areas.Given as goal
 
 abbrev pub invariant-loop-k : goal.invariant-loop-k

@@ -1,4 +1,4 @@
-use Rattle.look_rules.specs.Laws.Walk.{checks}
+use Rattle.look_rules.proofs.Laws.Walk.{checks}
 use Rattle.look_rules.specs.StyleRule.{font_rule}
 use Rattle.look_rules.proofs.areas.font.Goals as goal
 

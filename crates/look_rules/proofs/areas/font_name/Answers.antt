@@ -1,5 +1,5 @@
 use Rattle.look_rules.specs.StyleRule.{name_rule}
-use Rattle.look_rules.specs.Laws.Walk.{string_asks}
+use Rattle.look_rules.proofs.Laws.Walk.{string_asks}
 use Rattle.look_rules.proofs.areas.font_name.Goals as goal
 
 pub returns : goal.returns

@@ -1,5 +1,5 @@
 use Rattle.look_rules.specs.StyleRule.{has_height, size_rule}
-use Rattle.look_rules.specs.Laws.Walk.{asks_number}
+use Rattle.look_rules.proofs.Laws.Walk.{asks_number}
 use Rattle.look_rules.proofs.areas.font_size.Goals as goal
 
 pub returns : goal.returns

@@ -1,4 +1,4 @@
-use Rattle.look_rules.specs.Laws.Walk.{checks}
+use Rattle.look_rules.proofs.Laws.Walk.{checks}
 use Rattle.look.specs.Look.{PVText_style_name}
 use Rattle.look_rules.proofs.areas.text_style.Goals as goal
 

@@ -1,6 +1,6 @@
 use Rattle.layout.specs.Steps.Chain.{◌◂◌}
 use Rattle.look_rules.specs.StyleRule.{typeface_rule}
-use Rattle.look_rules.specs.Laws.Walk.{◌⟩◌, of_reads}
+use Rattle.look_rules.proofs.Laws.Walk.{◌⟩◌, of_reads}
 use Rattle.look_rules.proofs.areas.typeface.Goals as goal
 
 pub returns : goal.returns

@@ -1,6 +1,6 @@
 use Rattle.look_rules.specs.StyleRule.{separator_rule}
-use Rattle.look_rules.specs.Laws.Walk.{asks_of}
-use Rattle.look_rules.specs.Laws.Listed.{shows_listed}
+use Rattle.look_rules.proofs.Laws.Walk.{asks_of}
+use Rattle.look_rules.proofs.Laws.Listed.{shows_listed}
 use Rattle.look_rules.proofs.borders.separator.Goals as goal
 
 pub returns : goal.returns

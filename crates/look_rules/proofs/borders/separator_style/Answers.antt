@@ -1,6 +1,6 @@
 use Rattle.layout.specs.Steps.Chain.{◌◂◌}
 use Rattle.look.specs.Look.{PVSeparator_style_name}
-use Rattle.look_rules.specs.Laws.Walk.{◌⟩◌, of_reads}
+use Rattle.look_rules.proofs.Laws.Walk.{◌⟩◌, of_reads}
 use Rattle.look_rules.proofs.borders.separator_style.Goals as goal
 
 pub returns : goal.returns

@@ -1,5 +1,5 @@
 use Rattle.look_rules.specs.StyleRule.{separator_rule}
-use Rattle.look_rules.specs.Laws.Walk.{Left}
+use Rattle.look_rules.proofs.Laws.Walk.{Left}
 use Rattle.look_rules.proofs.borders.separators.Given as goal
 
 abbrev pub invariant-loop-k : goal.invariant-loop-k

@@ -1,4 +1,4 @@
-use Rattle.look_rules.specs.Laws.Walk.{checks}
+use Rattle.look_rules.proofs.Laws.Walk.{checks}
 use Rattle.look_rules.proofs.check.sections.Goals as goal
 
 pub returns : goal.returns

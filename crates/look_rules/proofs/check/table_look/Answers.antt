@@ -3,7 +3,7 @@ use Rattle.grammar.specs.Rule.{plain}
 use Rattle.layout.specs.Steps.Numbers.{tested_of}
 use Rattle.look.specs.Look.{PTTable_look_name, settings}
 use Rattle.look_rules.specs.StyleRule.{◌▹◌, V2StylesIfRule, sections_rule, style_rule}
-use Rattle.look_rules.specs.Laws.Walk.{◌⟩◌, of_reads, switch_of}
+use Rattle.look_rules.proofs.Laws.Walk.{◌⟩◌, of_reads, switch_of}
 use Rattle.look_rules.proofs.check.table_look.Goals as goal
 
 pub returns : goal.returns

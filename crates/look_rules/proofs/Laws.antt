@@ -1,8 +1,8 @@
 -- The laws of the rule of styles.
-pub mod Walk
+pub mod Exactly
+pub mod Examples
+pub mod Kept
 pub mod Listed
 pub mod Own
-pub mod Exactly
-pub mod Kept
 pub mod Styled
-mod Examples
+pub mod Walk

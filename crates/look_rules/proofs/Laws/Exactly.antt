@@ -15,7 +15,7 @@ use Rattle.layout.specs.Reads.{forget}
 use Rattle.grammar.specs.Conventions.{int16, int32}
 use Rattle.look.specs.Look.{name, Separator, TableLook}
 use Rattle.look_rules.specs.StyleRule.{asks, separator_rule, last_valign, last_halign, align_rule, alignment_rule, size_rule, font_rule, name_rule, typeface_rule, AreaStyleRule, MostAreasRule, V2StylesIfRule, style_rule}
-use Rattle.look_rules.specs.Laws.Own.{Own, same, own, Owns, Given, own_reading}
+use Rattle.look_rules.proofs.Laws.Own.{Own, same, own, Owns, Given, own_reading}
 
 -- ---- the rule's own refusals
 

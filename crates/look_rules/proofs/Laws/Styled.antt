@@ -27,9 +27,9 @@ use Rattle.look.specs.Look.{Separator, PVSeparatorStyle, PVCellStyle, AreaStyle,
 use Rattle.look.specs.Values as values
 use Rattle.look.specs.Answers.{v2-data, look-of, accepted, expected}
 use Rattle.look_rules.specs.StyleRule.{listed, listed_border, last_valign, last_halign, most_height, height, style_rule}
-use Rattle.look_rules.specs.Laws.Listed.{fields_listed, of_tree, of_border}
-use Rattle.look_rules.specs.Laws.Exactly.{numbers, kept_next, given, refused_exactly}
-use Rattle.look_rules.specs.Laws.Kept.{KeptArea, Listed, sep3_if, look_kept}
+use Rattle.look_rules.proofs.Laws.Listed.{fields_listed, of_tree, of_border}
+use Rattle.look_rules.proofs.Laws.Exactly.{numbers, kept_next, given, refused_exactly}
+use Rattle.look_rules.proofs.Laws.Kept.{KeptArea, Listed, sep3_if, look_kept}
 
 -- ---- the statements
 

@@ -15,7 +15,7 @@ use Rattle.grammar.specs.Laws.Layout.Read.{Got, got, no, bind, read_times, read}
 use Rattle.grammar.specs.Laws.Layout.Check.{check_times, judge, check}
 use Rattle.grammar.specs.Laws.Layout.Places.{Within, within, took, took_length}
 use Rattle.layout.specs.Steps.Slices.{drop_bytes}
-use Rattle.look_rules.specs.Laws.Walk.{check_number}
+use Rattle.look_rules.proofs.Laws.Walk.{check_number}
 
 -- what a rule makes of a reading: the same; or a refusal of its own, where the reading has a tree
 pub data Own {A : Type 0} (P : ℕ → ℕ → Type 0) : Got A → Got A → Type 0 where
