@@ -1,1 +1,3 @@
 mod Calling
+pub mod Laws
+pub mod Theorem

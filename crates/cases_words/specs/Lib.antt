@@ -1,4 +1,2 @@
 pub mod StateWords
 pub mod Calls
-pub mod Laws
-pub mod Theorem

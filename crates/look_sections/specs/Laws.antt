@@ -1,4 +1,3 @@
 pub mod InMember
 pub mod Names
 pub mod Exactly
-pub mod Calls

@@ -1,2 +1,3 @@
 mod Lent
 mod Nth
+pub mod Isolation

@@ -1,3 +1,1 @@
 pub mod Turned
-pub mod Laws
-pub mod Theorem

@@ -14,7 +14,7 @@ use Rattle.store.specs.Puts.{PutsWords}
 use Rattle.store.specs.Deliver as store
 use Rattle.store.specs.Laws.Puts.{with_room}
 use Rattle.look_sections.specs.Writing.{Wrote}
-use Rattle.look_sections.specs.Laws.Calls.{reach_within}
+use Rattle.look_sections.proofs.Laws.Calls.{reach_within}
 use Rattle.written_words.specs.Looks.{step_words}
 use Rattle.written_words.specs.Sections.{Sectioned}
 use Rattle.written_words.proofs.Rewrite.{stored, stored_same, three}

@@ -5,7 +5,8 @@ use Rattle.sizes.specs.Sizes.{answer_words, members_answer_words}
 use Rattle.sizes.specs.Basics.{pick}
 use Rattle.members.specs.Members.{members, list_refusal, share_of, cut}
 use Rattle.members.specs.Laws.Shares.{cut_share}
-use Rattle.members.specs.Isolation.{SameOf, same_answer, same_nodes, same_cells}
+use Rattle.members.specs.Isolation.{SameOf}
+use Rattle.members.proofs.Isolation.{same_answer, same_nodes, same_cells}
 use Rattle.members_words.specs.Members.{call_words, words_at, call_answer_of, MembersRead}
 
 -- the 88 words of member i in an answer

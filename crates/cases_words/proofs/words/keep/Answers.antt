@@ -1,6 +1,6 @@
 use Rattle.sizes.specs.Basics.{pick}
 use Rattle.store.specs.Laws.Puts.{long_words}
-use Rattle.cases_words.specs.Laws.Arrays.{state_long}
+use Rattle.cases_words.proofs.Laws.Arrays.{state_long}
 use Rattle.cases_words.proofs.Calling.{at_front}
 use Rattle.cases_words.specs.StateWords.{state_words_of}
 use Rattle.cases_words.proofs.words.keep.Goals as goal

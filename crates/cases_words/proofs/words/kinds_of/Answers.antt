@@ -1,7 +1,7 @@
 use mathlib.Core.Path.{sym, ◌∙◌}
 use native.Mathlib.Omega.{arith}
 use Rattle.cases_words.specs.StateWords.{kinds_of}
-use Rattle.cases_words.specs.Laws.Arrays.{kinds_long, kinds_word, none_set, one_set, all_set}
+use Rattle.cases_words.proofs.Laws.Arrays.{kinds_long, kinds_word, none_set, one_set, all_set}
 use Rattle.cases_words.proofs.words.kinds_of.Goals as goal
 
 pub loop-i-init : goal.loop-i-init

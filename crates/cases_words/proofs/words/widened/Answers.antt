@@ -2,7 +2,7 @@ use mathlib.Core.Path.{sym, ◌∙◌}
 use native.Mathlib.Omega.{arith}
 use Rattle.cases.specs.Steps.{firsts}
 use Rattle.cases.specs.Laws.Loop.{length_firsts, get_d_firsts}
-use Rattle.cases_words.specs.Laws.Arrays.{none_set, one_set, all_set}
+use Rattle.cases_words.proofs.Laws.Arrays.{none_set, one_set, all_set}
 use Rattle.cases_words.proofs.words.widened.Goals as goal
 
 pub loop-i-init : goal.loop-i-init

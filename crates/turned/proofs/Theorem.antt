@@ -11,8 +11,8 @@ use Rattle.total.specs.Total.{CellSays, member_cells, leaf_sums}
 use Rattle.total.specs.Answers.{answered, there, leafAnswer}
 use Rattle.position.specs.Answers.{position}
 use Rattle.turned.specs.Turned.{AxisOrder, Fitting, to_position, to_index, turn, sums_at}
-use Rattle.turned.specs.Laws.OwnAxes.{n_count, cells_inside}
-use Rattle.turned.specs.Laws.Cells.{none_refused, cells_back, chosen_sums, turn_is}
+use Rattle.turned.proofs.Laws.OwnAxes.{n_count, cells_inside}
+use Rattle.turned.proofs.Laws.Cells.{none_refused, cells_back, chosen_sums, turn_is}
 
 -- a member as demanded, and any axes that fit its n: its own are such (`Laws.OwnAxes.own_fit`)
 module _ (t : Tree Member) (a : AsDemanded t) (x : AxisOrder) (f : Fitting (ns t) x) where

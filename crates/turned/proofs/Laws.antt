@@ -1,3 +1,3 @@
 -- The laws of a member's cells at their positions.
-pub mod OwnAxes
 pub mod Cells
+pub mod OwnAxes

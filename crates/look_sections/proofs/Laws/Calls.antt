@@ -44,7 +44,8 @@ use Rattle.look_sections.specs.Refused as refusals
 use Rattle.look_sections.specs.Refused.{Allowed}
 use Rattle.look_sections.specs.Laws.Names.{styled_look, all_named, names_short}
 use Rattle.look_sections.specs.Laws.Exactly.{refused_exactly, written_exactly}
-use Rattle.look_sections.specs.Laws.InMember as member
+use Rattle.look_sections.specs.Laws.InMember.{Sections as MemberSections, bytes_before, bytes_behind}
+use Rattle.look_sections.proofs.Laws.InMember as member
 
 -- where a number is answered at the end, it is that
 ended : (m room n : ℕ) (c : Step) → chain c (λ _. ending room m) ≡ Next n → m ≡ n
@@ -158,9 +159,9 @@ module _ {s out : List ℕ} {r : Written} {out' : List ℕ} (call : Wrote s out 
 
     -- the sections of a version that is 3
     record Made (v : ℕ) : Type 0 where
-      tree : Tree (member.Sections v)
-      valid : Valid (member.Sections v) tree
-      spells : spell (member.Sections v) tree ≡ written_bytes
+      tree : Tree (MemberSections v)
+      valid : Valid (MemberSections v) tree
+      spells : spell (MemberSections v) tree ≡ written_bytes
 
     made : {v : ℕ} → v ≡ 3 → Made v
     made i = subst Made (sym i) record { tree = derived.tree; valid = derived.valid; spells = derived.spells }
@@ -168,11 +169,11 @@ module _ {s out : List ℕ} {r : Written} {out' : List ℕ} (call : Wrote s out 
     -- in any version 3 derivation of a member, these sections in the place of its own give a derivation again, where the size allows
     -- (InMember.antt says what stays as it was, and what moves)
     pub in_member : {bs : List ℕ} (d : MemberDerivation bs) → version d.tree ≡ 3
-        → let xs = member.bytes_before d.tree ++ (written_bytes ++ member.bytes_behind d.tree d.ends) in length xs ≤ member_bytes → MemberDerivation xs
+        → let xs = bytes_before d.tree ++ (written_bytes ++ bytes_behind d.tree d.ends) in length xs ≤ member_bytes → MemberDerivation xs
     in_member d i =
         let m = made i in
-        let before = member.bytes_before d.tree in
-        let behind = member.bytes_behind d.tree d.ends in
+        let before = bytes_before d.tree in
+        let behind = bytes_behind d.tree d.ends in
         subst (λ (ys : List ℕ). length (before ++ (ys ++ behind)) ≤ member_bytes → MemberDerivation (before ++ (ys ++ behind))) m.spells
         (member.derivation_with d m.tree m.valid)
 

@@ -18,8 +18,8 @@ use Rattle.cases.specs.Theorem as code
 use Rattle.cases.specs.Theorem.{with_it}
 use Rattle.cases_words.specs.StateWords.{state_words, state_words_of, state_of}
 use Rattle.cases_words.specs.Calls.{short_answer, call_answer, roomy, Started, Fed}
-use Rattle.cases_words.specs.Laws.Arrays.{kinds_long, state_long}
-use Rattle.cases_words.specs.Laws.Back.{state_back}
+use Rattle.cases_words.proofs.Laws.Arrays.{kinds_long, state_long}
+use Rattle.cases_words.proofs.Laws.Back.{state_back}
 
 -- the elements that a call with these words of a state wrote
 abbrev pub wrote : List ℕ → List ℕ → List ℕ → List Element

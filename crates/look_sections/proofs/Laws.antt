@@ -1,0 +1,2 @@
+pub mod InMember
+pub mod Calls
