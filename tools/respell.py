@@ -63,6 +63,16 @@ TOLD = {
     "resolve-all": "resolve_all_lem",
     "resolve-in": "resolve_in_lem",
     "free-verdict": "free_verdict_lem",
+    "end-at": "end_where",
+    "frame-of": "frame_said",
+    "leafAnswer": "leaf_answer_of",
+    "noIndex": "no_index_answer",
+    "noPosition": "no_position_answer",
+    "onceEach": "each_axis_once",
+    "refused-start": "refused_start_answer",
+    "refusedAll": "refused_all_answer",
+    "refusedArgument": "refused_argument_answer",
+    "tooLarge": "too_large_answer",
 }
 TOLD_IN = {"answer": {"cell-records": "cell_records_lem"}}
 
@@ -88,7 +98,7 @@ def snake(name):
 def declared():
     names = set()
     for path in texts(".antt"):
-        if os.path.basename(path) in MADE:
+        if os.path.basename(path) in MADE and "/proofs/" in path:
             continue
         text = re.sub(r"--[^\n]*", "", read(path))
         for m in DECLARED.finditer(text):

@@ -21,7 +21,8 @@ use Rattle.grammar.specs.Sections.{versions}
 use Rattle.grammar.specs.RecordWords.{word}
 use Rattle.grammar.specs.Laws.Table.RecordsPoint.{Points, record_of}
 use Rattle.grammar.specs.Member.{version, node_records, dimension_entries, cell_records, MemberDerivation, node_names, dimension_names, cell_values}
-use Rattle.grammar.specs.Laws.Member.RecordsSpelt.{nodes_point, dimensions_point, values_point, part_of_lem}
+use Rattle.grammar.specs.Laws.Member.RecordsSpelt.{dimensions_point, values_point, part_of_lem}
+use Rattle.grammar.proofs.Laws.Member.RecordsSpelt.{nodes_point}
 use Rattle.grammar.specs.Laws.Member.ValidValues.{nodes_valid, dimensions_valid, cells_valid}
 use Rattle.contents.specs.declared.Contents.{Contents}
 use Rattle.contents.specs.Contents.{contents}

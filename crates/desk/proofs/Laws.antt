@@ -12,7 +12,7 @@ use Rattle.grammar.specs.Part.{part_of}
 use Rattle.grammar.specs.Below.{size_of, Below}
 use Rattle.grammar.specs.Member.{nodes, node_records}
 use Rattle.grammar.specs.Laws.Member.RecordsSpelt.{node_width}
-use Rattle.grammar.specs.Laws.Member.NodesBelow.{nodes_below, size_inside}
+use Rattle.grammar.proofs.Laws.Member.NodesBelow.{nodes_below, size_inside}
 use Rattle.answer.specs.Demand3.{Accepted, Demand3}
 use Rattle.desk.specs.Desk.{filled_of, name_of, name_place_of, after_of}
 

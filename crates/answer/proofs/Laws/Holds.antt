@@ -13,10 +13,11 @@ use Rattle.grammar.specs.Laws.Layout.Read.{Got, got, no}
 use Rattle.answer.specs.declared.Answer.{Answer}
 use Rattle.grammar.specs.Member.{Member, cells, nodes, MemberDerivation, AsDemanded, LargeEnough}
 use Rattle.grammar.specs.Refused.{Refused, too_long, inside, left, RefusedWith, by_bytes, few_node_words, few_cell_words}
-use Rattle.grammar.specs.Laws.Member.RefusedBounds.{member_numbers, number_among, place_inside}
-use Rattle.grammar.specs.Laws.Member.RefusedExactly.{checked_exactly}
+use Rattle.grammar.proofs.Laws.Member.RefusedBounds.{member_numbers, number_among, place_inside}
+use Rattle.grammar.proofs.Laws.Member.RefusedExactly.{checked_exactly}
 use Rattle.grammar.specs.Laws.Member.Checked.{checked}
-use Rattle.grammar.specs.Laws.Member.Demanded.{accepted, derivation_checked, one_derivation}
+use Rattle.grammar.specs.Laws.Member.Demanded.{one_derivation}
+use Rattle.grammar.proofs.Laws.Member.Demanded.{accepted, derivation_checked}
 use Rattle.answer.specs.Answer.{refusal, answer_of, nodes_after, cells_after, Delivered}
 use Rattle.answer.specs.Answer as answers
 use Rattle.answer.specs.Demand3.{Accepted, Yields, NoRecords, Demand3}

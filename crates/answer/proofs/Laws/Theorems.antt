@@ -2,7 +2,7 @@
 use Rattle.grammar.specs.Member.{version}
 use Rattle.grammar.specs.Laws.Member.Demanded as demanded
 use Rattle.grammar.specs.Laws.Member.ValidValues.{nodes_valid, dimensions_valid, cells_valid}
-use Rattle.grammar.specs.Laws.Member.NoZeroInside.{member_free, values_free, cell_values_free}
+use Rattle.grammar.proofs.Laws.Member.NoZeroInside.{member_free, values_free, cell_values_free}
 use Rattle.answer.specs.Demand3.{OneDerivation, NoZeroInside, ValuesNoZeroInside}
 
 pub one_derivation : OneDerivation

@@ -12,6 +12,7 @@ use Rattle.grammar.specs.Fails.{Spells, Fails}
 use Rattle.grammar.specs.Laws.Layout.Read.{Got, got, no, bind, lead, read_leading, read, differs}
 use Rattle.layout.specs.Reads.{forget, step, chain, Reads, peek, skip}
 use Rattle.grammar.specs.Laws.Layout as laws
+use Rattle.grammar.proofs.Laws.Layout as exactly
 use Rattle.layout.specs.Steps.Runs.{begins, leading_of}
 use Rattle.fields.specs.Gives.{Found, Shows}
 use Rattle.fields.specs.Laws.Shows.{Read, tree_of, number_shows}
@@ -92,7 +93,7 @@ derived-in-front {g = g} {f = f} {s} {r} bs h t rest sp =
 failed : {g : Layout} {s : List ℕ} {r : Step} → Bytes s → Reads g s (Next 0) r → (n p : ℕ) → Fails g s 0 n p → r ≡ Refused n p
 unfolding step chain
 failed {g} {s} bs h n p e =
-    let i : read g s 0 ≡ no n p = (laws.fails_exactly g s bs 0 n p).1 e in
+    let i : read g s 0 ≡ no n p = (exactly.fails_exactly g s bs 0 n p).1 e in
     h.is ∙ ap forget i
 
 pub answers-read : {A B : Type 0} {version : ℕ} {g : Layout} {f : Tree g → ℕ → B} {says : Tree g → A} {refused : ℕ → ℕ → A} {s : List ℕ} {r : Step} {y : B} {x : A} (K : ℕ → B → A)
@@ -140,7 +141,7 @@ answer_is {A} {version} {g} {says} {refused} {s} {x} bs a = go (eqb (unread vers
   where
     one : unread version s ≡ 0 → (y : Got (Tree g)) → read g s 0 ≡ y → x ≡ readingSays says refused y
     one known (got t r p) e = let q = laws.sound g s bs 0 t r p e in a.derived known t r (record { valid = q.0; split = q.1 })
-    one known (no n p) e = a.fails known n p ((laws.fails_exactly g s bs 0 n p).0 e)
+    one known (no n p) e = a.fails known n p ((exactly.fails_exactly g s bs 0 n p).0 e)
 
     go : (b : Bool) → eqb (unread version s) 0 ≡ b → x ≡ pick b (readingSays says refused (read g s 0)) (refused (unread version s) 0)
     go true e = one (eqb-true (unread version s) 0 e) (read g s 0) refl

@@ -3,11 +3,7 @@ pub mod Checked
 pub mod Demanded
 pub mod MemberUses
 pub mod ValidValues
-pub mod NoZeroInside
-pub mod RefusedBounds
-pub mod RefusedExactly
 pub mod RecordsSpelt
-pub mod NodesBelow
 pub mod NoCells
 -- a member by computation
 pub mod AcceptedExample

@@ -8,7 +8,6 @@ use Rattle.grammar.specs.Layout.{All, all_none, all_more}
 use Rattle.grammar.specs.Laws.Layout.Tests.{or_is_false, and_is_true, eqb_turned}
 use Rattle.grammar.specs.Once.{fresh, Distinct, OnceEach, AllFresh, Leaf, indexes, first_bad}
 mod Room
-pub mod Repeats
 
 -- ---- fresh
 

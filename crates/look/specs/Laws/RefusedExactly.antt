@@ -7,6 +7,7 @@ use Rattle.grammar.specs.Layout.{Tree, spell, Bytes, Derivation}
 use Rattle.grammar.specs.Fails.{Spells, Fails}
 use Rattle.grammar.specs.Laws.Layout.Read.{Got, got, no, read}
 use Rattle.grammar.specs.Laws.Layout as laws
+use Rattle.grammar.proofs.Laws.Layout as exactly
 use Rattle.fields.specs.Laws.Failing.{spell_most, fails_within, field_numbers, fails_numbers}
 use Rattle.look.specs.declared.Answer.{Answer}
 use Rattle.look.specs.declared.Answer.TheVariants as answer
@@ -22,7 +23,7 @@ unfolding expected
 refused_at bs h n p = go (read TableLook bs 0) refl
   where
     go : (x : Got (Tree TableLook)) → read TableLook bs 0 ≡ x → expected x ≡ refused n p → Refused bs n p
-    go (no m q) i e = let a : m ≡ n = cc in let b : q ≡ p = cc in rw (← a, ← b) (inside ((laws.fails_exactly TableLook bs h 0 m q).0 i))
+    go (no m q) i e = let a : m ≡ n = cc in let b : q ≡ p = cc in rw (← a, ← b) (inside ((exactly.fails_exactly TableLook bs h 0 m q).0 i))
     go (got t [] q) i e = absurd (let z : ◌≡◌ {A = ℕ} 0 1 = cc in omega arith)
     go (got t (b ∷ r) q) i e =
         let a : 11 ≡ n = cc in
@@ -33,7 +34,7 @@ refused_at bs h n p = go (read TableLook bs 0) refl
 
 refused_so : (bs : List ℕ) → Bytes bs → {n p : ℕ} → Refused bs n p → expected (read TableLook bs 0) ≡ refused n p
 unfolding expected
-refused_so bs h (inside {n} {p} f) = rw ((laws.fails_exactly TableLook bs h 0 n p).1 f)
+refused_so bs h (inside {n} {p} f) = rw ((exactly.fails_exactly TableLook bs h 0 n p).1 f)
 refused_so bs h (left {t} {b} {r} v) = rw (v.split, laws.complete TableLook t v.valid (b ∷ r) 0, zero-add)
 
 -- ---- of whatever answer meets `read_look`'s contract
@@ -51,7 +52,7 @@ refused_exactly bs h a e n p = (λ i. refused_at bs h n p (sym e ∙ ap outcome 
 
 -- Or else: bytes have a derivation or are refused, and never both
 pub refused_or_derived : (bs : List ℕ) → Bytes bs → Derivation TableLook bs ⊎ ((n : ℕ) × (p : ℕ) × Refused bs n p)
-refused_or_derived bs h = go (laws.front_or_fails TableLook bs h 0)
+refused_or_derived bs h = go (exactly.front_or_fails TableLook bs h 0)
   where
     ends : (t : Tree TableLook) (r : List ℕ) → Spells TableLook bs t r → Derivation TableLook bs ⊎ ((n : ℕ) × (p : ℕ) × Refused bs n p)
     ends t [] v = inl record { tree = t; valid = v.valid; spells = sym (v.split ∙ append-nil (spell TableLook t)) }
@@ -85,7 +86,7 @@ numbers (left v) = refl
 
 -- Places: in the bytes, or right after the last; and no farther than the longest look reaches
 pub place_inside : {bs : List ℕ} {n p : ℕ} → Refused bs n p → p ≤ length bs
-place_inside (inside f) = rw zero-add at (laws.place_inside f).1
+place_inside (inside f) = rw zero-add at (exactly.place_inside f).1
 place_inside {bs} (left {t} v) = omega (arith, simp length-append at (ap length v.split))
 
 pub place_within : {bs : List ℕ} {n p : ℕ} → Refused bs n p → p ≤ longest_look

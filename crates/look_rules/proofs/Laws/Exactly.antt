@@ -9,6 +9,7 @@ use Rattle.grammar.specs.Layout.{Order, Test, Content, Layout, number, string, T
 use Rattle.grammar.specs.Fails.{Spells}
 use Rattle.grammar.specs.Rule.{Kept, Breaks}
 use Rattle.grammar.specs.Laws.Layout as laws
+use Rattle.grammar.proofs.Laws.Layout as exactly
 use Rattle.grammar.specs.Laws.Layout.Read.{Got, got, no}
 use Rattle.grammar.specs.Laws.Layout.Check.{check}
 use Rattle.layout.specs.Reads.{forget}
@@ -107,14 +108,14 @@ module _ {bs : List ℕ} (h : Bytes bs) (d : Derivation TableLook bs) where
     where
       go : (y : Got (Tree TableLook)) → check style_rule bs 0 ≡ y → Outcome {A = Tree TableLook} d.tree (length bs) y → Kept style_rule d.tree ⊎ ((n : ℕ) × (p : ℕ) × Breaks TableLook style_rule bs 0 n p)
       go (got t r q) e passed = inl ((laws.passes_exactly style_rule bs h 0 d.tree [] (length bs)).0 e).1
-      go (no n p) e (stopped f) = inr (n, p, (laws.breaks_exactly style_rule bs h 0 n p).0 e)
+      go (no n p) e (stopped f) = inr (n, p, (exactly.breaks_exactly style_rule bs h 0 n p).0 e)
 
   -- never both
   pub not_both : {n p : ℕ} → Breaks TableLook style_rule bs 0 n p → Kept style_rule d.tree → ⊥
-  not_both f k = laws.not_kept f spells k
+  not_both f k = exactly.not_kept f spells k
 
   pub given : {n p : ℕ} → Breaks TableLook style_rule bs 0 n p → (among n numbers ≡ true) × (p < length bs)
-  given {n} {p} f = go (subst (Outcome {A = Tree TableLook} d.tree (length bs)) ((laws.breaks_exactly style_rule bs h 0 n p).1 f) outcome)
+  given {n} {p} f = go (subst (Outcome {A = Tree TableLook} d.tree (length bs)) ((exactly.breaks_exactly style_rule bs h 0 n p).1 f) outcome)
     where
       go : Outcome {A = Tree TableLook} d.tree (length bs) (no n p) → (among n numbers ≡ true) × (p < length bs)
       go (stopped g) = g
@@ -135,7 +136,7 @@ module _ {bs : List ℕ} (h : Bytes bs) (d : Derivation TableLook bs) where
 
 -- whatever the bytes
 pub refused_exactly : (bs : List ℕ) → Bytes bs → (n p : ℕ) → (forget (check style_rule bs 0) ≡ Refused n p) ↔ Breaks TableLook style_rule bs 0 n p
-refused_exactly bs h n p = (λ e. (laws.breaks_exactly style_rule bs h 0 n p).0 (go (check style_rule bs 0) e), λ f. ap forget ((laws.breaks_exactly style_rule bs h 0 n p).1 f))
+refused_exactly bs h n p = (λ e. (exactly.breaks_exactly style_rule bs h 0 n p).0 (go (check style_rule bs 0) e), λ f. ap forget ((exactly.breaks_exactly style_rule bs h 0 n p).1 f))
   where
     go : (y : Got (Tree TableLook)) → forget y ≡ Refused n p → y ≡ no n p
     go (got t r q) i = absurd (let z : ◌≡◌ {A = ℕ} 0 1 = cc in omega arith)

@@ -41,7 +41,8 @@ use Rattle.grammar.specs.Laws.Table.Lengths.{size_dimension}
 use Rattle.grammar.specs.Laws.Table.LeastBytes.{categories_bytes, least_category}
 use Rattle.grammar.specs.Laws.Table.KeptTable.{leaf_count}
 use Rattle.table.specs.Laws.Nodes.{Node, Nodes, all_nodes}
-use Rattle.grammar.specs.Laws.Table.Leaves.{leaves_same, few_leaves, further, further_leaves, further_length, later, further_bad}
+use Rattle.grammar.specs.Laws.Table.Leaves.{few_leaves, further, further_length, later, further_bad}
+use Rattle.grammar.proofs.Laws.Table.Leaves.{leaves_same, further_leaves}
 
 -- ---- what is kept
 

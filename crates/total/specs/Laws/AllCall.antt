@@ -16,7 +16,7 @@ use Rattle.answer.specs.declared.Answer.{Answer}
 use Rattle.grammar.specs.Member.{Member, dimensions, nodes, cells, cell_records, MemberDerivation, AsDemanded}
 use Rattle.grammar.specs.Laws.Member.Checked.{checked}
 use Rattle.answer.specs.Answer.{accepted}
-use Rattle.grammar.specs.Laws.Member.Demanded.{derivation_checked}
+use Rattle.grammar.proofs.Laws.Member.Demanded.{derivation_checked}
 use Rattle.total.specs.declared.DimensionTotals.{DimensionTotals}
 use Rattle.total.specs.Words.{leaf_words, rows}
 use Rattle.total.specs.Answers.{memberFirst, answered, leafAnswer, refusedAll, leaves, dimensionAnswer, totalsAnswer, totalsAfter, AllTotalled}

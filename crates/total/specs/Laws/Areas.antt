@@ -19,7 +19,7 @@ use Rattle.answer.specs.declared.Answer.{Answer}
 use Rattle.grammar.specs.Member.{Member, version, dimensions, dimensions_at, cells_start, nodes, cells, node_records, cell_records, MemberDerivation, AsDemanded}
 use Rattle.grammar.specs.Laws.Member.Checked.{checked}
 use Rattle.answer.specs.Answer.{accepted, wide, long, nodes_after, cells_after}
-use Rattle.grammar.specs.Laws.Member.Demanded.{derivation_checked}
+use Rattle.grammar.proofs.Laws.Member.Demanded.{derivation_checked}
 use Rattle.total.specs.Laws.Reading.{Taken}
 
 -- the first n words of a list over those of an area, where both have so many

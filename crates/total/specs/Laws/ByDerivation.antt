@@ -15,7 +15,7 @@ use Rattle.grammar.specs.Laws.Member.Checked.{checked}
 use Rattle.answer.specs.Answer.{wide, long, refusal, accepted, answer_of, nodes_after, cells_after}
 use Rattle.answer.specs.Demand3.{Demand3, Accepted}
 use Rattle.answer.proofs.Laws.Holds.{demand3}
-use Rattle.grammar.specs.Laws.Member.Demanded.{derivation_checked}
+use Rattle.grammar.proofs.Laws.Member.Demanded.{derivation_checked}
 use Rattle.total.specs.declared.LeafTotal.{LeafTotal}
 use Rattle.total.specs.declared.DimensionTotals.{DimensionTotals}
 use Rattle.total.specs.Answers.{memberFirst, refused, leafAnswer, totalAnswer, Totalled, ByDerivation, refusedAll, dimensionAnswer, totalsAnswer, totalsAfter, AllTotalled, AllByDerivation}

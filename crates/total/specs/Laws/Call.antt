@@ -9,7 +9,7 @@ use Rattle.answer.specs.declared.Answer.{Answer}
 use Rattle.grammar.specs.Member.{cell_records, MemberDerivation, AsDemanded}
 use Rattle.grammar.specs.Laws.Member.Checked.{checked}
 use Rattle.answer.specs.Answer.{accepted}
-use Rattle.grammar.specs.Laws.Member.Demanded.{derivation_checked}
+use Rattle.grammar.proofs.Laws.Member.Demanded.{derivation_checked}
 use Rattle.total.specs.declared.LeafTotal.{LeafTotal}
 use Rattle.total.specs.Answers.{memberFirst, refused, totalAnswer, Totalled}
 use Rattle.total.specs.Laws.Leaf.{word_answer}

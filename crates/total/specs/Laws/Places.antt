@@ -16,7 +16,7 @@ use Rattle.grammar.specs.Laws.Member.Checked.{checked}
 use Rattle.answer.specs.Answer.{wide, long, refusal, answer_of, nodes_after, cells_after}
 use Rattle.answer.specs.Demand3.{Demand3}
 use Rattle.answer.proofs.Laws.Holds.{demand3}
-use Rattle.grammar.specs.Laws.Member.Demanded as demanded
+use Rattle.grammar.proofs.Laws.Member.Demanded as demanded
 use Rattle.grammar.specs.Laws.Member.RecordsSpelt.{cells_there}
 use Rattle.counts.specs.declared.Kind.{Kind}
 use Rattle.counts.specs.declared.Kind.TheVariants.{Text, Missing, Number, Bad}

@@ -11,7 +11,7 @@ use Rattle.grammar.specs.Member.{Member, nodes, cells, node_records, cell_record
 use Rattle.grammar.specs.Laws.Member.Checked.{checked}
 use Rattle.answer.specs.Answer.{refusal, accepted}
 use Rattle.member.specs.Laws.IntoLists.{LongEnough, into_lists, Stored, all_stored, not_stored}
-use Rattle.grammar.specs.Laws.Member.Demanded as demanded
+use Rattle.grammar.proofs.Laws.Member.Demanded as demanded
 use Rattle.answer.proofs.Laws.Holds.{not_zero}
 use Rattle.member.specs.Laws.Whole.{as_checked}
 

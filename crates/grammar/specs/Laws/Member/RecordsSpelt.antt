@@ -13,7 +13,7 @@ use Rattle.grammar.specs.Sections.{HeaderStart, Front}
 use Rattle.grammar.specs.RecordWords.{word}
 use Rattle.grammar.specs.Table.{Dimension, Dimensions, Axes, Cell, Cells}
 use Rattle.grammar.specs.Records.{cell_words_of}
-use Rattle.grammar.specs.Laws.Table.RecordsPoint.{all_names, Points, Pointing, record_of, after_digits, dims_point, entries_point, cells_point}
+use Rattle.grammar.specs.Laws.Table.RecordsPoint.{all_names, Points, Pointing, record_of, after_digits, entries_point, cells_point}
 use Rattle.grammar.specs.Member.{Member, final, version, body_at, dimensions, cells, nodes, dimensions_at, cells_start, node_records, dimension_entries, cell_records, node_names, dimension_names, cell_values, MemberDerivation, front_section, axes_section, cells_section}
 use Rattle.grammar.specs.Part.{part_of}
 use Rattle.grammar.specs.Laws.Table.Words.{width_entries, width_dims}
@@ -46,10 +46,10 @@ module _ {bs : List ℕ} (d : MemberDerivation bs) where
   body_start = simp (length-append, digits_length)
 
   -- after the dimensions
-  abbrev rest : List ℕ
+  abbrev pub rest : List ℕ
   rest = let t = d.tree in spell Axes (axes_section t) ++ (spell (Cells (version t)) (cells_section t) ++ final d.ends)
 
-  dimensions_there : drop (dimensions_at d.tree) bs ≡ spell_all (spell (Dimension (version d.tree))) (dimensions d.tree) ++ rest
+  pub dimensions_there : drop (dimensions_at d.tree) bs ≡ spell_all (spell (Dimension (version d.tree))) (dimensions d.tree) ++ rest
   unfolding spell size
   dimensions_there =
       let t = d.tree in
@@ -72,9 +72,6 @@ module _ {bs : List ℕ} (d : MemberDerivation bs) where
       to_cells (spell HeaderStart t.0) (digits little 4 t.1.0) (spell (Front (version t) ▸ Dimensions (version t) ▸ Axes) t.1.1.0) (digits little 4 n) all (final d.ends) in
       let start : length before + 4 ≡ cells_start t = rw (length-append, body_start) in
       rw start at (after_count bs before n (all ++ final d.ends) (sym d.spells ∙ joined))
-
-  pub nodes_point : Pointing (Value (version d.tree)) bs node_words name_place name_length (node_records d.tree) (node_names d.tree)
-  nodes_point = dims_point (version d.tree) bs 0 0 (dimensions_at d.tree) (dimensions d.tree) rest dimensions_there
 
   pub dimensions_point : Pointing (Value (version d.tree)) bs dimension_words 0 1 (dimension_entries d.tree) (dimension_names d.tree)
   dimensions_point = entries_point (version d.tree) bs 0 (dimensions_at d.tree) (dimensions d.tree) rest dimensions_there
@@ -99,12 +96,6 @@ part_there s place (x ∷ xs) r e =
 pub part_of_lem : {g : Layout} {s : List ℕ} {place long : ℕ} {v : Tree g} → Points g s place long v → part_of s place long ≡ spell g v
 unfolding size
 part_of_lem {g} {s} {place} {long} {v} p = rw p.length_of (part_there s place (spell g v) p.rest p.there)
-
--- Node: two words of its record
-pub node_name : {bs : List ℕ} (d : MemberDerivation bs) (i : ℕ) (v : Tree (Value (version d.tree))) → get_elem? (node_names d.tree) i ≡ some v
-    → let ws = node_records d.tree in part_of bs (word ws (node_words * i + name_place)) (word ws (node_words * i + name_length)) ≡ spell (Value (version d.tree)) v
-unfolding word
-node_name d i v e = part_of_lem (record_of (omega arith) (omega arith) (nodes_point d) i v e)
 
 -- Dimension: the first two words of its entry
 pub dimension_name : {bs : List ℕ} (d : MemberDerivation bs) (i : ℕ) (v : Tree (Value (version d.tree))) → get_elem? (dimension_names d.tree) i ≡ some v

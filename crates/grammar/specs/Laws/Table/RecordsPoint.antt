@@ -29,12 +29,12 @@ pub after_digits : (s : List ℕ) (at : ℕ) (o : Order) (w n : ℕ) (r : List �
 after_digits s at o w n r e = rw digits_length at (after s at (digits o w n) r e)
 
 -- the first of trees that follow each other, and then the others
-first_of : (g : Layout) (s : List ℕ) (at : ℕ) (t : Tree g) (ts : List (Tree g)) (r : List ℕ) → drop at s ≡ spell_all (spell g) (t ∷ ts) ++ r
+pub first_of : (g : Layout) (s : List ℕ) (at : ℕ) (t : Tree g) (ts : List (Tree g)) (r : List ℕ) → drop at s ≡ spell_all (spell g) (t ∷ ts) ++ r
     → drop at s ≡ spell g t ++ (spell_all (spell g) ts ++ r)
 unfolding spell_all
 first_of g s at t ts r e = e ∙ append_assoc (spell g t) (spell_all (spell g) ts) r
 
-rest_of : (g : Layout) (s : List ℕ) (at : ℕ) (t : Tree g) (ts : List (Tree g)) (r : List ℕ) → drop at s ≡ spell_all (spell g) (t ∷ ts) ++ r
+pub rest_of : (g : Layout) (s : List ℕ) (at : ℕ) (t : Tree g) (ts : List (Tree g)) (r : List ℕ) → drop at s ≡ spell_all (spell g) (t ∷ ts) ++ r
     → drop (at + size g t) s ≡ spell_all (spell g) ts ++ r
 unfolding size
 rest_of g s at t ts r e = after s at (spell g t) (spell_all (spell g) ts ++ r) (first_of g s at t ts r e)
@@ -57,7 +57,7 @@ moved : {g : Layout} {s : List ℕ} {p p' q q' : ℕ} {u v : Tree g} → p ≡ p
 moved e e' e'' h = rw (← e, ← e', ← e'') h
 
 module _ {g : Layout} {s : List ℕ} {n j k : ℕ} where
-  joined : {ws ws' : List ℕ} {vs vs' : List (Tree g)} → Pointing g s n j k ws vs → Pointing g s n j k ws' vs' → Pointing g s n j k (ws ++ ws') (vs ++ vs')
+  pub joined : {ws ws' : List ℕ} {vs vs' : List (Tree g)} → Pointing g s n j k ws vs → Pointing g s n j k ws' vs' → Pointing g s n j k (ws ++ ws') (vs ++ vs')
   joined no_records q = q
   joined (one_record ws l p ps) q = rw append_assoc (one_record ws l p (joined ps q))
 
@@ -88,7 +88,7 @@ module _ (version : ℕ) where
   all_names ts = length_flat (category_names version) (dim_nodes version) (λ t. length_flat (tree_names version category_depth) (nodes version category_depth) (names_nodes category_depth) (dim_categories version t)) ts
 
   -- a Value that stands first
-  first_points : (s : List ℕ) (at : ℕ) (b : Layout) (t : Tree ((Value version) ▸ b)) (r : List ℕ) → drop at s ≡ spell ((Value version) ▸ b) t ++ r → Points (Value version) s at (size (Value version) t.0) t.0
+  pub first_points : (s : List ℕ) (at : ℕ) (b : Layout) (t : Tree ((Value version) ▸ b)) (r : List ℕ) → drop at s ≡ spell ((Value version) ▸ b) t ++ r → Points (Value version) s at (size (Value version) t.0) t.0
   unfolding spell
   first_points s at b t r e = record { rest = spell b t.1 ++ r; there = e ∙ append_assoc (spell (Value version) t.0) (spell b t.1) r; length_of = refl }
 
@@ -96,51 +96,19 @@ module _ (version : ℕ) where
 
   module _ (s : List ℕ) (g : Layout) (names : Tree g → List (Tree (Value version))) (count : Tree g → ℕ) (words : ℕ → ℕ → Tree g → List ℕ)
       (each : (used at : ℕ) (t : Tree g) (r : List ℕ) → drop at s ≡ spell g t ++ r → Pointing (Value version) s node_words name_place name_length (words used at t) (names t)) where
-    all_point : (used at : ℕ) (ts : List (Tree g)) (r : List ℕ) → drop at s ≡ spell_all (spell g) ts ++ r
+    pub all_point : (used at : ℕ) (ts : List (Tree g)) (r : List ℕ) → drop at s ≡ spell_all (spell g) ts ++ r
         → Pointing (Value version) s node_words name_place name_length (words_all count (size g) words used at ts) (flat_map names ts)
     unfolding words_all flat_map
     all_point used at [] r e = no_records
     all_point used at (t ∷ ts) r e =
         joined (each used at t (spell_all (spell g) ts ++ r) (first_of g s at t ts r e)) (all_point (used + count t) (at + size g t) ts r (rest_of g s at t ts r e))
 
-  node_point : (s : List ℕ) (at : ℕ) (h : Tree (Head version)) (r : List ℕ) → drop at s ≡ spell (Head version) h ++ r → Points (Value version) s at (size (Value version) h.0) h.0
-  node_point s at h r e = first_points s at (number little 3 (one_of kinds) (KindOf (λ _. empty))) h r e
-
-  tree_point : (s : List ℕ) (d dim par used at : ℕ) (t : Tree (CategoryIn version d)) (r : List ℕ) → drop at s ≡ spell (CategoryIn version d) t ++ r
-      → Pointing (Value version) s node_words name_place name_length (tree_words version d dim par used at t) (tree_names version d t)
-  unfolding tree_words tree_names size
-  tree_point s zero dim par used at t r e = no_records
-  tree_point s (suc d) dim par used at t r e =
-      let below = spell_all (spell (CategoryIn version d)) (children version d t) in
-      let h : drop at s ≡ spell (Head version) (front version d t) ++ (below ++ r) = e ∙ (ap (λ (xs : List ℕ). xs ++ r) (spell_category version d t) ∙ append_assoc (spell (Head version) (front version d t)) below r) in
-      one_record (node_words_of version dim par at (nodes version (suc d) t) (front version d t)) refl (node_point s at (front version d t) (below ++ r) h)
-      (all_point s (CategoryIn version d) (tree_names version d) (nodes version d) (tree_words version d dim used) (λ u a x q k. tree_point s d dim used u a x q k)
-      (used + 1) (at + size (Head version) (front version d t)) (children version d t) r (after s at (spell (Head version) (front version d t)) (below ++ r) h))
-
   -- ---- dimensions
 
   -- a dimension's own part stands first
-  own_part : (s : List ℕ) (at : ℕ) (t : Tree (Dimension version)) (r : List ℕ) → drop at s ≡ spell (Dimension version) t ++ r
+  pub own_part : (s : List ℕ) (at : ℕ) (t : Tree (Dimension version)) (r : List ℕ) → drop at s ≡ spell (Dimension version) t ++ r
       → drop at s ≡ spell ((Value version) ▸ DimProperties) (dim_own version t) ++ (digits little 4 t.1.0 ++ (spell_all (spell (Category version)) (dim_categories version t) ++ r))
   own_part s at t r e = e ∙ (ap (λ (xs : List ℕ). xs ++ r) (spell_dimension version t) ∙ simp append_assoc)
-
-  dim_point : (s : List ℕ) (i used at : ℕ) (t : Tree (Dimension version)) (r : List ℕ) → drop at s ≡ spell (Dimension version) t ++ r → Pointing (Value version) s node_words name_place name_length (dim_words version i used at t) (category_names version t)
-  unfolding dim_words category_names size
-  dim_point s i used at t r e =
-      let own = spell ((Value version) ▸ DimProperties) (dim_own version t) in
-      let below = spell_all (spell (Category version)) (dim_categories version t) in
-      all_point s (Category version) (tree_names version category_depth) (nodes version category_depth) (tree_words version category_depth i no_parent) (λ u a x q k. tree_point s category_depth i no_parent u a x q k)
-      used (at + size ((Value version) ▸ DimProperties) (dim_own version t) + 4) (dim_categories version t) r
-      (after_digits s (at + length own) little 4 t.1.0 (below ++ r) (after s at own (digits little 4 t.1.0 ++ (below ++ r)) (own_part s at t r e)))
-
-  -- the node records of dimensions that follow each other
-  pub dims_point : (s : List ℕ) (i used at : ℕ) (ts : List (Tree (Dimension version))) (r : List ℕ) → drop at s ≡ spell_all (spell (Dimension version)) ts ++ r
-      → Pointing (Value version) s node_words name_place name_length (dims_words version i used at ts) (flat_map (category_names version) ts)
-  unfolding dims_words flat_map
-  dims_point s i used at [] r e = no_records
-  dims_point s i used at (t ∷ ts) r e =
-      joined (dim_point s i used at t (spell_all (spell (Dimension version)) ts ++ r) (first_of (Dimension version) s at t ts r e))
-      (dims_point s (i + 1) (used + (dim_nodes version) t) (at + size (Dimension version) t) ts r (rest_of (Dimension version) s at t ts r e))
 
   -- and their entries
   pub entries_point : (s : List ℕ) (used at : ℕ) (ts : List (Tree (Dimension version))) (r : List ℕ) → drop at s ≡ spell_all (spell (Dimension version)) ts ++ r

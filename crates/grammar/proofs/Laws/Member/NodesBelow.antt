@@ -4,7 +4,8 @@ use Rattle.std.specs.Prelude.{◌≡◌, ◌↔◌, List, [], ℕ, ◌+◌, ◌�
 use Rattle.std.proofs.Common.{sym, append-nil, zero-add, arith}
 use Rattle.sizes.specs.Sizes.{no_parent}
 use Rattle.grammar.specs.Below.{parent_of, size_of, Below}
-use Rattle.grammar.specs.Laws.Table.Groups.{Groups, group_of, dims_groups, below_exactly, next_child, next_top}
+use Rattle.grammar.specs.Laws.Table.Groups.{Groups, group_of, below_exactly, next_child, next_top}
+use Rattle.grammar.proofs.Laws.Table.Groups.{dims_groups}
 use Rattle.grammar.specs.Member.{version, dimensions, nodes, dimensions_at, node_records, MemberDerivation}
 
 module _ {bs : List ℕ} (d : MemberDerivation bs) where

@@ -4,11 +4,13 @@ use Rattle.std.proofs.Common.{arith, length-append}
 use Rattle.std.proofs.lemmas.List.{length-replicate}
 use Rattle.sizes.specs.Basics.{among}
 use Rattle.grammar.specs.Layout.{Content, any_bytes, no_zero}
-use Rattle.grammar.specs.Laws.Layout.{breaks_among, break_inside}
+use Rattle.grammar.specs.Laws.Layout.{breaks_among}
+use Rattle.grammar.proofs.Laws.Layout.{break_inside}
 use Rattle.grammar.specs.Laws.Layout.Uses.{more_contents}
 use Rattle.grammar.specs.Laws.Layout.Bounds.{all_among, is_among, content_gives, TestsGive, Numbered, PlacesInside}
 use Rattle.grammar.specs.Laws.Layout.Strings.{strict}
-use Rattle.grammar.specs.Laws.Table.RuleBounds.{numbers, dimensions_numbered, axes_numbered, cells_numbered, dimensions_inside, axes_inside, cells_inside}
+use Rattle.grammar.specs.Laws.Table.RuleBounds.{numbers, dimensions_numbered, axes_numbered, cells_numbered, axes_inside, cells_inside}
+use Rattle.grammar.proofs.Laws.Table.RuleBounds.{dimensions_inside}
 use Rattle.grammar.specs.Member.{Member}
 use Rattle.grammar.specs.Refused.{body_rule, member_rule, Refused, too_long, inside, left}
 use Rattle.grammar.specs.Laws.Member.MemberUses as member-uses

@@ -10,7 +10,8 @@ use Rattle.grammar.specs.Fails.{Spells, Runs}
 use Rattle.grammar.specs.Rule.{Kept}
 use Rattle.grammar.specs.Laws.Layout.Read.{Got, got, no, lead}
 use Rattle.grammar.specs.Laws.Layout.Check.{check}
-use Rattle.grammar.specs.Laws.Layout.{passes_exactly, breaks_exactly, run_there, run_is}
+use Rattle.grammar.specs.Laws.Layout.{passes_exactly, run_there, run_is}
+use Rattle.grammar.proofs.Laws.Layout.{breaks_exactly}
 use Rattle.grammar.specs.Laws.Layout.IfNo.{IfNo, if_got, if_no, pick_no, of_no}
 use Rattle.grammar.specs.Member.{Member}
 use Rattle.grammar.specs.Refused.{member_rule, Refused, too_long, inside, left}

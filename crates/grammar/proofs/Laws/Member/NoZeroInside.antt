@@ -2,7 +2,7 @@
 use Rattle.std.specs.Prelude.{List, ℕ}
 use Rattle.grammar.specs.Layout.{Layout, Tree, All, all_none, all_more, Valid}
 use Rattle.grammar.specs.Strings.{Free}
-use Rattle.grammar.specs.Laws.Layout.{strings_free}
+use Rattle.grammar.proofs.Laws.Layout.{strings_free}
 use Rattle.grammar.specs.Value.{Value, CellValue}
 use Rattle.grammar.specs.Member.{Member}
 use Rattle.grammar.specs.Laws.Member.MemberUses as member-uses

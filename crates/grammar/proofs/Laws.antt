@@ -1,0 +1,4 @@
+pub mod Layout
+pub mod Member
+pub mod Once
+pub mod Table
