@@ -1,3 +1,4 @@
+use Rattle.std.proofs.Common.{eq-eqb, ne_eqb}
 use Prim.Native.Nat.{◌-◌, ◌<◌}
 use mathlib.Core.Path.{◌≡◌, refl, sym, ◌∙◌}
 use native.Mathlib.Nat.{sub-zero}
@@ -37,7 +38,7 @@ loop-i-preserved c =
     let f = part_back (word c.args.order.now) l.i c.args.d (omega arith) l.invariant.0 in (
       omega arith,
       rw (f, ← c.word-e.ensures) (marked most_dimensions l.marks _ _ l.invariant.1 low),
-      sym (one_new _ f refl c.word-e.ensures (omega arith) refl (not_marked _ (sym (l.invariant.1.says _ low) ∙ c.if-new.true-raw))) ∙ l.invariant.2,
+      sym (one_new _ f refl c.word-e.ensures (omega arith) refl (not_marked _ (sym (l.invariant.1.says _ low) ∙ eq-eqb _ _ c.if-new.true))) ∙ l.invariant.2,
     )
 
 pub returns-else-new : goal.returns-else-new
@@ -46,7 +47,7 @@ returns-else-new c =
     let l = c.loop-i in
     let low : c.word-e.result < most_dimensions = omega (arith, c.requires) in
     let f = part_back (word c.args.order.now) l.i c.args.d (omega arith) l.invariant.0 in
-    not_all _ _ (l.i - 1) (omega (arith, l.invariant.0)) (repeated _ f refl c.word-e.ensures (omega arith) refl (marked_again _ (sym (l.invariant.1.says _ low) ∙ c.if-new.false-raw)))
+    not_all _ _ (l.i - 1) (omega (arith, l.invariant.0)) (repeated _ f refl c.word-e.ensures (omega arith) refl (marked_again _ (sym (l.invariant.1.says _ low) ∙ ne_eqb _ _ c.if-new.false)))
 
 pub returns : goal.returns
 unfolding part onceEach

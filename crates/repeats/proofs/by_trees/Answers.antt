@@ -1,4 +1,4 @@
-use mathlib.Core.Path.{refl, sym, ◌∙◌}
+use mathlib.Core.Path.{refl, sym}
 use native.Mathlib.Omega.{arith}
 use Rattle.repeats.specs.Laws.Repeats.{none_new, one_more_new, found_at, none_found}
 use Rattle.repeats.proofs.by_trees.Goals as goal
@@ -10,7 +10,7 @@ pub look-p-requires : goal.look-p-requires
 look-p-requires c = (omega arith, omega arith, omega arith, c.loop-place.invariant.4)
 
 pub shape_of-slots-then-p : goal.shape_of-slots-then-p
-shape_of-slots-then-p c = c.slots-1.given ∙ c.loop-place.invariant.0
+shape_of-slots-then-p c = omega arith
 
 pub returns-then-p : goal.returns-then-p
 returns-then-p c =
@@ -26,7 +26,7 @@ pub loop-place-preserved : goal.loop-place-preserved
 loop-place-preserved c =
     let e = c.nth.ensures in
     let n = rw e at (c.look-p.ensures.absent c.if-p.false).1 in (
-      c.slots-1.given ∙ c.loop-place.invariant.0,
+      omega arith,
       omega arith,
       omega arith,
       omega arith,

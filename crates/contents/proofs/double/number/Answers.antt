@@ -1,4 +1,5 @@
 -- Above the pattern of the infinity, without its sign, are the NaNs.
+use Rattle.std.proofs.lemmas.Bool.{le-leb, lt-leb}
 use mathlib.Core.Path.{◌≡◌, ◌∙◌}
 use mathlib.Core.Bool.{true, false}
 use Prim.Native.Nat.{ℕ, ◌*◌, ◌%◌, ◌^◌}
@@ -21,12 +22,12 @@ a-nan bits h = nan_bits_above binary64 bits ∙ lt-ltb infinity (bits % 2 ^ 63) 
 
 pub float_from_bits-result : goal.float_from_bits-result
 unfolding number_of pick
-float_from_bits-result c = rw (no_nan c.args.bits c.if-is.true-raw) tt
+float_from_bits-result c = rw (no_nan c.args.bits (le-leb _ _ c.if-is.true)) tt
 
 pub returns-then-is : goal.returns-then-is
 unfolding number_of pick
-returns-then-is c = rw (no_nan c.args.bits c.if-is.true-raw)
+returns-then-is c = rw (no_nan c.args.bits (le-leb _ _ c.if-is.true))
 
 pub returns-else-is : goal.returns-else-is
 unfolding number_of pick
-returns-else-is c = rw (a-nan c.args.bits c.if-is.false-raw)
+returns-else-is c = rw (a-nan c.args.bits (lt-leb _ _ c.if-is.false))

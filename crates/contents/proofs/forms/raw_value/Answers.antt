@@ -1,3 +1,4 @@
+use Rattle.std.proofs.Common.{eq-eqb, ne_eqb}
 use mathlib.Core.Path.{refl}
 use native.Mathlib.Omega.{arith}
 use Rattle.sizes.specs.Basics.{pick, among}
@@ -8,7 +9,7 @@ use Rattle.contents.proofs.forms.raw_value.Goals as goal
 
 pub returns-then-without : goal.returns-then-without
 unfolding pick among chosen either
-returns-then-without c = no_form_shows _ _ 4 refl c.field.ensures (long_form_left_out _ _ c.in-49.is c.if-without.true-raw c.peek-x.ensures c.field.ensures)
+returns-then-without c = no_form_shows _ _ 4 refl c.field.ensures (long_form_left_out _ _ c.in-49.is (eq-eqb _ _ c.if-without.true) c.peek-x.ensures c.field.ensures)
 
 pub returns-in-1 : goal.returns-in-1
 unfolding pick among chosen either
@@ -37,7 +38,7 @@ returns-in-6 c = form_shows _ _ c.in-6.is refl refl c.form_06.ensures c.peek-x.e
 pub returns-else-without : goal.returns-else-without
 unfolding pick among chosen either
 returns-else-without c =
-    long_shows _ _ c.in-49.is c.if-without.false-raw (modified_shows _ c.modifiers.ensures c.template.ensures)
+    long_shows _ _ c.in-49.is (ne_eqb _ _ c.if-without.false) (modified_shows _ c.modifiers.ensures c.template.ensures)
     c.peek-x.ensures c.any-at.ensures.low
 
 pub returns-in-88 : goal.returns-in-88

@@ -1,3 +1,4 @@
+use Rattle.std.proofs.Common.{eq-eqb, ne_eqb}
 use native.Mathlib.Omega.{arith}
 use lib.ListN.{length}
 use Rattle.layout.specs.Steps.Slices.{bytes_of}
@@ -8,7 +9,7 @@ use Rattle.total.proofs.all.accepted_all.Goals as goal
 pub fill-requires : goal.fill-requires
 fill-requires c =
     let a = c.args in
-    (omega arith, rows_room a.a a.dimension (length a.totals.now) (length a.nodes.now) (length a.cells.now) c.fitting_all-x.ensures c.if-fine.true-raw)
+    (omega arith, rows_room a.a a.dimension (length a.totals.now) (length a.nodes.now) (length a.cells.now) c.fitting_all-x.ensures (eq-eqb _ _ c.if-fine.true))
 
 pub returns-then-fine : goal.returns-then-fine
 returns-then-fine c =
@@ -16,8 +17,8 @@ returns-then-fine c =
     let b = bytes_of _ c.type_inv.member in
     let e = c.fitting_all-x.ensures in
     let few = too_short a.a a.dimension (length a.totals.now) (length a.nodes.now) (length a.cells.now) e in
-    with_totals b c.requires a.totals.now a.nodes.now a.cells.now a.dimension e c.if-fine.true-raw c.fill.ensures
-    (with_records b c.requires a.nodes.now a.cells.now few c.if-fine.true-raw c.copy.ensures c.copy-then-fine.ensures)
+    with_totals b c.requires a.totals.now a.nodes.now a.cells.now a.dimension e (eq-eqb _ _ c.if-fine.true) c.fill.ensures
+    (with_records b c.requires a.nodes.now a.cells.now few (eq-eqb _ _ c.if-fine.true) c.copy.ensures c.copy-then-fine.ensures)
 
 pub returns-else-fine : goal.returns-else-fine
 returns-else-fine c =
@@ -25,5 +26,5 @@ returns-else-fine c =
     let b = bytes_of _ c.type_inv.member in
     let e = c.fitting_all-x.ensures in
     let few = too_short a.a a.dimension (length a.totals.now) (length a.nodes.now) (length a.cells.now) e in
-    without_totals b c.requires a.totals.now a.nodes.now a.cells.now a.dimension e c.if-fine.false-raw
-    (without_records b c.requires a.nodes.now a.cells.now few c.if-fine.false-raw)
+    without_totals b c.requires a.totals.now a.nodes.now a.cells.now a.dimension e (ne_eqb _ _ c.if-fine.false)
+    (without_records b c.requires a.nodes.now a.cells.now few (ne_eqb _ _ c.if-fine.false))

@@ -1,4 +1,3 @@
-use borrow.Author.Tests.{eqb-true, eqb-false}
 use Rattle.layout.specs.Steps.Slices.{bytes_of}
 use Rattle.total.specs.Laws.Reading.{taken, turned_down}
 use Rattle.total.specs.Laws.AllCall.{refused_call}
@@ -7,11 +6,11 @@ use Rattle.total.proofs.all.all_with_lists.Goals as goal
 pub accepted_all-requires : goal.accepted_all-requires
 accepted_all-requires c =
     let m = c.read_into-a.ensures in
-    taken (bytes_of _ c.type_inv.member) c.requires m (eqb-true _ _ c.if-fine.true-raw)
+    taken (bytes_of _ c.type_inv.member) c.requires m c.if-fine.true
 
 pub returns-else-fine : goal.returns-else-fine
 returns-else-fine c =
     let a = c.args in
     let m = c.read_into-a.ensures in
     rw c.refused_all.ensures
-    (refused_call (turned_down (bytes_of _ c.type_inv.member) c.requires m (eqb-false _ _ c.if-fine.false-raw)) a.totals.now a.nodes.now a.cells.now a.dimension)
+    (refused_call (turned_down (bytes_of _ c.type_inv.member) c.requires m c.if-fine.false) a.totals.now a.nodes.now a.cells.now a.dimension)

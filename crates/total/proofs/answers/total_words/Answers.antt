@@ -1,3 +1,4 @@
+use Rattle.std.proofs.lemmas.Bool.{le-leb, lt-leb}
 use lib.ListN.{length}
 use Rattle.grammar.specs.Laws.Member.Checked.{checked}
 use Rattle.total.specs.Laws.Doubles.{total_numbers}
@@ -8,7 +9,7 @@ pub answer_words-requires : goal.answer_words-requires
 answer_words-requires c = let a = c.args in rw c.total-x.ensures.answers.answer (total_numbers (checked a.member.now) (length a.nodes.now) (length a.cells.now) a.dimension a.leaf)
 
 pub returns-then-room : goal.returns-then-room
-returns-then-room c = read _ _ _ _ _ _ _ c.if-room.true-raw c.total-x.ensures.answers c.total-x.ensures.demands c.answer_words.ensures
+returns-then-room c = read _ _ _ _ _ _ _ (le-leb _ _ c.if-room.true) c.total-x.ensures.answers c.total-x.ensures.demands c.answer_words.ensures
 
 pub returns-else-room : goal.returns-else-room
-returns-else-room c = not_read _ _ _ _ _ _ c.if-room.false-raw
+returns-else-room c = not_read _ _ _ _ _ _ (lt-leb _ _ c.if-room.false)

@@ -1,4 +1,3 @@
-use borrow.Author.Tests.{eqb-true, eqb-false}
 use Rattle.layout.specs.Steps.Slices.{bytes_of}
 use Rattle.total.specs.Laws.Reading.{taken, turned_down}
 use Rattle.total.specs.Laws.Call.{refused_call}
@@ -7,11 +6,11 @@ use Rattle.total.proofs.call.with_lists.Goals as goal
 pub accepted-requires : goal.accepted-requires
 accepted-requires c =
     let m = c.read_into-a.ensures in
-    taken (bytes_of _ c.type_inv.member) c.requires m (eqb-true _ _ c.if-fine.true-raw)
+    taken (bytes_of _ c.type_inv.member) c.requires m c.if-fine.true
 
 pub returns-else-fine : goal.returns-else-fine
 returns-else-fine c =
     let a = c.args in
     let m = c.read_into-a.ensures in
     rw c.refused.ensures
-    (refused_call (turned_down (bytes_of _ c.type_inv.member) c.requires m (eqb-false _ _ c.if-fine.false-raw)) a.nodes.now a.cells.now a.dimension a.leaf)
+    (refused_call (turned_down (bytes_of _ c.type_inv.member) c.requires m c.if-fine.false) a.nodes.now a.cells.now a.dimension a.leaf)
