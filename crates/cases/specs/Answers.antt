@@ -19,20 +19,20 @@ abbrev pub well : Answer
 well = record { refusal = 0; place = 0 }
 
 -- "21 at place 0 for a bad kind list or bias at the start, or a state with a number out of range"
-abbrev pub bad-state : Answer
-bad-state = record { refusal = 21; place = 0 }
+abbrev pub bad_state : Answer
+bad_state = record { refusal = 21; place = 0 }
 
 -- "22 .. at the code's position in the whole stream"
-abbrev pub bad-code : ℕ → Answer
-bad-code p = record { refusal = 22; place = p }
+abbrev pub bad_code : ℕ → Answer
+bad_code p = record { refusal = 22; place = p }
 
 -- "7 likewise at position 4,294,967,295"
 abbrev pub too_many : Answer
 too_many = record { refusal = 7; place = limit }
 
 -- "23, at the number of bytes taken so far"
-abbrev pub too-soon : ℕ → Answer
-too-soon n = record { refusal = 23; place = n }
+abbrev pub too_soon : ℕ → Answer
+too_soon n = record { refusal = 23; place = n }
 
 -- ---- the start
 
@@ -45,34 +45,34 @@ abbrev pub cursor₀ : Cursor
 cursor₀ = gather_at 0 0 0 0
 
 -- "the kinds of a case's elements, 1 to 256 of them, numeric or string, and a bias that is a whole number from 0 to 255"
-unfoldable pub start-ok : List ℕ → ℕ → Bool
-start-ok l bias = pick (ltb 0 (length l)) (pick (leb (length l) most_kinds) (pick (leb bias most_bias) (kinds_ok (length l) (padded (length l) l)) false) false) false
+unfoldable pub start_ok : List ℕ → ℕ → Bool
+start_ok l bias = pick (ltb 0 (length l)) (pick (leb (length l) most_kinds) (pick (leb bias most_bias) (kinds_ok (length l) (padded (length l) l)) false) false) false
 
 -- 21, and a state of zeros
-abbrev pub refused-start : Started
-refused-start = record { answer = bad-state; state = record { kinds = padded 0 []; count = 0; bias = 0; cursor = cursor₀ } }
+abbrev pub refused_start_answer : Started
+refused_start_answer = record { answer = bad_state; state = record { kinds = padded 0 []; count = 0; bias = 0; cursor = cursor₀ } }
 
 unfoldable pub start_of : List ℕ → ℕ → Started
-start_of l bias = pick (start-ok l bias)
+start_of l bias = pick (start_ok l bias)
     (record { answer = well; state = record { kinds = padded (length l) l; count = length l; bias = bias; cursor = cursor₀ } })
-    refused-start
+    refused_start_answer
 
 -- ---- a call
 
 -- "the state answers 22 at that position for ever after; 7 likewise"
-unfoldable pub refusal-of : machine.State → Answer
-refusal-of (gather at n g) = well
-refusal-of (acting at n p c cs k) = well
-refusal-of (stopped at n ended) = well
-refusal-of (stopped at n (bad p)) = bad-code p
-refusal-of (stopped at n full) = too_many
+unfoldable pub refusal_of : machine.State → Answer
+refusal_of (gather at n g) = well
+refusal_of (acting at n p c cs k) = well
+refusal_of (stopped at n ended) = well
+refusal_of (stopped at n (bad p)) = bad_code p
+refusal_of (stopped at n full) = too_many
 
 -- what the machine does with a state, an input and an output of so many bytes: room for an element is eight bytes
-unfoldable pub fed-of : State → List ℕ → ℕ → Out
-fed-of s input bytes = machine.feed (firsts s.count s.kinds) s.bias (view s.cursor) input (fits (bytes / 8))
+unfoldable pub fed_of : State → List ℕ → ℕ → Out
+fed_of s input bytes = machine.feed (firsts s.count s.kinds) s.bias (view s.cursor) input (fits (bytes / 8))
 
-abbrev pub state-after : Out → machine.State
-state-after (out t rest es) = t
+abbrev pub state_after : Out → machine.State
+state_after (out t rest es) = t
 
 abbrev pub not_taken : Out → List ℕ
 not_taken (out t rest es) = rest
@@ -83,26 +83,26 @@ elements (out t rest es) = es
 -- the state's numbers, its refusal, the bytes taken, the elements written
 unfoldable pub answered : State → List ℕ → Out → Call
 answered s input x = record {
-  state = record { kinds = s.kinds; count = s.count; bias = s.bias; cursor = numbers (state-after x) };
-  answer = refusal-of (state-after x);
+  state = record { kinds = s.kinds; count = s.count; bias = s.bias; cursor = numbers (state_after x) };
+  answer = refusal_of (state_after x);
   taken = length input - length (not_taken x);
   written = length (elements x);
 }
 
 -- 21 with nothing taken or written and the state as it was; or what the machine does
-unfoldable pub call-of : State → List ℕ → ℕ → Call
-call-of s input bytes = pick (state_ok s) (answered s input (fed-of s input bytes)) (record { state = s; answer = bad-state; taken = 0; written = 0 })
+unfoldable pub call_of : State → List ℕ → ℕ → Call
+call_of s input bytes = pick (state_ok s) (answered s input (fed_of s input bytes)) (record { state = s; answer = bad_state; taken = 0; written = 0 })
 
 -- the elements stand at the output's front, and "output beyond the elements stays"
-unfoldable pub output-of : State → List ℕ → List ℕ → List ℕ
-output-of s input o = pick (state_ok s) (sets o 0 (joined (elements (fed-of s input (length o))))) o
+unfoldable pub output_of : State → List ℕ → List ℕ → List ℕ
+output_of s input o = pick (state_ok s) (sets o 0 (joined (elements (fed_of s input (length o))))) o
 
 -- a call of `feed`: r and the output o₁ after it
 pub record Called (s : State) (input o₀ o₁ : List ℕ) (r : Call) : Type 0 where
-  pub is : r ≡ call-of s input (length o₀)
-  pub output : o₁ ≡ output-of s input o₀
+  pub is : r ≡ call_of s input (length o₀)
+  pub output : o₁ ≡ output_of s input o₀
   -- the numbers that it leaves stand for the machine's state
-  pub stands : state_ok s ≡ true → fed-of s input (length o₀) ≡ out (view r.state.cursor) (drop r.taken input) (elements (fed-of s input (length o₀)))
+  pub stands : state_ok s ≡ true → fed_of s input (length o₀) ≡ out (view r.state.cursor) (drop r.taken input) (elements (fed_of s input (length o₀)))
   -- no call leaves a state that is 21
   pub lasts : state_ok s ≡ true → state_ok r.state ≡ true
   -- the two counts are 32-bit words
@@ -114,26 +114,26 @@ pub record Called (s : State) (input o₀ o₁ : List ℕ) (r : Call) : Type 0 w
 -- "23 .. when told of the end before a 252 has acted, if a code is still to act, a group or block unfinished or a case incomplete"
 unfoldable pub ending : machine.State → Answer
 ending (gather zero n []) = well
-ending (gather (suc at) n []) = too-soon n
-ending (gather at n (c ∷ g)) = too-soon n
-ending (acting at n p c cs k) = too-soon n
+ending (gather (suc at) n []) = too_soon n
+ending (gather at n (c ∷ g)) = too_soon n
+ending (acting at n p c cs k) = too_soon n
 ending (stopped at n ended) = well
-ending (stopped at n (bad p)) = bad-code p
+ending (stopped at n (bad p)) = bad_code p
 ending (stopped at n full) = too_many
 
-unfoldable pub finish-of : State → Answer
-finish-of s = pick (state_ok s) (ending (view s.cursor)) bad-state
+unfoldable pub finish_of : State → Answer
+finish_of s = pick (state_ok s) (ending (view s.cursor)) bad_state
 
 -- ---- the same by numbers, as the code has it
 
-unfoldable pub refusal-at : ℕ → ℕ → Answer
-refusal-at phase place = pick (eqb phase 22) (bad-code place) (pick (eqb phase 7) too_many well)
+unfoldable pub refusal_at : ℕ → ℕ → Answer
+refusal_at phase place = pick (eqb phase 22) (bad_code place) (pick (eqb phase 7) too_many well)
 
-unfoldable pub unfinished-at : ℕ → ℕ → ℕ → ℕ → Answer
-unfinished-at phase left at n = pick (eqb phase 0) (pick (eqb left 0) (pick (eqb at 0) well (too-soon n)) (too-soon n)) (too-soon n)
+unfoldable pub unfinished_at : ℕ → ℕ → ℕ → ℕ → Answer
+unfinished_at phase left at n = pick (eqb phase 0) (pick (eqb left 0) (pick (eqb at 0) well (too_soon n)) (too_soon n)) (too_soon n)
 
-unfoldable pub end-at : Cursor → Answer
-end-at c = pick (eqb c.phase 252) well
-    (pick (eqb c.phase 22) (refusal-at c.phase c.place)
-    (pick (eqb c.phase 7) (refusal-at c.phase c.place)
-    (unfinished-at c.phase c.left c.at c.taken)))
+unfoldable pub end_where : Cursor → Answer
+end_where c = pick (eqb c.phase 252) well
+    (pick (eqb c.phase 22) (refusal_at c.phase c.place)
+    (pick (eqb c.phase 7) (refusal_at c.phase c.place)
+    (unfinished_at c.phase c.left c.at c.taken)))

@@ -16,7 +16,7 @@ use Rattle.cases.specs.declared.Call.{Call}
 use Rattle.case_state.specs.Cursor.{view, Good}
 use Rattle.case_state.specs.Tests.{state_ok}
 use Rattle.cases.specs.Steps.{firsts}
-use Rattle.cases.specs.Answers.{padded, cursor₀, start-ok, elements, fed-of, answered, call-of, Called}
+use Rattle.cases.specs.Answers.{padded, cursor₀, start_ok, elements, fed_of, answered, call_of, Called}
 use Rattle.case_state.proofs.Laws.Valid.{state_parts}
 use Rattle.cases.specs.Laws.Canonical.{view_one}
 use Rattle.cases.specs.Laws.Lasting.{start_is, start_lasts, padded_firsts}
@@ -30,7 +30,7 @@ module _ (kinds : List ℕ) (count bias : ℕ) where
   with_it c = record { kinds = kinds; count = count; bias = bias; cursor = c }
 
   abbrev pub wrote_by : Cursor → List ℕ → List ℕ → List Element
-  wrote_by c offered o = elements (fed-of (with_it c) offered (length o))
+  wrote_by c offered o = elements (fed_of (with_it c) offered (length o))
 
   -- Calls of `feed` from c with the bytes s still to offer, to d with the bytes s', and the elements that they wrote: each was offered a first
   -- part of what was left, with any output, and what it didn't take was offered again.
@@ -55,7 +55,7 @@ module _ (kinds : List ℕ) (count bias : ℕ) where
   called_is : {c d : Cursor} {offered o₀ o₁ : List ℕ} {a : Answer} {i w : ℕ} → state_ok (with_it c) ≡ true
       → Called (with_it c) offered o₀ o₁ (record { state = with_it d; answer = a; taken = i; written = w })
       → feed K bias (view c) offered (fits (length o₀ / 8)) ≡ out (view d) (drop i offered) (wrote_by c offered o₀)
-  unfolding fed-of
+  unfolding fed_of
   called_is ok f = f.stands ok
 
   calls_of : {c d : Cursor} {s s' : List ℕ} {es : List Element} → state_ok (with_it c) ≡ true → Made c s d s' es → Calls K bias (view c) s (view d) s' es × (state_ok (with_it d) ≡ true)
@@ -70,7 +70,7 @@ module _ (kinds : List ℕ) (count bias : ℕ) where
 
   count_wrote : {c d : Cursor} {offered o₀ o₁ : List ℕ} {a : Answer} {i w : ℕ} → state_ok (with_it c) ≡ true
       → Called (with_it c) offered o₀ o₁ (record { state = with_it d; answer = a; taken = i; written = w }) → w ≡ length (wrote_by c offered o₀)
-  unfolding call-of answered pick
+  unfolding call_of answered pick
   count_wrote ok f = ap (λ (r : Call). r.written) f.is ∙ rw ok
 
   run_of : {c d : Cursor} {s rest : List ℕ} {es : List Element} → state_ok (with_it c) ≡ true → Ended c s d rest es → run K bias (view c) s ≡ out (view d) rest es
@@ -99,7 +99,7 @@ unfolding view pick le
 at_start = refl
 
 -- From a start that is not refused: they are those of the whole stream's meaning.
-pub means_of : (l : List ℕ) (bias : ℕ) → start-ok l bias ≡ true → {d : Cursor} {s rest : List ℕ} {es : List Element}
+pub means_of : (l : List ℕ) (bias : ℕ) → start_ok l bias ≡ true → {d : Cursor} {s rest : List ℕ} {es : List Element}
     → Ended (padded (length l) l) (length l) bias cursor₀ s d rest es → out (view d) rest es ≡ out_of l bias 0 (meaning l bias s)
 means_of l bias ok {d} {s} {rest} {es} e =
     let k = padded (length l) l in

@@ -82,7 +82,7 @@ fn padded(kinds: &[u8]) -> [u8; 256]
 
 // 21, and a state of zeros, which is none.
 fn refused_start() -> Started
-    ensures { result ≡ spec.refused-start }
+    ensures { result ≡ spec.refused_start_answer }
 {
     let kinds = padded(b"");
     Started {
@@ -159,7 +159,7 @@ pub fn start(kinds: &[u8], bias: u32) -> Started
 
 // The refusal for ever after, of a state that has one.
 fn refusal_of(c: Cursor) -> Answer
-    ensures { result ≡ spec.refusal-at c.phase c.place }
+    ensures { result ≡ spec.refusal_at c.phase c.place }
 {
     let is_bad = c.phase == BAD_CODE;
     if is_bad {
@@ -217,7 +217,7 @@ pub fn feed(s: State, input: &[u8], output: &mut [u8]) -> Call
 
 // 23 at the bytes taken, unless there is nothing left to do: no code, no part of a group, no part of a case.
 fn unfinished(c: Cursor) -> Answer
-    ensures { result ≡ spec.unfinished-at c.phase c.left c.at c.taken }
+    ensures { result ≡ spec.unfinished_at c.phase c.left c.at c.taken }
 {
     let gathers = c.phase == GATHERS;
     if gathers {
@@ -239,7 +239,7 @@ fn unfinished(c: Cursor) -> Answer
 }
 
 fn end_of(c: Cursor) -> Answer
-    ensures { result ≡ spec.end-at c }
+    ensures { result ≡ spec.end_where c }
 {
     let is_ended = c.phase == ENDED;
     if is_ended {
@@ -261,7 +261,7 @@ fn end_of(c: Cursor) -> Answer
 
 // The end of the stream: it changes nothing.
 pub fn finish(s: State) -> Answer
-    ensures { result ≡ spec.finish-of s }
+    ensures { result ≡ spec.finish_of s }
 {
     let good = state_ok(s);
     if good {

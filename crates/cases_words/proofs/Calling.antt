@@ -16,7 +16,7 @@ use Rattle.store.specs.Laws.Puts.{with_room}
 use Rattle.cases.specs.declared.Started.{Started as Beginning}
 use Rattle.cases.specs.declared.Answer.{Answer}
 use Rattle.cases.specs.declared.Call.{Call}
-use Rattle.cases.specs.Answers.{start_of, finish-of, Called}
+use Rattle.cases.specs.Answers.{start_of, finish_of, Called}
 use Rattle.case_state.proofs.Laws.Tests.{both}
 use Rattle.cases_words.specs.StateWords.{state_words, state_words_of, state_of}
 use Rattle.cases_words.specs.Calls.{short_answer, call_answer, answer_words_of, call_words, roomy, Started, Fed, Ended}
@@ -72,7 +72,7 @@ module _ (state input output answer : List ℕ) where
   not_fed t = record { gives = rw t; answers = rw t; leaves = rw t; writes = rw t; called = λ u. absurd (true≢false (sym u ∙ t)) }
 
 module _ (state answer : List ℕ) where
-  pub ended : (a : Answer) {answer' : List ℕ} {r : Step} → roomy (length state) (length answer) short_answer ≡ true → a ≡ finish-of (state_of state)
+  pub ended : (a : Answer) {answer' : List ℕ} {r : Step} → roomy (length state) (length answer) short_answer ≡ true → a ≡ finish_of (state_of state)
       → PutsWords (answer_words_of a) answer (Next 0) answer' r → Ended state answer short_answer answer'
   unfolding pick
   ended a t e x =

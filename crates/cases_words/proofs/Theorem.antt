@@ -13,7 +13,7 @@ use Rattle.case_state.specs.Tests.{state_ok}
 use Rattle.cases.specs.declared.Answer.{Answer}
 use Rattle.cases.specs.declared.Call.{Call}
 use Rattle.cases.specs.Laws.Lasting.{start_parts, start_is, start_lasts}
-use Rattle.cases.specs.Answers.{padded, cursor₀, start-ok, start_of, refusal-of, state-after, not_taken, elements, fed-of, answered, call-of, Called}
+use Rattle.cases.specs.Answers.{padded, cursor₀, start_ok, start_of, refusal_of, state_after, not_taken, elements, fed_of, answered, call_of, Called}
 use Rattle.cases.specs.Theorem as code
 use Rattle.cases.specs.Theorem.{with_it}
 use Rattle.cases_words.specs.StateWords.{state_words, state_words_of, state_of}
@@ -23,7 +23,7 @@ use Rattle.cases_words.proofs.Laws.Back.{state_back}
 
 -- the elements that a call with these words of a state wrote
 abbrev pub wrote : List ℕ → List ℕ → List ℕ → List Element
-wrote ws offered o = elements (fed-of (state_of ws) offered (length o))
+wrote ws offered o = elements (fed_of (state_of ws) offered (length o))
 
 -- Calls of `feed_words` from the words ws with the bytes s still to offer, to the words ws' with the bytes s', and the elements that they wrote: each was
 -- offered a first part of what was left, with any output and an answer that is long enough, and what it didn't take, by the third word of its
@@ -51,8 +51,8 @@ pub record Ended (ws s ws' rest : List ℕ) (es : List Element) : Type 0 where
 -- ---- a call
 
 -- what a machine's state answers is never 21
-never_21 : (m : Machine) → eqb (refusal-of m).refusal 21 ≡ false
-unfolding refusal-of
+never_21 : (m : Machine) → eqb (refusal_of m).refusal 21 ≡ false
+unfolding refusal_of
 never_21 (gather at n g) = refl
 never_21 (acting at n p c cs k) = refl
 never_21 (stopped at n ended) = refl
@@ -66,22 +66,22 @@ module _ (kinds : List ℕ) (count bias : ℕ) (long : length kinds ≡ 256) whe
   module _ {ws offered o₀ o₁ a₀ a₁ next : List ℕ} (c : Cursor) (is : state_of ws ≡ state c) (ok : state_ok (state c) ≡ true)
       (room : roomy (length ws) (length a₀) call_answer ≡ true) (f : Fed ws offered o₀ a₀ call_answer next o₁ a₁) where
     abbrev d : Cursor
-    d = numbers (state-after (fed-of (state c) offered (length o₀)))
+    d = numbers (state_after (fed_of (state c) offered (length o₀)))
 
     abbrev a : Answer
-    a = refusal-of (state-after (fed-of (state c) offered (length o₀)))
+    a = refusal_of (state_after (fed_of (state c) offered (length o₀)))
 
     abbrev i : ℕ
-    i = length offered - length (not_taken (fed-of (state c) offered (length o₀)))
+    i = length offered - length (not_taken (fed_of (state c) offered (length o₀)))
 
     abbrev w : ℕ
-    w = length (elements (fed-of (state c) offered (length o₀)))
+    w = length (elements (fed_of (state c) offered (length o₀)))
 
     abbrev r : Call
     r = record { state = state d; answer = a; taken = i; written = w }
 
-    call_is : call-of (state c) offered (length o₀) ≡ r
-    unfolding call-of answered pick
+    call_is : call_of (state c) offered (length o₀) ≡ r
+    unfolding call_of answered pick
     call_is = rw ok
 
     called : Called (state c) offered o₀ o₁ r
@@ -92,7 +92,7 @@ module _ (kinds : List ℕ) (count bias : ℕ) (long : length kinds ≡ 256) whe
 
     next_words : next ≡ state_words_of (state d) ++ drop state_words ws
     unfolding pick
-    next_words = rw (room, is, call_is, never_21 (state-after (fed-of (state c) offered (length o₀)))) at f.leaves
+    next_words = rw (room, is, call_is, never_21 (state_after (fed_of (state c) offered (length o₀)))) at f.leaves
 
     next_is : state_of next ≡ state d
     next_is = rw next_words (state_back (state d) lasts (drop state_words ws) long)
@@ -178,7 +178,7 @@ unfolding padded
 padded_long l h = rw (length-append, length-replicate, length-take-le (length l) l (omega arith)) (omega arith)
 
 -- From a start that is not refused: they are those of the whole stream's meaning.
-pub means_of : (l : List ℕ) (bias : ℕ) → start-ok l bias ≡ true → {state answer state' answer' : List ℕ} → roomy (length state) (length answer) short_answer ≡ true
+pub means_of : (l : List ℕ) (bias : ℕ) → start_ok l bias ≡ true → {state answer state' answer' : List ℕ} → roomy (length state) (length answer) short_answer ≡ true
     → Started l bias state answer short_answer state' answer' → {s ws' rest : List ℕ} {es : List Element} → Ended state' s ws' rest es
     → out (view (state_of ws').cursor) rest es ≡ out_of l bias 0 (meaning l bias s)
 unfolding start_of pick

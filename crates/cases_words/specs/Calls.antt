@@ -3,7 +3,7 @@ use Rattle.std.specs.Prelude.{◌≡◌, Bool, true, false, not, List, [], ◌�
 use Rattle.sizes.specs.Basics.{pick}
 use Rattle.cases.specs.declared.Answer.{Answer}
 use Rattle.cases.specs.declared.Call.{Call}
-use Rattle.cases.specs.Answers.{start_of, call-of, output-of, finish-of, Called}
+use Rattle.cases.specs.Answers.{start_of, call_of, output_of, finish_of, Called}
 use Rattle.cases_words.specs.StateWords.{state_words, state_words_of, state_of}
 
 -- the words of an answer
@@ -37,14 +37,14 @@ pub record Started (kinds : List ℕ) (bias : ℕ) (state answer : List ℕ) (n 
 -- of `feed_words`: a state that is 21 stays as it is
 pub record Fed (state input output answer : List ℕ) (n : ℕ) (state' output' answer' : List ℕ) : Type 0 where
   pub gives : n ≡ pick (roomy (length state) (length answer) call_answer) call_answer 0
-  pub answers : answer' ≡ front (roomy (length state) (length answer) call_answer) call_answer (call_words (call-of (state_of state) input (length output))) answer
+  pub answers : answer' ≡ front (roomy (length state) (length answer) call_answer) call_answer (call_words (call_of (state_of state) input (length output))) answer
   pub leaves : state' ≡ pick (roomy (length state) (length answer) call_answer)
-      (front (not (eqb (call-of (state_of state) input (length output)).answer.refusal 21)) state_words (state_words_of (call-of (state_of state) input (length output)).state) state) state
-  pub writes : output' ≡ pick (roomy (length state) (length answer) call_answer) (output-of (state_of state) input output) output
+      (front (not (eqb (call_of (state_of state) input (length output)).answer.refusal 21)) state_words (state_words_of (call_of (state_of state) input (length output)).state) state) state
+  pub writes : output' ≡ pick (roomy (length state) (length answer) call_answer) (output_of (state_of state) input output) output
   -- it is a call of `feed`: what it leaves stands for the machine's state, and is no state that is 21
-  pub called : roomy (length state) (length answer) call_answer ≡ true → Called (state_of state) input output output' (call-of (state_of state) input (length output))
+  pub called : roomy (length state) (length answer) call_answer ≡ true → Called (state_of state) input output output' (call_of (state_of state) input (length output))
 
 -- of `end_words`
 pub record Ended (state answer : List ℕ) (n : ℕ) (answer' : List ℕ) : Type 0 where
   pub gives : n ≡ pick (roomy (length state) (length answer) short_answer) short_answer 0
-  pub answers : answer' ≡ front (roomy (length state) (length answer) short_answer) short_answer (answer_words_of (finish-of (state_of state))) answer
+  pub answers : answer' ≡ front (roomy (length state) (length answer) short_answer) short_answer (answer_words_of (finish_of (state_of state))) answer

@@ -28,8 +28,8 @@ pub record Answers {A : Type 0} (version : ℕ) (g : Layout) (says : Tree g → 
 abbrev pub refused : ℕ → ℕ → Contents
 refused n p = record { refusal = n; place = p; length = 0; zeros = 0; raw = raw 0 0 0 0 false none none none none none 0 0 }
 
-abbrev pub refusedArgument : ℕ → ℕ → ArgumentContents
-refusedArgument n p = record { refusal = n; place = p; length = 0; values = 0; first = 0 }
+abbrev pub refused_argument_answer : ℕ → ℕ → ArgumentContents
+refused_argument_answer n p = record { refusal = n; place = p; length = 0; values = 0; first = 0 }
 
 -- a Value with all the bytes 00 that a cell may have before it: names of nodes and dimensions are read so too (`Members`)
 abbrev pub ValueAnswers : ℕ → List ℕ → Contents → Type 0
@@ -37,4 +37,4 @@ ValueAnswers version s x = Answers version (CellValue version) (contents version
 
 -- an Argument of the outermost Value; those inside are read so too (`Nested`)
 abbrev pub ArgumentAnswers : ℕ → List ℕ → ArgumentContents → Type 0
-ArgumentAnswers version s x = Answers version (Argument version below_value) (argument_contents version) refusedArgument s x
+ArgumentAnswers version s x = Answers version (Argument version below_value) (argument_contents version) refused_argument_answer s x

@@ -11,7 +11,7 @@ use Rattle.contents.specs.declared.Contents.{Contents}
 use Rattle.contents.specs.declared.RawValue.{RawValue}
 use Rattle.contents.specs.Contents.{none, raw, contents, chosen, either, raw_says, template_form, says_01, says_02, says_03, says_04, says_05, says_06, says_31, says_58, argument_of, argument_contents}
 use Rattle.contents.specs.Answers.{unread, refused}
-use Rattle.contents.specs.Laws.Answers.{answer_of, valueAnswer, argumentAnswer}
+use Rattle.contents.specs.Laws.Answers.{answer_of, value_answer, argument_answer}
 
 -- bytes from a place on
 abbrev at : ℕ → ℕ → Name
@@ -88,11 +88,11 @@ no_bytes = record { version = 3; bytes = []; says = refused 2 0 }
 abbrev pub examples : List Example
 examples = form_01 ∷ form_02 ∷ form_03 ∷ form_04 ∷ form_05 ∷ form_06 ∷ template ∷ five_zeros ∷ five_zeros_in_3 ∷ another_version ∷ no_bytes ∷ []
 
-pub all_right : map (λ (e : Example). valueAnswer e.version e.bytes) examples ≡ map (λ (e : Example). e.says) examples
+pub all_right : map (λ (e : Example). value_answer e.version e.bytes) examples ≡ map (λ (e : Example). e.says) examples
 unfolding answer_of unread pick among passes suits undigits undigit refusal read bind read_number read_counted read_times read_leading read_fill ends lead placed placed_all placed_in spell spell_all spell_fill digits le size contents chosen either raw_says says_01 says_02 says_03 says_04 says_05 says_06 says_31 says_58 argument_contents grammar.CellValue grammar.RawValueOf grammar.ValueIn grammar.ValueMod grammar.Modifiers grammar.TemplateString grammar.TemplatePrefix grammar.StylePair grammar.FontStyle grammar.CellStyle grammar.TemplateOf grammar.ArgumentOf grammar.Form01 grammar.Form02 grammar.Form03 grammar.Form04 grammar.Form05 grammar.Form06
 all_right = refl
 
 -- its second argument alone, with bytes after it
-argument : argumentAnswer 3 (2 ∷ 0 ∷ 0 ∷ 0 ∷ 0 ∷ 0 ∷ 0 ∷ 0 ∷ [] ++ simple ++ simple ++ 7 ∷ []) ≡ argument_of 36 2
+argument : argument_answer 3 (2 ∷ 0 ∷ 0 ∷ 0 ∷ 0 ∷ 0 ∷ 0 ∷ 0 ∷ [] ++ simple ++ simple ++ 7 ∷ []) ≡ argument_of 36 2
 unfolding answer_of unread pick among passes suits undigits undigit refusal read bind read_number read_counted read_times read_leading read_fill ends lead placed placed_all placed_in spell spell_all spell_fill digits le size contents chosen either raw_says says_01 says_02 says_03 says_04 says_05 says_06 says_31 says_58 argument_contents grammar.CellValue grammar.RawValueOf grammar.ValueIn grammar.ValueMod grammar.Modifiers grammar.TemplateString grammar.TemplatePrefix grammar.StylePair grammar.FontStyle grammar.CellStyle grammar.TemplateOf grammar.ArgumentOf grammar.Form01 grammar.Form02 grammar.Form03 grammar.Form04 grammar.Form05 grammar.Form06
 argument = refl

@@ -1,6 +1,6 @@
 // The double of a Value that is a number, and the form that has it, for those who ask for no more: no other form is read.
 ghost use Rattle.std.specs.Prelude.{◌≡◌};
-ghost use Rattle.contents.specs.Laws.Answers.{outcome, valueAnswer};
+ghost use Rattle.contents.specs.Laws.Answers.{outcome, value_answer};
 ghost use Rattle.contents.specs.Laws.Figure as spec;
 
 use crate::forms::{Got, form_01, form_02};
@@ -52,7 +52,7 @@ fn figure_of(got: Got) -> Figure
 
 // A figure after the bytes 00 of a Value, by the first byte that follows.
 fn figure_at(s: &[u8], version: u64) -> Figure
-    ensures { result ≡ spec.figure (valueAnswer version s.now).raw }
+    ensures { result ≡ spec.figure (value_answer version s.now).raw }
 {
     let n = unread(s, version);
     if n != 0 {
@@ -74,7 +74,7 @@ fn figure_at(s: &[u8], version: u64) -> Figure
 
 // The figure of the Value in front of the bytes, in a member of that version.
 pub fn read_figure(s: &[u8], version: u64) -> Figure
-    ensures { result ≡ spec.figure (valueAnswer version s.now).raw }
+    ensures { result ≡ spec.figure (value_answer version s.now).raw }
 {
     let plain = is_plain(s, version);
     if plain {

@@ -113,7 +113,7 @@ pub fn read_value(s: &[u8], version: u64) -> Contents
 }
 
 fn refused_argument(n: u32, p: usize) -> Argument
-    ensures { result ≡ spec.refusedArgument n p }
+    ensures { result ≡ spec.refused_argument_answer n p }
 {
     Argument {
         refusal: n,

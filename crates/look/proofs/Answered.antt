@@ -15,7 +15,7 @@ use Rattle.fields.specs.Gives.{Shows}
 use Rattle.look.specs.declared.Look.{Look}
 use Rattle.look.specs.Look.{TableLook}
 use Rattle.look.specs.Values as values
-use Rattle.look.specs.Answers.{look-of, accepted, refused, expected}
+use Rattle.look.specs.Answers.{look_of, accepted, refused, expected}
 
 pub when_refused : {s : List ℕ} {r : Step} {n p : ℕ} → Reads TableLook s (Next 0) r → r ≡ Refused n p → refused n p ≡ expected (read TableLook s 0)
 unfolding step chain expected
@@ -25,7 +25,7 @@ when_refused {s} {r} {n} {p} h e = go (read TableLook s 0) (sym h.is ∙ e)
     go (got t rest q) i = absurd (let z : ◌≡◌ {A = ℕ} 0 1 = cc in omega arith)
     go (no m q) i = let a : n ≡ m = cc in let b : p ≡ q = cc in rw (a, b)
 
-module _ {s : List ℕ} {r : Step} (x : Look) (g : Shows TableLook (λ t at. look-of (placed TableLook t at)) s (Next 0) r (values.fields x)) (bs : Bytes s) {p : ℕ} (e : r ≡ Next p) where
+module _ {s : List ℕ} {r : Step} (x : Look) (g : Shows TableLook (λ t at. look_of (placed TableLook t at)) s (Next 0) r (values.fields x)) (bs : Bytes s) {p : ℕ} (e : r ≡ Next p) where
   pub when_left : p < length s → refused 11 p ≡ expected (read TableLook s 0)
   unfolding expected
   when_left h =

@@ -16,8 +16,8 @@ use Rattle.look.specs.Values as values
 
 -- ---- "When V2Styles is absent" (002)
 
-abbrev pub frame-of : Separator → Frame
-frame-of x = record { left = x; right = x; top = x; bottom = x }
+abbrev pub frame_said : Separator → Frame
+frame_said x = record { left = x; right = x; top = x; bottom = x }
 
 -- "drawn solid (style 0, width 1, color 0)" (document 02, T-10)
 abbrev pub solid : Separator
@@ -27,7 +27,7 @@ solid = Drawn 0 0 1
 -- for min-col-width and min-row-height, 72 for max-col-width, and 120 for max-row-height"
 abbrev pub defaults : V2Styles
 defaults = record {
-  frames = record { title = NotDrawn; inner = frame-of solid; outer = frame-of NotDrawn; data_left = NotDrawn; data_top = NotDrawn };
+  frames = record { title = NotDrawn; inner = frame_said solid; outer = frame_said NotDrawn; data_left = NotDrawn; data_top = NotDrawn };
   continuation = Default;
   min_col_width = 36;
   max_col_width = 72;
@@ -36,14 +36,14 @@ defaults = record {
 }
 
 -- what stands in the file, or the defaults
-abbrev pub v2-data : (b : Bool) → Fields (grammar.V2StylesIf b) → Fields grammar.V2Styles
-v2-data true f = f
-v2-data false f = values.v2_styles defaults
+abbrev pub v2_data : (b : Bool) → Fields (grammar.V2StylesIf b) → Fields grammar.V2Styles
+v2_data true f = f
+v2_data false f = values.v2_styles defaults
 
 -- "now come back as version 02 looks with 002's defaults" (document 02, T-10): the version, and V2Styles, the last section. All else is as
 -- in the file
-abbrev pub look-of : Fields TableLook → Fields TableLook02
-look-of f = (f.0, (2, (f.1.1.0, (f.1.1.1.0, v2-data (eqb f.1.0 2) f.1.1.1.1))))
+abbrev pub look_of : Fields TableLook → Fields TableLook02
+look_of f = (f.0, (2, (f.1.1.0, (f.1.1.1.0, v2_data (eqb f.1.0 2) f.1.1.1.1))))
 
 -- ---- the answer
 
@@ -60,5 +60,5 @@ outcome (Refused n p) = refused n p
 -- what a reading says: "front to back, then 11"
 unfoldable pub expected : Got (Tree TableLook) → Outcome
 expected (no n p) = refused n p
-expected (got t [] p) = accepted (look-of (placed TableLook t 0))
+expected (got t [] p) = accepted (look_of (placed TableLook t 0))
 expected (got t (b ∷ bs) p) = refused 11 p

@@ -7,7 +7,7 @@ ghost use Rattle.fields.specs.Gives.{Shows, Gives};
 ghost use Rattle.look.specs.Look as grammar;
 ghost use Rattle.look.specs.Values as values;
 ghost use Rattle.look.specs.Answers as spec;
-ghost use Rattle.look.specs.Answers.{defaults, v2-data, look-of, outcome, expected};
+ghost use Rattle.look.specs.Answers.{defaults, v2_data, look_of, outcome, expected};
 
 use crate::areas::{cell_style, text_style};
 use crate::borders::{frames, separator_style};
@@ -87,7 +87,7 @@ fn v2_styles(s: &[u8], st: Step) -> GotV2
 
 // A frame with the same border on every side.
 fn frame_of(x: Separator) -> Frame
-    ensures { result ≡ spec.frame-of x }
+    ensures { result ≡ spec.frame_said x }
 {
     Frame {
         left: x,
@@ -124,7 +124,7 @@ fn default_v2_styles() -> V2Styles
 
 // V2Styles, which version 02 has; otherwise the defaults.
 fn v2_styles_if(s: &[u8], st: Step, new: bool) -> GotV2
-    ensures { Shows (grammar.V2StylesIf new) (λ t at. v2-data new (placed (grammar.V2StylesIf new) t at)) s.now st result.next (values.v2_styles result.value) }
+    ensures { Shows (grammar.V2StylesIf new) (λ t at. v2_data new (placed (grammar.V2StylesIf new) t at)) s.now st result.next (values.v2_styles result.value) }
 {
     if new {
         v2_styles(s, st)
@@ -143,7 +143,7 @@ struct GotLook {
 }
 
 fn table_look(s: &[u8], st: Step) -> GotLook
-    ensures { Shows grammar.TableLook (λ t at. look-of (placed grammar.TableLook t at)) s.now st result.next (values.fields result.value) }
+    ensures { Shows grammar.TableLook (λ t at. look_of (placed grammar.TableLook t at)) s.now st result.next (values.fields result.value) }
 {
     let st = section(s, st, b"PTTableLook");
     let v = peek(s, st, LITTLE, 1);

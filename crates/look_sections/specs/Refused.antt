@@ -14,7 +14,7 @@ use Rattle.store.specs.Fields.{placed}
 use Rattle.look.specs.declared.Look.{Look}
 use Rattle.look.specs.Look.{TableLook}
 use Rattle.look.specs.Values as values
-use Rattle.look.specs.Answers.{look-of}
+use Rattle.look.specs.Answers.{look_of}
 use Rattle.look.specs.Refused as look
 use Rattle.look_rules.specs.StyleRule.{style_rule}
 use Rattle.look_sections.specs.Writing.{sections}
@@ -22,7 +22,7 @@ use Rattle.look_sections.specs.Writing.{sections}
 -- the look that a derivation says
 pub record LookOf {s : List ℕ} (d : Derivation TableLook s) : Type 0 where
   pub look : Look
-  pub fields : values.fields look ≡ look-of (placed TableLook d.tree 0)
+  pub fields : values.fields look ≡ look_of (placed TableLook d.tree 0)
 
 pub data Refused (s : List ℕ) (room : ℕ) : ℕ → ℕ → Type 0 where
   -- "the look's own", before all others: the look is read whole

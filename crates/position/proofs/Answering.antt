@@ -11,7 +11,7 @@ use Rattle.sizes.specs.Basics.{pick}
 use Rattle.grammar.specs.RecordWords.{word}
 use Rattle.grammar.specs.Index.{product}
 use Rattle.position.specs.Axes.{part, axes_of, index_at}
-use Rattle.position.specs.Answers.{onceEach, tooLarge, axesMatch, refusal, along, at, noPosition, position, span_of, within, found, noIndex, index_of}
+use Rattle.position.specs.Answers.{each_axis_once, too_large_answer, axes_match, refusal, along, at, no_position_answer, position, span_of, within, found, no_index_answer, index_of}
 use Rattle.position.specs.Laws.Turned.{Fits, fits_none, fits_more}
 use Rattle.position.specs.Laws.Accepted.{part_whole, Accepted, no_refusal, Axis, layers, rows, columns}
 
@@ -19,12 +19,12 @@ module _ (ns : List ℕ) (a b c : ℕ) (order : List ℕ) where
   -- ---- the refusals 7 and 9
 
   pub many : most_dimensions < length ns → 7 ≡ refusal ns a b c order
-  unfolding refusal tooLarge pick
+  unfolding refusal too_large_answer pick
   many h = rw (lt-ltb most_dimensions (length ns) h)
 
   module _ {p : ℕ} (few : length ns ≤ most_dimensions) (is : p ≡ min (product ns) (most_places + 1)) where
     pub large : most_places < p → 7 ≡ refusal ns a b c order
-    unfolding refusal tooLarge pick
+    unfolding refusal too_large_answer pick
     large h = rw (le-ltb most_dimensions (length ns) few, lt-ltb most_places (product ns) (omega (arith, h, is)))
 
     module _ (small : p ≤ most_places) where
@@ -32,12 +32,12 @@ module _ (ns : List ℕ) (a b c : ℕ) (order : List ℕ) where
       exact = omega (arith, small, is)
 
       pub uneven : (a + b + c ≡ length ns → ⊥) → 9 ≡ refusal ns a b c order
-      unfolding refusal tooLarge axesMatch pick
+      unfolding refusal too_large_answer axes_match pick
       uneven h = rw (le-ltb most_dimensions (length ns) few, le-ltb most_places (product ns) exact, ne_eqb (a + b + c) (length ns) h)
 
       module _ (sum : a + b + c ≡ length ns) where
         pub unlike : (length order ≡ length ns → ⊥) → 9 ≡ refusal ns a b c order
-        unfolding refusal tooLarge axesMatch pick
+        unfolding refusal too_large_answer axes_match pick
         unlike h =
             rw (
               le-ltb most_dimensions (length ns) few,
@@ -46,11 +46,11 @@ module _ (ns : List ℕ) (a b c : ℕ) (order : List ℕ) where
               ne_eqb (length order) (length ns) h,
             )
 
-        pub settled : length order ≡ length ns → {t s : Bool} → t ≡ onceEach (length ns) (part (word order) 0 (length ns)) → t ≡ s → pick s 0 9 ≡ refusal ns a b c order
-        unfolding refusal tooLarge axesMatch pick
+        pub settled : length order ≡ length ns → {t s : Bool} → t ≡ each_axis_once (length ns) (part (word order) 0 (length ns)) → t ≡ s → pick s 0 9 ≡ refusal ns a b c order
+        unfolding refusal too_large_answer axes_match pick
         settled h {t} {s} q e =
             let w : part (word order) 0 (length ns) ≡ order = rw (← h) (part_whole order) in
-            let o : onceEach (length ns) order ≡ s = sym (rw w at q) ∙ e in
+            let o : each_axis_once (length ns) order ≡ s = sym (rw w at q) ∙ e in
             rw (
               le-ltb most_dimensions (length ns) few,
               le-ltb most_places (product ns) exact,
@@ -65,7 +65,7 @@ module _ (ns : List ℕ) (a b c : ℕ) (order : List ℕ) where
   -- ---- a position
 
   module _ (k : ℕ) {no : ℕ} (says : no ≡ refusal ns a b c order) where
-    pub refused : (no ≡ 0 → ⊥) → noPosition no ≡ position ns a b c order k
+    pub refused : (no ≡ 0 → ⊥) → no_position_answer no ≡ position ns a b c order k
     unfolding position pick
     refused h = rw (← says, ne_eqb no 0 h)
 
@@ -73,7 +73,7 @@ module _ (ns : List ℕ) (a b c : ℕ) (order : List ℕ) where
       x : Accepted ns a b c order
       x = no_refusal ns a b c order (sym says ∙ none)
 
-      pub outside : p ≤ k → k ≤ most_places → noPosition 10 ≡ position ns a b c order k
+      pub outside : p ≤ k → k ≤ most_places → no_position_answer 10 ≡ position ns a b c order k
       unfolding position pick
       outside h l = rw (← says, eq-eqb no 0 none, le-ltb k (product ns) (omega (arith, h, l, is)))
 
@@ -97,17 +97,17 @@ module _ (ns : List ℕ) (a b c : ℕ) (order : List ℕ) where
   -- ---- an index
 
   module _ (l r k : ℕ) {no : ℕ} (says : no ≡ refusal ns a b c order) where
-    pub no_cell : (no ≡ 0 → ⊥) → noIndex no ≡ index_of ns a b c order l r k
+    pub no_cell : (no ≡ 0 → ⊥) → no_index_answer no ≡ index_of ns a b c order l r k
     unfolding index_of pick
     no_cell h = rw (← says, ne_eqb no 0 h)
 
     module _ (none : no ≡ 0) {p : ℕ} (is : p ≡ min (span_of ns order 0 a) (most_places + 1)) where
-      pub layer_outside : p ≤ l → l ≤ most_places → noIndex 10 ≡ index_of ns a b c order l r k
+      pub layer_outside : p ≤ l → l ≤ most_places → no_index_answer 10 ≡ index_of ns a b c order l r k
       unfolding index_of within pick
       layer_outside h f = rw (← says, eq-eqb no 0 none, le-ltb l (span_of ns order 0 a) (omega (arith, h, f, is)))
 
       module _ (in₁ : l < p) {q : ℕ} (is₂ : q ≡ min (span_of ns order a b) (most_places + 1)) where
-        pub row_outside : q ≤ r → r ≤ most_places → noIndex 10 ≡ index_of ns a b c order l r k
+        pub row_outside : q ≤ r → r ≤ most_places → no_index_answer 10 ≡ index_of ns a b c order l r k
         unfolding index_of within pick
         row_outside h f =
             rw (
@@ -118,7 +118,7 @@ module _ (ns : List ℕ) (a b c : ℕ) (order : List ℕ) where
             )
 
         module _ (in₂ : r < q) {s : ℕ} (is₃ : s ≡ min (span_of ns order (a + b) c) (most_places + 1)) where
-          pub column_outside : s ≤ k → k ≤ most_places → noIndex 10 ≡ index_of ns a b c order l r k
+          pub column_outside : s ≤ k → k ≤ most_places → no_index_answer 10 ≡ index_of ns a b c order l r k
           unfolding index_of within pick
           column_outside h f =
               rw (

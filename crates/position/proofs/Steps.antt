@@ -16,7 +16,7 @@ use Rattle.grammar.specs.RecordWords.{word}
 use Rattle.grammar.specs.Once.{fresh}
 use Rattle.grammar.specs.Index.{product}
 use Rattle.position.specs.Axes.{position_on, coordinate_on, coordinate_at, part, axes_of}
-use Rattle.position.specs.Answers.{onceEach}
+use Rattle.position.specs.Answers.{each_axis_once}
 use Rattle.position.specs.Laws.Turned.{Fits, placed, Placed}
 use Rattle.position.specs.Laws.Table.{down, index_below}
 use Rattle.position.specs.Laws.Accepted.{part_join, Accepted, axes_once, Axis, axis_later, axis_small, first_small}
@@ -75,18 +75,18 @@ no_factor l p e h i = sym (min-eq_left h) ∙ (rw (e, mul-one p) at i)
 
 -- ---- whether the numbers of a list stand once each
 
-module _ (d : ℕ) {ds rest : List ℕ} {x : ℕ} (front : ds ≡ x ∷ rest) {b : Bool} (is : onceEach d ds ≡ b) {u : ℕ} (entry : u ≡ x) where
+module _ (d : ℕ) {ds rest : List ℕ} {x : ℕ} (front : ds ≡ x ∷ rest) {b : Bool} (is : each_axis_once d ds ≡ b) {u : ℕ} (entry : u ≡ x) where
   pub too_high : d ≤ u → false ≡ b
-  unfolding onceEach fresh
+  unfolding each_axis_once fresh
   too_high h = rw (front, ← entry, le-ltb u d h) at is
 
   module _ (low : u < d) {t : Bool} (again : t ≡ among u rest) where
     pub repeated : t ≡ true → false ≡ b
-    unfolding onceEach fresh
+    unfolding each_axis_once fresh
     repeated h = rw (front, ← entry, lt-ltb u d low, ← again, h) at is
 
-    pub one_new : t ≡ false → onceEach d rest ≡ b
-    unfolding onceEach fresh
+    pub one_new : t ≡ false → each_axis_once d rest ≡ b
+    unfolding each_axis_once fresh
     one_new h = rw (front, ← entry, lt-ltb u d low, ← again, h) at is
 
 none_after : (b : Bool) → b && false ≡ false
@@ -94,8 +94,8 @@ none_after true = refl
 none_after false = refl
 
 -- those from entry i on do not, so all do not
-pub not_all : (d : ℕ) (w : ℕ → ℕ) (i : ℕ) → i ≤ d → false ≡ onceEach d (part w i (d - i)) → false ≡ onceEach d (part w 0 d)
-unfolding onceEach
+pub not_all : (d : ℕ) (w : ℕ → ℕ) (i : ℕ) → i ≤ d → false ≡ each_axis_once d (part w i (d - i)) → false ≡ each_axis_once d (part w 0 d)
+unfolding each_axis_once
 not_all d w zero h e = simp sub-zero at e
 not_all d w (suc i) h e =
     let q = simp sub-one at (part_back w (suc i) d (omega arith) h) in

@@ -12,21 +12,21 @@ use Rattle.position.specs.Axes.{position_on, span, part, axes_of, index_at}
 -- ---- refusals 7 and 9
 
 -- numbers below d, none of which is among those after it (`Laws.Accepted`: it is `OnceEach`)
-unfoldable pub onceEach : ℕ → List ℕ → Bool
-onceEach d [] = true
-onceEach d (e ∷ es) = fresh d es e && onceEach d es
+unfoldable pub each_axis_once : ℕ → List ℕ → Bool
+each_axis_once d [] = true
+each_axis_once d (e ∷ es) = fresh d es e && each_axis_once d es
 
 -- "7 for more than 16 dimensions or a product above the limit"
-unfoldable pub tooLarge : List ℕ → Bool
-tooLarge ns = pick (ltb most_dimensions (length ns)) true (ltb most_places (product ns))
+unfoldable pub too_large_answer : List ℕ → Bool
+too_large_answer ns = pick (ltb most_dimensions (length ns)) true (ltb most_places (product ns))
 
 -- "9 for counts that don't add up or an order that isn't a permutation": one entry for each dimension
-unfoldable pub axesMatch : ℕ → ℕ → ℕ → ℕ → List ℕ → Bool
-axesMatch d layers rows columns order = eqb (layers + rows + columns) d && eqb (length order) d && onceEach d order
+unfoldable pub axes_match : ℕ → ℕ → ℕ → ℕ → List ℕ → Bool
+axes_match d layers rows columns order = eqb (layers + rows + columns) d && eqb (length order) d && each_axis_once d order
 
 -- 0 for none
 unfoldable pub refusal : List ℕ → ℕ → ℕ → ℕ → List ℕ → ℕ
-refusal ns layers rows columns order = pick (tooLarge ns) 7 (pick (axesMatch (length ns) layers rows columns order) 0 9)
+refusal ns layers rows columns order = pick (too_large_answer ns) 7 (pick (axes_match (length ns) layers rows columns order) 0 9)
 
 -- ---- the position of an index
 
@@ -37,15 +37,15 @@ along ns order k i c = position_on (word ns) (λ e. coordinate ns e k) (part (wo
 abbrev pub at : ℕ → ℕ → ℕ → Position
 at l r c = record { refusal = 0; layer = l; row = r; column = c }
 
-abbrev pub noPosition : ℕ → Position
-noPosition n = record { refusal = n; layer = 0; row = 0; column = 0 }
+abbrev pub no_position_answer : ℕ → Position
+no_position_answer n = record { refusal = n; layer = 0; row = 0; column = 0 }
 
 -- "then 10 for an index or position outside"
 unfoldable pub position : List ℕ → ℕ → ℕ → ℕ → List ℕ → ℕ → Position
 position ns layers rows columns order k =
     pick (eqb (refusal ns layers rows columns order) 0)
-    (pick (ltb k (product ns)) (at (along ns order k 0 layers) (along ns order k layers rows) (along ns order k (layers + rows) columns)) (noPosition 10))
-    (noPosition (refusal ns layers rows columns order))
+    (pick (ltb k (product ns)) (at (along ns order k 0 layers) (along ns order k layers rows) (along ns order k (layers + rows) columns)) (no_position_answer 10))
+    (no_position_answer (refusal ns layers rows columns order))
 
 -- ---- the index of a position
 
@@ -60,11 +60,11 @@ within ns layers rows columns order l r c = ltb l (span_of ns order 0 layers) &&
 abbrev pub found : ℕ → CellIndex
 found k = record { refusal = 0; index = k }
 
-abbrev pub noIndex : ℕ → CellIndex
-noIndex n = record { refusal = n; index = 0 }
+abbrev pub no_index_answer : ℕ → CellIndex
+no_index_answer n = record { refusal = n; index = 0 }
 
 unfoldable pub index_of : List ℕ → ℕ → ℕ → ℕ → List ℕ → ℕ → ℕ → ℕ → CellIndex
 index_of ns layers rows columns order l r c =
     pick (eqb (refusal ns layers rows columns order) 0)
-    (pick (within ns layers rows columns order l r c) (found (index_at ns (axes_of order layers rows columns) (l ∷ r ∷ c ∷ []))) (noIndex 10))
-    (noIndex (refusal ns layers rows columns order))
+    (pick (within ns layers rows columns order l r c) (found (index_at ns (axes_of order layers rows columns) (l ∷ r ∷ c ∷ []))) (no_index_answer 10))
+    (no_index_answer (refusal ns layers rows columns order))

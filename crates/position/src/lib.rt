@@ -113,7 +113,7 @@ fn span(ns: &[u32], order: &[u32], from: usize, count: usize) -> u64
 // Whether the first d entries of the order are numbers below d, once each: the last first, with marks for those that follow.
 fn permutes(order: &[u32], d: usize) -> bool
     requires { d ≤ most_dimensions }
-    ensures { result ≡ answers.onceEach d (part (word order.now) 0 d) }
+    ensures { result ≡ answers.each_axis_once d (part (word order.now) 0 d) }
 {
     let mut marks = [0u8; MOST_DIMENSIONS];
     let mut i = d;
@@ -157,7 +157,7 @@ fn refusal(ns: &[u32], layers: u32, rows: u32, columns: u32, order: &[u32]) -> u
 // ---- positions
 
 fn no_position(n: u32) -> Position
-    ensures { result ≡ answers.noPosition n }
+    ensures { result ≡ answers.no_position_answer n }
 {
     Position {
         refusal: n,
@@ -217,7 +217,7 @@ pub fn position_of(
 // ---- and back
 
 fn no_index(n: u32) -> CellIndex
-    ensures { result ≡ answers.noIndex n }
+    ensures { result ≡ answers.no_index_answer n }
 {
     CellIndex {
         refusal: n,

@@ -59,22 +59,22 @@ answered node-count cell-count s = pick s.bad (refused 20 s.place 0 0) (totalled
 abbrev pub there : Tree Member → ℕ → ℕ → Bool
 there t dimension leaf = ltb dimension (length (dimensions t)) && ltb leaf (get_or (ns t) dimension 0)
 
-unfoldable pub leafAnswer : Tree Member → ℕ → ℕ → LeafTotal
-leafAnswer t dimension leaf = pick (there t dimension leaf) (answered (nodes t) (length (cells t)) (leaf_sums t dimension leaf)) (refused 19 0 0 0)
+unfoldable pub leaf_answer_of : Tree Member → ℕ → ℕ → LeafTotal
+leaf_answer_of t dimension leaf = pick (there t dimension leaf) (answered (nodes t) (length (cells t)) (leaf_sums t dimension leaf)) (refused 19 0 0 0)
 
 -- "Refusals: the member's own first": 12 and 13 too, with their counts; then what is said of an accepted one
-unfoldable pub memberFirst : {A : Type 0} → (ℕ → ℕ → ℕ → ℕ → A) → (Tree Member → A) → Got (Tree Member) → ℕ → ℕ → A
-memberFirst refusing said (no n p) node_length cell_length = refusing n p 0 0
-memberFirst refusing said (got t r p) node_length cell_length =
+unfoldable pub member_first : {A : Type 0} → (ℕ → ℕ → ℕ → ℕ → A) → (Tree Member → A) → Got (Tree Member) → ℕ → ℕ → A
+member_first refusing said (no n p) node_length cell_length = refusing n p 0 0
+member_first refusing said (got t r p) node_length cell_length =
     pick (wide t node_length) (pick (long t cell_length) (said t) (refusing 13 0 (nodes t) (length (cells t)))) (refusing 12 0 (nodes t) (length (cells t)))
 
-unfoldable pub totalAnswer : Got (Tree Member) → ℕ → ℕ → ℕ → ℕ → LeafTotal
-unfolding memberFirst
-totalAnswer y node_length cell_length dimension leaf = memberFirst refused (λ t. leafAnswer t dimension leaf) y node_length cell_length
+unfoldable pub total_answer : Got (Tree Member) → ℕ → ℕ → ℕ → ℕ → LeafTotal
+unfolding member_first
+total_answer y node_length cell_length dimension leaf = member_first refused (λ t. leaf_answer_of t dimension leaf) y node_length cell_length
 
 -- a call: "The same two areas are lent and then hold the records"; "lent areas unchanged" after a refusal
 pub record Totalled (bs node_words cell_words : List ℕ) (dimension leaf : ℕ) (r : LeafTotal) (node-words' cell-words' : List ℕ) : Type 0 where
-  pub answer : r ≡ totalAnswer (checked bs) (length node_words) (length cell_words) dimension leaf
+  pub answer : r ≡ total_answer (checked bs) (length node_words) (length cell_words) dimension leaf
   pub node_area : node-words' ≡ pick (eqb r.refusal 0) (nodes_after (checked bs) node_words (length cell_words)) node_words
   pub cell_area : cell-words' ≡ pick (eqb r.refusal 0) (cells_after (checked bs) (length node_words) cell_words) cell_words
 
@@ -82,59 +82,59 @@ pub record Totalled (bs node_words cell_words : List ℕ) (dimension leaf : ℕ)
 pub record ByDerivation (bs node_words cell_words : List ℕ) (dimension leaf : ℕ) (r : LeafTotal) (node-words' cell-words' : List ℕ) : Type 0 where
   -- reading: its answer, and what the areas would then hold
   pub reading : Answer
-  pub nodes-read : List ℕ
-  pub cells-read : List ℕ
-  pub is_read : Demand3 bs node_words cell_words reading nodes-read cells-read
+  pub nodes_read : List ℕ
+  pub cells_read : List ℕ
+  pub is_read : Demand3 bs node_words cell_words reading nodes_read cells_read
   -- "Refusals: the member's own first", 12 and 13 with their counts; "All totals are then 0"
-  pub of-refused : (reading.refusal ≡ 0 → ⊥) → r ≡ refused reading.refusal reading.place reading.nodes reading.cells
+  pub of_refused : (reading.refusal ≡ 0 → ⊥) → r ≡ refused reading.refusal reading.place reading.nodes reading.cells
   -- "Given an accepted member": what its derivation says of the leaf
-  pub of_accepted : (m : Accepted bs (length node_words) (length cell_words)) → r ≡ leafAnswer m.derivation.tree dimension leaf
+  pub of_accepted : (m : Accepted bs (length node_words) (length cell_words)) → r ≡ leaf_answer_of m.derivation.tree dimension leaf
   -- "The same two areas are lent and then hold the records"
-  pub with_records : r.refusal ≡ 0 → (node-words' ≡ nodes-read) × (cell-words' ≡ cells-read)
+  pub with_records : r.refusal ≡ 0 → (node-words' ≡ nodes_read) × (cell-words' ≡ cells_read)
   -- "lent areas unchanged" after a refusal
   pub unchanged : (r.refusal ≡ 0 → ⊥) → (node-words' ≡ node_words) × (cell-words' ≡ cell_words)
 
 -- ---- all leaves of a dimension (our own function)
 
-abbrev pub refusedAll : ℕ → ℕ → ℕ → ℕ → ℕ → DimensionTotals
-refusedAll n p node-count cell-count leaf_count = record { refusal = n; place = p; nodes = node-count; cells = cell-count; leaves = leaf_count }
+abbrev pub refused_all_answer : ℕ → ℕ → ℕ → ℕ → ℕ → DimensionTotals
+refused_all_answer n p node-count cell-count leaf_count = record { refusal = n; place = p; nodes = node-count; cells = cell-count; leaves = leaf_count }
 
 -- n of a dimension
 abbrev pub leaves : Tree Member → ℕ → ℕ
 leaves t dimension = get_or (ns t) dimension 0
 
 -- 19 for a dimension that isn't there; 15, with the number of its leaves, where there is no room for a row of words for each (our rule)
-unfoldable pub dimensionAnswer : Tree Member → ℕ → ℕ → DimensionTotals
-dimensionAnswer t dimension room =
+unfoldable pub dimension_answer : Tree Member → ℕ → ℕ → DimensionTotals
+dimension_answer t dimension room =
     pick (ltb dimension (length (dimensions t)))
-    (pick (leb (leaf_total_words * leaves t dimension) room) (refusedAll 0 0 (nodes t) (length (cells t)) (leaves t dimension)) (refusedAll 15 0 0 0 (leaves t dimension)))
-    (refusedAll 19 0 0 0 0)
+    (pick (leb (leaf_total_words * leaves t dimension) room) (refused_all_answer 0 0 (nodes t) (length (cells t)) (leaves t dimension)) (refused_all_answer 15 0 0 0 (leaves t dimension)))
+    (refused_all_answer 19 0 0 0 0)
 
-unfoldable pub totalsAnswer : Got (Tree Member) → ℕ → ℕ → ℕ → ℕ → DimensionTotals
-unfolding memberFirst
-totalsAnswer y dimension room node_length cell_length = memberFirst (λ n p k m. refusedAll n p k m 0) (λ t. dimensionAnswer t dimension room) y node_length cell_length
+unfoldable pub totals_answer : Got (Tree Member) → ℕ → ℕ → ℕ → ℕ → DimensionTotals
+unfolding member_first
+totals_answer y dimension room node_length cell_length = member_first (λ n p k m. refused_all_answer n p k m 0) (λ t. dimension_answer t dimension room) y node_length cell_length
 
 -- the area for the totals then: what is answered for each leaf, a row of words for each; beyond them what was there
-unfoldable pub totalsAfter : Got (Tree Member) → ℕ → List ℕ → List ℕ
-totalsAfter (no n p) dimension old = old
-totalsAfter (got t r p) dimension old = rows (λ leaf. leaf_words (leafAnswer t dimension leaf)) (leaves t dimension) ++ drop (leaf_total_words * leaves t dimension) old
+unfoldable pub totals_after : Got (Tree Member) → ℕ → List ℕ → List ℕ
+totals_after (no n p) dimension old = old
+totals_after (got t r p) dimension old = rows (λ leaf. leaf_words (leaf_answer_of t dimension leaf)) (leaves t dimension) ++ drop (leaf_total_words * leaves t dimension) old
 
 -- a call: after a refusal all three areas are as they were
 pub record AllTotalled (bs totals node_words cell_words : List ℕ) (dimension : ℕ) (r : DimensionTotals) (totals' node-words' cell-words' : List ℕ) : Type 0 where
-  pub answer : r ≡ totalsAnswer (checked bs) dimension (length totals) (length node_words) (length cell_words)
-  pub each-leaf : totals' ≡ pick (eqb r.refusal 0) (totalsAfter (checked bs) dimension totals) totals
+  pub answer : r ≡ totals_answer (checked bs) dimension (length totals) (length node_words) (length cell_words)
+  pub each_leaf : totals' ≡ pick (eqb r.refusal 0) (totals_after (checked bs) dimension totals) totals
   pub node_area : node-words' ≡ pick (eqb r.refusal 0) (nodes_after (checked bs) node_words (length cell_words)) node_words
   pub cell_area : cell-words' ≡ pick (eqb r.refusal 0) (cells_after (checked bs) (length node_words) cell_words) cell_words
 
 -- the same without a reader
 pub record AllByDerivation (bs totals node_words cell_words : List ℕ) (dimension : ℕ) (r : DimensionTotals) (totals' node-words' cell-words' : List ℕ) : Type 0 where
   pub reading : Answer
-  pub nodes-read : List ℕ
-  pub cells-read : List ℕ
-  pub is_read : Demand3 bs node_words cell_words reading nodes-read cells-read
-  pub of-refused : (reading.refusal ≡ 0 → ⊥) → r ≡ refusedAll reading.refusal reading.place reading.nodes reading.cells 0
-  pub of_accepted : (m : Accepted bs (length node_words) (length cell_words)) → r ≡ dimensionAnswer m.derivation.tree dimension (length totals)
+  pub nodes_read : List ℕ
+  pub cells_read : List ℕ
+  pub is_read : Demand3 bs node_words cell_words reading nodes_read cells_read
+  pub of_refused : (reading.refusal ≡ 0 → ⊥) → r ≡ refused_all_answer reading.refusal reading.place reading.nodes reading.cells 0
+  pub of_accepted : (m : Accepted bs (length node_words) (length cell_words)) → r ≡ dimension_answer m.derivation.tree dimension (length totals)
   pub with_rows : (m : Accepted bs (length node_words) (length cell_words)) → r.refusal ≡ 0
-      → let n = leaves m.derivation.tree dimension in totals' ≡ rows (λ leaf. leaf_words (leafAnswer m.derivation.tree dimension leaf)) n ++ drop (leaf_total_words * n) totals
-  pub with_records : r.refusal ≡ 0 → (node-words' ≡ nodes-read) × (cell-words' ≡ cells-read)
+      → let n = leaves m.derivation.tree dimension in totals' ≡ rows (λ leaf. leaf_words (leaf_answer_of m.derivation.tree dimension leaf)) n ++ drop (leaf_total_words * n) totals
+  pub with_records : r.refusal ≡ 0 → (node-words' ≡ nodes_read) × (cell-words' ≡ cells_read)
   pub unchanged : (r.refusal ≡ 0 → ⊥) → (totals' ≡ totals) × (node-words' ≡ node_words) × (cell-words' ≡ cell_words)

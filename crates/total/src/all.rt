@@ -15,7 +15,7 @@ use once::word;
 use sizes::{CELL_WORDS, DIMENSION_N, DIMENSION_WORDS, LEAF_TOTAL_WORDS, NODE_WORDS};
 
 pub fn refused_all(n: u32, p: usize, nodes: u32, cells: u32, leaves: u32) -> DimensionTotals
-    ensures { result ≡ spec.refusedAll n p nodes cells leaves }
+    ensures { result ≡ spec.refused_all_answer n p nodes cells leaves }
 {
     DimensionTotals {
         refusal: n,

@@ -8,7 +8,7 @@ use Rattle.grammar.specs.Layout.{Tree, All}
 use Rattle.grammar.specs.Laws.Layout.Tests.{and_is_true}
 use Rattle.grammar.specs.Member.{Member, dimensions, nodes, cells, ns, AsDemanded}
 use Rattle.total.specs.Total.{CellSays, member_cells, leaf_sums}
-use Rattle.total.specs.Answers.{answered, there, leafAnswer}
+use Rattle.total.specs.Answers.{answered, there, leaf_answer_of}
 use Rattle.position.specs.Answers.{position}
 use Rattle.turned.specs.Turned.{AxisOrder, Fitting, to_position, to_index, turn, sums_at}
 use Rattle.turned.proofs.Laws.OwnAxes.{n_count, cells_inside}
@@ -39,8 +39,8 @@ module _ (t : Tree Member) (a : AsDemanded t) (x : AxisOrder) (f : Fitting (ns t
 
     -- .. so they give what T-01 answers for a leaf that is there
     pub leaf_answer : (dimension leaf : ℕ) → there t dimension leaf ≡ true
-        → answered (nodes t) (length (cells t)) (sums_at (ns t) y dimension leaf (turn (ns t) x y (map (to_position (ns t) x) (member_cells t)))) ≡ leafAnswer t dimension leaf
-    unfolding leafAnswer pick
+        → answered (nodes t) (length (cells t)) (sums_at (ns t) y dimension leaf (turn (ns t) x y (map (to_position (ns t) x) (member_cells t)))) ≡ leaf_answer_of t dimension leaf
+    unfolding leaf_answer_of pick
     leaf_answer dimension leaf h =
         let l = ltb-true dimension (length (dimensions t)) (and_is_true (ltb dimension (length (dimensions t))) (ltb leaf (get_or (ns t) dimension 0)) h).0 in
         rw h (ap (answered (nodes t) (length (cells t))) (leaf_total_lem dimension leaf (omega (arith, l, n_count t))))

@@ -10,7 +10,7 @@ use Rattle.layout.specs.declared.Step.{Step}
 use Rattle.layout.specs.declared.Step.TheVariants.{Next}
 use Rattle.contents.specs.declared.Contents.{Contents}
 use Rattle.contents.specs.declared.Argument.{Argument}
-use Rattle.contents.specs.Answers.{ValueAnswers, ArgumentAnswers, refused, refusedArgument}
+use Rattle.contents.specs.Answers.{ValueAnswers, ArgumentAnswers, refused, refused_argument_answer}
 use Rattle.store.specs.Puts.{PutsWords}
 use Rattle.store.specs.Laws.Puts.{with_room, without_room}
 use Rattle.value_words.specs.Values.{value_words, argument_words, ValueRead, ArgumentRead}
@@ -34,7 +34,7 @@ module _ (version : ℕ) (bytes answer : List ℕ) where
 
   pub without_argument : leb argument_answer_words (length answer) ≡ false → ArgumentRead version bytes answer 0 answer
   without_argument t = record {
-    contents = refusedArgument 0 0;
+    contents = refused_argument_answer 0 0;
     is_read = λ e. absurd (false≢true (rw t at e));
-    words = without_room argument_answer_words (argument_words (refusedArgument 0 0)) answer t;
+    words = without_room argument_answer_words (argument_words (refused_argument_answer 0 0)) answer t;
   }

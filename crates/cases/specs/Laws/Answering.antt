@@ -17,7 +17,7 @@ use Rattle.cases.specs.declared.Call.{Call}
 use Rattle.case_state.specs.Cursor.{numbers, stop_of, view, Good, StoppedBy, by_252, by_22, by_7}
 use Rattle.case_state.specs.Tests.{state_ok}
 use Rattle.cases.specs.Steps.{firsts, Fed_is}
-use Rattle.cases.specs.Answers.{well, bad-state, too-soon, padded, refusal-of, fed-of, answered, call-of, output-of, Called, ending, refusal-at, unfinished-at, end-at}
+use Rattle.cases.specs.Answers.{well, bad_state, too_soon, padded, refusal_of, fed_of, answered, call_of, output_of, Called, ending, refusal_at, unfinished_at, end_where}
 use Rattle.cases.specs.Laws.Goods.{view_gather, view_acting, view_stopped}
 use Rattle.case_state.proofs.Laws.Counting.{counts_place}
 use Rattle.case_state.proofs.Laws.Valid.{state_sound}
@@ -26,37 +26,37 @@ use Rattle.cases.specs.Laws.Lasting.{with_cursor}
 
 -- ---- 1. the refusal, and the answer at the end
 
-stopped_refusal : {count at n w p : ℕ} → StoppedBy count at n w p → refusal-at w p ≡ refusal-of (stopped at n (stop_of w p))
-unfolding refusal-at refusal-of stop_of pick
+stopped_refusal : {count at n w p : ℕ} → StoppedBy count at n w p → refusal_at w p ≡ refusal_of (stopped at n (stop_of w p))
+unfolding refusal_at refusal_of stop_of pick
 stopped_refusal (by_252 a b) = refl
 stopped_refusal (by_22 p a b) = refl
 stopped_refusal (by_7 a) = refl
 
-at_phase : {w v : ℕ} (p : ℕ) → w ≡ v → refusal-at v p ≡ well → refusal-at w p ≡ well
+at_phase : {w v : ℕ} (p : ℕ) → w ≡ v → refusal_at v p ≡ well → refusal_at w p ≡ well
 at_phase p e h = rw e h
 
-well_0 : (p : ℕ) → refusal-at 0 p ≡ well
-unfolding refusal-at pick
+well_0 : (p : ℕ) → refusal_at 0 p ≡ well
+unfolding refusal_at pick
 well_0 p = refl
 
-well_1 : (p : ℕ) → refusal-at 1 p ≡ well
-unfolding refusal-at pick
+well_1 : (p : ℕ) → refusal_at 1 p ≡ well
+unfolding refusal_at pick
 well_1 p = refl
 
-pub refusal_is : (count : ℕ) (c : Cursor) → Good count c → refusal-at c.phase c.place ≡ refusal-of (view c)
-unfolding refusal-of
+pub refusal_is : (count : ℕ) (c : Cursor) → Good count c → refusal_at c.phase c.place ≡ refusal_of (view c)
+unfolding refusal_of
 refusal_is count c g = by (eqb c.phase 0) (eqb c.phase 1) refl refl
   where
-    by : (x y : Bool) → eqb c.phase 0 ≡ x → eqb c.phase 1 ≡ y → refusal-at c.phase c.place ≡ refusal-of (view c)
-    by true y e f = at_phase c.place (eqb-true c.phase 0 e) (well_0 c.place) ∙ ap refusal-of (sym (view_gather c e))
-    by false true e f = at_phase c.place (eqb-true c.phase 1 f) (well_1 c.place) ∙ ap refusal-of (sym (view_acting c e f))
+    by : (x y : Bool) → eqb c.phase 0 ≡ x → eqb c.phase 1 ≡ y → refusal_at c.phase c.place ≡ refusal_of (view c)
+    by true y e f = at_phase c.place (eqb-true c.phase 0 e) (well_0 c.place) ∙ ap refusal_of (sym (view_gather c e))
+    by false true e f = at_phase c.place (eqb-true c.phase 1 f) (well_1 c.place) ∙ ap refusal_of (sym (view_acting c e f))
     by false false e f =
-        stopped_refusal (g.rests (eqb-false c.phase 0 e) (eqb-false c.phase 1 f)).2 ∙ ap refusal-of (sym (view_stopped c e f))
+        stopped_refusal (g.rests (eqb-false c.phase 0 e) (eqb-false c.phase 1 f)).2 ∙ ap refusal_of (sym (view_stopped c e f))
 
 abbrev end_by : ℕ → ℕ → ℕ → ℕ → ℕ → Answer
-end_by v p at n l = pick (eqb v 252) well (pick (eqb v 22) (refusal-at v p) (pick (eqb v 7) (refusal-at v p) (unfinished-at v l at n)))
+end_by v p at n l = pick (eqb v 252) well (pick (eqb v 22) (refusal_at v p) (pick (eqb v 7) (refusal_at v p) (unfinished_at v l at n)))
 
-gathering_ends : (at n l x : ℕ) → pick (eqb l 0) (pick (eqb at 0) well (too-soon n)) (too-soon n) ≡ ending (gather at n (le l x))
+gathering_ends : (at n l x : ℕ) → pick (eqb l 0) (pick (eqb at 0) well (too_soon n)) (too_soon n) ≡ ending (gather at n (le l x))
 unfolding pick le ending
 gathering_ends zero n zero x = refl
 gathering_ends (suc at) n zero x = rw (ne_eqb (suc at) 0 (λ e. omega arith))
@@ -64,21 +64,21 @@ gathering_ends zero n (suc l) x = rw (ne_eqb (suc l) 0 (λ e. omega arith))
 gathering_ends (suc at) n (suc l) x = rw (ne_eqb (suc l) 0 (λ e. omega arith))
 
 stopped_ends : {count at n w p : ℕ} → StoppedBy count at n w p → (l : ℕ) → end_by w p at n l ≡ ending (stopped at n (stop_of w p))
-unfolding pick ending refusal-at stop_of
+unfolding pick ending refusal_at stop_of
 stopped_ends (by_252 a b) l = refl
 stopped_ends (by_22 p a b) l = refl
 stopped_ends (by_7 a) l = refl
 
 acting_ends : (p at n l q c : ℕ) (cs k : List ℕ) → end_by 1 p at n l ≡ ending (acting at n q c cs k)
-unfolding pick ending unfinished-at
+unfolding pick ending unfinished_at
 acting_ends p at n l q c cs k = refl
 
 gather_ends : (p at n l x : ℕ) → end_by 0 p at n l ≡ ending (gather at n (le l x))
-unfolding pick unfinished-at
+unfolding pick unfinished_at
 gather_ends p at n l x = gathering_ends at n l x
 
-pub end_is : (count : ℕ) (c : Cursor) → Good count c → end-at c ≡ ending (view c)
-unfolding end-at
+pub end_is : (count : ℕ) (c : Cursor) → Good count c → end_where c ≡ ending (view c)
+unfolding end_where
 end_is count c g = by (eqb c.phase 0) (eqb c.phase 1) refl refl
   where
     by : (x y : Bool) → eqb c.phase 0 ≡ x → eqb c.phase 1 ≡ y → end_by c.phase c.place c.at c.taken c.left ≡ ending (view c)
@@ -122,18 +122,18 @@ same_call s c d a b i j w v e₁ e₂ e₃ e₄ = rw (e₁, e₂, e₃, e₄)
 
 module _ (s : State) (input o₀ o₁ : List ℕ) (c : Cursor) (i w : ℕ) (ok : state_ok s ≡ true)
     (f : Fed_is (firsts s.count s.kinds) s.count s.bias (length o₀ / 8) s.cursor input o₀ o₁ c i w) where
-  is_fed : fed-of s input (length o₀) ≡ out (view c) (drop i input) f.es
-  unfolding fed-of
+  is_fed : fed_of s input (length o₀) ≡ out (view c) (drop i input) f.es
+  unfolding fed_of
   is_fed = f.is
 
-  call_is : (a : Answer) → a ≡ refusal-at c.phase c.place → made s c a i w ≡ call-of s input (length o₀)
-  unfolding call-of answered pick
+  call_is : (a : Answer) → a ≡ refusal_at c.phase c.place → made s c a i w ≡ call_of s input (length o₀)
+  unfolding call_of answered pick
   call_is a e =
-      rw (ok, is_fed) (same_call s c (numbers (view c)) a (refusal-of (view c)) i (length input - length (drop i input)) w (length f.es)
+      rw (ok, is_fed) (same_call s c (numbers (view c)) a (refusal_of (view c)) i (length input - length (drop i input)) w (length f.es)
       (sym (numbers_view s.count c f.good)) (e ∙ refusal_is s.count c f.good) (omega (arith, length-drop i input, f.inside)) f.count_es)
 
-  output_is : o₁ ≡ output-of s input o₀
-  unfolding output-of pick
+  output_is : o₁ ≡ output_of s input o₀
+  unfolding output_of pick
   output_is = rw (ok, is_fed) f.wrote
 
   abbrev K : List ℕ
@@ -148,7 +148,7 @@ module _ (s : State) (input o₀ o₁ : List ℕ) (c : Cursor) (i w : ℕ) (ok :
   written_most =
       omega (arith, feed_spends K s.bias (view s.cursor) input (fits (length o₀ / 8)) (view c) (drop i input) f.es f.is, length-drop i input, f.inside, f.count_es)
 
-  pub call_fed : (a : Answer) → a ≡ refusal-at c.phase c.place → c.taken ≤ limit → Called s input o₀ o₁ (made s c a i w)
+  pub call_fed : (a : Answer) → a ≡ refusal_at c.phase c.place → c.taken ≤ limit → Called s input o₀ o₁ (made s c a i w)
   call_fed a e small =
       let t = view_taken c in
       let h = held_in s.count s.cursor (state_sound s ok).1 in
@@ -164,8 +164,8 @@ module _ (s : State) (input o₀ o₁ : List ℕ) (c : Cursor) (i w : ℕ) (ok :
 clash : {b : Bool} → b ≡ true → b ≡ false → ⊥
 clash e f = let z : ◌≡◌ {A = ℕ} 0 1 = cc in omega arith
 
-pub call_refused : (s : State) (input o : List ℕ) → state_ok s ≡ false → Called s input o o (record { state = s; answer = bad-state; taken = 0; written = 0 })
-unfolding call-of output-of pick
+pub call_refused : (s : State) (input o : List ℕ) → state_ok s ≡ false → Called s input o o (record { state = s; answer = bad_state; taken = 0; written = 0 })
+unfolding call_of output_of pick
 call_refused s input o e = record { is = rw e; output = rw e; stands = λ q. absurd (clash q e); lasts = λ q. q; taken_in = omega arith; written_in = omega arith }
 
 -- ---- 3. the start

@@ -9,7 +9,7 @@ use Rattle.case_state.specs.declared.State.{State}
 use Rattle.case_state.specs.Cursor.{Good}
 use Rattle.case_state.specs.Tests.{kinds_ok, rest_ok, state_ok, cursor_ok, gather_ok}
 use Rattle.cases.specs.Steps.{firsts}
-use Rattle.cases.specs.Answers.{padded, cursor₀, start-ok, start_of}
+use Rattle.cases.specs.Answers.{padded, cursor₀, start_ok, start_of}
 use Rattle.case_state.proofs.Laws.Tests.{both}
 use Rattle.case_state.proofs.Laws.Valid.{complete, state_parts}
 
@@ -21,15 +21,15 @@ with_cursor s c e g = let p = state_parts s e in rw (p.few, p.bias_in, p.known, 
 
 -- ---- the start
 
-pub start_parts : (l : List ℕ) (bias : ℕ) → start-ok l bias ≡ true → (ltb 0 (length l) ≡ true) × (leb (length l) most_kinds ≡ true) × (leb bias most_bias ≡ true) × (kinds_ok (length l) (padded (length l) l) ≡ true)
-unfolding start-ok
+pub start_parts : (l : List ℕ) (bias : ℕ) → start_ok l bias ≡ true → (ltb 0 (length l) ≡ true) × (leb (length l) most_kinds ≡ true) × (leb bias most_bias ≡ true) × (kinds_ok (length l) (padded (length l) l) ≡ true)
+unfolding start_ok
 start_parts l bias e = let a = both _ _ e in let b = both _ _ a.1 in let c = both _ _ b.1 in (a.0, b.0, c.0, c.1)
 
 first_ok : (count : ℕ) → ltb 0 count ≡ true → cursor_ok count cursor₀ ≡ true
 unfolding cursor_ok gather_ok pick
 first_ok count e = rw e
 
-pub start_is : (l : List ℕ) (bias : ℕ) → start-ok l bias ≡ true → (start_of l bias).state ≡ record { kinds = padded (length l) l; count = length l; bias = bias; cursor = cursor₀ }
+pub start_is : (l : List ℕ) (bias : ℕ) → start_ok l bias ≡ true → (start_of l bias).state ≡ record { kinds = padded (length l) l; count = length l; bias = bias; cursor = cursor₀ }
 unfolding start_of pick
 start_is l bias e = rw e
 
@@ -54,7 +54,7 @@ padded_rest l h = rest_zero (most_kinds - length l) (padded (length l) l) (λ j 
         rw e (beyond (length l) (most_kinds - suc j - length l) l (omega arith) (omega arith))
 
 -- a start that is not refused leaves a state
-pub start_lasts : (l : List ℕ) (bias : ℕ) → start-ok l bias ≡ true → state_ok (start_of l bias).state ≡ true
+pub start_lasts : (l : List ℕ) (bias : ℕ) → start_ok l bias ≡ true → state_ok (start_of l bias).state ≡ true
 unfolding state_ok pick
 start_lasts l bias e =
     let p = start_parts l bias e in

@@ -22,7 +22,7 @@ use Rattle.contents.specs.declared.Contents.{Contents}
 use Rattle.contents.specs.declared.figure.Figure.{Figure}
 use Rattle.contents.specs.Contents.{position_of, said, Form, layouts, Raw, either, chosen, each_form, raw_says, contents, says_01, says_02, says_03, says_04, says_05, says_06, says_31, says_58}
 use Rattle.contents.specs.Answers.{unread, refused}
-use Rattle.contents.specs.Laws.Answers.{outcome, value_of, value-answers, leading-shows, after_run, answer_is, valueAnswer, answer_of, readingSays, derived-in-front}
+use Rattle.contents.specs.Laws.Answers.{outcome, value_of, value_answers, leading_shows, after_run, answer_is, value_answer, answer_of, reading_says, derived_in_front}
 use Rattle.contents.specs.Laws.Plain.{plain}
 use Rattle.contents.proofs.Laws.Plain.{plain_answers}
 use Rattle.contents.specs.Laws.Figure.{no_figure, figure_with, figure}
@@ -55,17 +55,17 @@ other_form version v n a b =
 
 module _ (version : ℕ) {s : List ℕ} (bs : Bytes s) where
   -- a Value that is not read
-  pub figure_unread : {n : ℕ} {z : Figure} → n ≡ unread version s → (n ≡ 0 → ⊥) → z ≡ no_figure → z ≡ figure (valueAnswer version s).raw
+  pub figure_unread : {n : ℕ} {z : Figure} → n ≡ unread version s → (n ≡ 0 → ⊥) → z ≡ no_figure → z ≡ figure (value_answer version s).raw
   unfolding answer_of pick figure_with among
   figure_unread {n} e h i = i ∙ rw (ne_eqb (unread version s) 0 (λ z. h (e ∙ z)))
 
   -- one that is read
   pub figure_read : {q r : Step} {n : ℕ} {y : RawValue} {z : Figure} → unread version s ≡ 0 → n ≡ cell_zeros version
       → Shows (Raw version) (said (Raw version) (raw_says version (ValueIn version below_value))) s q r y → q ≡ skip 0 n s (Next 0)
-      → z ≡ outcome (λ p x. figure x) (λ n p. no_figure) r y → z ≡ figure (valueAnswer version s).raw
+      → z ≡ outcome (λ p x. figure x) (λ n p. no_figure) r y → z ≡ figure (value_answer version s).raw
   unfolding figure_with among pick
   figure_read {q} {r} {n} {y} known e h f i =
-      i ∙ same r ∙ ap (λ (x : Contents). figure x.raw) (answer_is bs (value-answers version known bs e h f refl))
+      i ∙ same r ∙ ap (λ (x : Contents). figure x.raw) (answer_is bs (value_answers version known bs e h f refl))
     where
       same : (r : Step) → outcome (λ p x. figure x) (λ n p. no_figure) r y ≡ figure (outcome (value_of version) refused r (position_of q, y)).raw
       same (Next p) = refl
@@ -73,22 +73,22 @@ module _ (version : ℕ) {s : List ℕ} (bs : Bytes s) where
 
   -- one of another form, which need not be read
   pub figure_other : {q : Step} {n x : ℕ} {z : Figure} → unread version s ≡ 0 → n ≡ cell_zeros version → q ≡ skip 0 n s (Next 0) → x ≡ peek little 1 s q → eqb x 1 ≡ false → eqb x 2 ≡ false
-      → z ≡ no_figure → z ≡ figure (valueAnswer version s).raw
+      → z ≡ no_figure → z ≡ figure (value_answer version s).raw
   unfolding CellValue RawValueOf begins contents raw_says placed answer_of pick figure_with among
   figure_other {q} {n} {x} known e f g a b i = i ∙ go (eqb (unread version s) 0) (read (CellValue version) s 0) refl
     where
       first : Shows (CellValue version) (after_run 0 (cell_zeros version) (Raw version) (λ t at. t.0)) s (Next 0) (chain q (step (Raw version) s)) (position_of q, x)
-      first = leading-shows refl (number_shows (record { is = refl }) g) (rw e at f)
+      first = leading_shows refl (number_shows (record { is = refl }) g) (rw e at f)
 
       go : (c : Bool) (y : Got (Tree (CellValue version))) → read (CellValue version) s 0 ≡ y
-          → no_figure ≡ figure (pick c (readingSays (contents version) refused y) (refused (unread version s) 0)).raw
+          → no_figure ≡ figure (pick c (reading_says (contents version) refused y) (refused (unread version s) 0)).raw
       go false y j = refl
       go true (no m p) j = refl
       go true (got t r p) j =
           let sp = laws.sound (CellValue version) s bs 0 t r p j in
-          let k : t.1.0 ≡ x = ap (λ (w : ℕ × ℕ). w.1) (derived-in-front bs first t r (record { valid = sp.0; split = sp.1 })).1 in
+          let k : t.1.0 ≡ x = ap (λ (w : ℕ × ℕ). w.1) (derived_in_front bs first t r (record { valid = sp.0; split = sp.1 })).1 in
           sym (other_form version (ValueIn version below_value) t.1.0 (rw k a) (rw k b) (placed (CellValue version) t 0).1.1)
 
-  pub figure_plain : {bits : ℕ} → plain version s ≡ true → bits ≡ peek little 8 s (Next 6) → record { form = 1; bits = bits } ≡ figure (valueAnswer version s).raw
+  pub figure_plain : {bits : ℕ} → plain version s ≡ true → bits ≡ peek little 8 s (Next 6) → record { form = 1; bits = bits } ≡ figure (value_answer version s).raw
   unfolding figure_with among pick
   figure_plain e i = rw i (ap (λ (x : Contents). figure x.raw) (answer_is bs (plain_answers version bs e)))

@@ -21,7 +21,7 @@ use Rattle.contents.specs.declared.RawValue.{RawValue}
 use Rattle.contents.specs.Contents.{none, raw, said, says_01, chosen, either, raw_says}
 use Rattle.contents.specs.Answers.{unread, ValueAnswers}
 use Rattle.contents.specs.Laws.Forms.{form_shows}
-use Rattle.contents.specs.Laws.Answers.{value-answers}
+use Rattle.contents.specs.Laws.Answers.{value_answers}
 use Rattle.contents.specs.Laws.Plain.{plain, plain_raw, plain_value}
 
 record Plain (version : ℕ) (s : List ℕ) : Type 0 where
@@ -86,4 +86,4 @@ module _ (version : ℕ) {s : List ℕ} (p : Plain version s) where
 pub plain_answers : (version : ℕ) {s : List ℕ} → Bytes s → plain version s ≡ true → ValueAnswers version s (plain_value s)
 plain_answers version {s} bs e =
     let p = is_plain version s e in
-    value-answers version p.known bs refl (plain_shows version p (ValueIn version below_value)) (no_zeros (cell_zeros version) s (omega (arith, p.long)) p.first) refl
+    value_answers version p.known bs refl (plain_shows version p (ValueIn version below_value)) (no_zeros (cell_zeros version) s (omega (arith, p.long)) p.first) refl

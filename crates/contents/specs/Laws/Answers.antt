@@ -23,7 +23,7 @@ use Rattle.contents.specs.declared.RawValue.{RawValue}
 use Rattle.contents.specs.declared.Contents.{Contents}
 use Rattle.contents.specs.declared.Argument.{Argument}
 use Rattle.contents.specs.Contents.{position_of, said, Raw, raw_says, contents, argument_of, argument_contents}
-use Rattle.contents.specs.Answers.{unread, Answers, refused, refusedArgument, ValueAnswers, ArgumentAnswers}
+use Rattle.contents.specs.Answers.{unread, Answers, refused, refused_argument_answer, ValueAnswers, ArgumentAnswers}
 
 -- ---- a run of bytes, and then a
 
@@ -38,10 +38,10 @@ moved true x r p m q e = refl
 moved false x r p m q e = absurd (let z : ◌≡◌ {A = ℕ} 0 1 = cc in omega arith)
 
 module _ {A : Type 0} {b n : ℕ} {a : Layout} {f : Tree a → ℕ → A} where
-  found-leading : {s : List ℕ} {at p : ℕ} {x : A} → Read (leading b n a) s at p → Found a f s (at + lead b n (drop at s)) p x
+  found_leading : {s : List ℕ} {at p : ℕ} {x : A} → Read (leading b n a) s at p → Found a f s (at + lead b n (drop at s)) p x
       → Found (leading b n a) (after_run b n a f) s at p (at + lead b n (drop at s), x)
   unfolding read read_leading bind
-  found-leading {s} {at} {p} t y =
+  found_leading {s} {at} {p} t y =
       let k = lead b n (drop at s) in
       let e = y.reads in
       record {
@@ -50,16 +50,16 @@ module _ {A : Type 0} {b n : ℕ} {a : Layout} {f : Tree a → ℕ → A} where
         is = rw y.is;
       }
 
-  pub leading-shows : {s : List ℕ} {st q r : Step} {x : A} → begins a ≡ true → Shows a f s q r x → q ≡ skip b n s st
+  pub leading_shows : {s : List ℕ} {st q r : Step} {x : A} → begins a ≡ true → Shows a f s q r x → q ≡ skip b n s st
       → Shows (leading b n a) (after_run b n a f) s st r (position_of q, x)
   unfolding skip
-  leading-shows {s} {st} {q} {r} h y e =
+  leading_shows {s} {st} {q} {r} h y e =
       let reads = leading_of h y.reads e in
       record {
         reads = reads;
         found = λ bs at p i j.
             let start : q ≡ Next (at + lead b n (drop at s)) = e ∙ rw i in
-            rw start (found-leading (tree_of reads i j) (y.found bs (at + lead b n (drop at s)) p start j));
+            rw start (found_leading (tree_of reads i j) (y.found bs (at + lead b n (drop at s)) p start j));
       }
 
 -- ---- answers
@@ -69,19 +69,19 @@ abbrev pub outcome : {A B : Type 0} → (ℕ → B → A) → (ℕ → ℕ → A
 outcome K refused (Next p) y = K p y
 outcome K refused (Refused n p) y = refused n p
 
-pub answers-unread : {A : Type 0} {version : ℕ} {g : Layout} {says : Tree g → A} {refused : ℕ → ℕ → A} {s : List ℕ} {x : A} {n : ℕ} → n ≡ unread version s → (n ≡ 0 → ⊥)
+pub answers_unread : {A : Type 0} {version : ℕ} {g : Layout} {says : Tree g → A} {refused : ℕ → ℕ → A} {s : List ℕ} {x : A} {n : ℕ} → n ≡ unread version s → (n ≡ 0 → ⊥)
     → x ≡ refused n 0 → Answers version g says refused s x
-answers-unread e z h = record {
+answers_unread e z h = record {
   not_read = λ m i j. h ∙ rw (e ∙ i);
   derived = λ i t r sp. absurd (z (e ∙ i));
   fails = λ i n p f. absurd (z (e ∙ i));
 }
 
 -- what was read is the derivation in front
-pub derived-in-front : {B : Type 0} {g : Layout} {f : Tree g → ℕ → B} {s : List ℕ} {r : Step} {y : B} → Bytes s → Shows g f s (Next 0) r y
+pub derived_in_front : {B : Type 0} {g : Layout} {f : Tree g → ℕ → B} {s : List ℕ} {r : Step} {y : B} → Bytes s → Shows g f s (Next 0) r y
     → (t : Tree g) (rest : List ℕ) → Spells g s t rest → (r ≡ Next (size g t)) × (f t 0 ≡ y)
 unfolding step chain size
-derived-in-front {g = g} {f = f} {s} {r} bs h t rest sp =
+derived_in_front {g = g} {f = f} {s} {r} bs h t rest sp =
     let e : read g s 0 ≡ got t rest (size g t) = rw sp.split (rw zero-add at (laws.complete g t sp.valid rest 0)) in
     let n : r ≡ Next (size g t) = h.reads.is ∙ ap forget e in
     let z = h.found bs 0 (size g t) refl n in
@@ -96,11 +96,11 @@ failed {g} {s} bs h n p e =
     let i : read g s 0 ≡ no n p = (exactly.fails_exactly g s bs 0 n p).1 e in
     h.is ∙ ap forget i
 
-pub answers-read : {A B : Type 0} {version : ℕ} {g : Layout} {f : Tree g → ℕ → B} {says : Tree g → A} {refused : ℕ → ℕ → A} {s : List ℕ} {r : Step} {y : B} {x : A} (K : ℕ → B → A)
+pub answers_read : {A B : Type 0} {version : ℕ} {g : Layout} {f : Tree g → ℕ → B} {says : Tree g → A} {refused : ℕ → ℕ → A} {s : List ℕ} {r : Step} {y : B} {x : A} (K : ℕ → B → A)
     → unread version s ≡ 0 → Bytes s → Shows g f s (Next 0) r y → ((t : Tree g) → K (size g t) (f t 0) ≡ says t) → x ≡ outcome K refused r y → Answers version g says refused s x
-answers-read K known bs h same is = record {
+answers_read K known bs h same is = record {
   not_read = λ n i z. absurd (z (sym i ∙ known));
-  derived = λ _ t rest sp. let d = derived-in-front bs h t rest sp in is ∙ rw (d.0, ← d.1) (same t);
+  derived = λ _ t rest sp. let d = derived_in_front bs h t rest sp in is ∙ rw (d.0, ← d.1) (same t);
   fails = λ _ n p e. is ∙ rw (failed bs h.reads n p e);
 }
 
@@ -110,28 +110,28 @@ module _ (version : ℕ) where
   abbrev pub value_of : ℕ → ℕ × RawValue → Contents
   value_of p y = record { refusal = 0; place = 0; length = p; zeros = y.0; raw = y.1 }
 
-  pub value-answers : {s : List ℕ} {q r : Step} {n : ℕ} {y : RawValue} {x : Contents} → unread version s ≡ 0 → Bytes s → n ≡ cell_zeros version
+  pub value_answers : {s : List ℕ} {q r : Step} {n : ℕ} {y : RawValue} {x : Contents} → unread version s ≡ 0 → Bytes s → n ≡ cell_zeros version
       → Shows (Raw version) (said (Raw version) (raw_says version (ValueIn version below_value))) s q r y → q ≡ skip 0 n s (Next 0) → x ≡ outcome value_of refused r (position_of q, y)
       → ValueAnswers version s x
   unfolding CellValue RawValueOf begins contents placed
-  value-answers known bs e h f is =
-      answers-read value_of known bs (leading-shows refl h (rw e at f))
+  value_answers known bs e h f is =
+      answers_read value_of known bs (leading_shows refl h (rw e at f))
       (λ t. ap (λ (z : ℕ). value_of (size (CellValue version) t) (z, said (Raw version) (raw_says version (ValueIn version below_value)) t.1 (0 + t.0))) (zero-add t.0)) is
 
-  pub argument-answers : {s : List ℕ} {r : Step} {v : ℕ} {x : Argument} → unread version s ≡ 0 → Bytes s → Reads (grammar.Argument version below_value) s (Next 0) r → v ≡ peek little 4 s (Next 0)
-      → x ≡ outcome argument_of refusedArgument r v → ArgumentAnswers version s x
+  pub argument_answers : {s : List ℕ} {r : Step} {v : ℕ} {x : Argument} → unread version s ≡ 0 → Bytes s → Reads (grammar.Argument version below_value) s (Next 0) r → v ≡ peek little 4 s (Next 0)
+      → x ≡ outcome argument_of refused_argument_answer r v → ArgumentAnswers version s x
   unfolding grammar.ArgumentOf argument_contents
-  argument-answers known bs h e is = answers-read argument_of known bs (number_shows h e) (λ t. refl) is
+  argument_answers known bs h e is = answers_read argument_of known bs (number_shows h e) (λ t. refl) is
 
 -- ---- the answer as a function of the bytes
 
 -- what a reading by the grammar says
-abbrev pub readingSays : {A : Type 0} {B : Type 0} → (A → B) → (ℕ → ℕ → B) → Got A → B
-readingSays says refused (got t r p) = says t
-readingSays says refused (no n p) = refused n p
+abbrev pub reading_says : {A : Type 0} {B : Type 0} → (A → B) → (ℕ → ℕ → B) → Got A → B
+reading_says says refused (got t r p) = says t
+reading_says says refused (no n p) = refused n p
 
 unfoldable pub answer_of : {A : Type 0} (version : ℕ) (g : Layout) → (Tree g → A) → (ℕ → ℕ → A) → List ℕ → A
-answer_of version g says refused s = pick (eqb (unread version s) 0) (readingSays says refused (read g s 0)) (refused (unread version s) 0)
+answer_of version g says refused s = pick (eqb (unread version s) 0) (reading_says says refused (read g s 0)) (refused (unread version s) 0)
 
 -- there is one answer
 pub answer_is : {A : Type 0} {version : ℕ} {g : Layout} {says : Tree g → A} {refused : ℕ → ℕ → A} {s : List ℕ} {x : A} → Bytes s → Answers version g says refused s x
@@ -139,16 +139,16 @@ pub answer_is : {A : Type 0} {version : ℕ} {g : Layout} {says : Tree g → A} 
 unfolding answer_of pick
 answer_is {A} {version} {g} {says} {refused} {s} {x} bs a = go (eqb (unread version s) 0) refl
   where
-    one : unread version s ≡ 0 → (y : Got (Tree g)) → read g s 0 ≡ y → x ≡ readingSays says refused y
+    one : unread version s ≡ 0 → (y : Got (Tree g)) → read g s 0 ≡ y → x ≡ reading_says says refused y
     one known (got t r p) e = let q = laws.sound g s bs 0 t r p e in a.derived known t r (record { valid = q.0; split = q.1 })
     one known (no n p) e = a.fails known n p ((exactly.fails_exactly g s bs 0 n p).0 e)
 
-    go : (b : Bool) → eqb (unread version s) 0 ≡ b → x ≡ pick b (readingSays says refused (read g s 0)) (refused (unread version s) 0)
+    go : (b : Bool) → eqb (unread version s) 0 ≡ b → x ≡ pick b (reading_says says refused (read g s 0)) (refused (unread version s) 0)
     go true e = one (eqb-true (unread version s) 0 e) (read g s 0) refl
     go false e = a.not_read (unread version s) refl (eqb-false (unread version s) 0 e)
 
-abbrev pub valueAnswer : ℕ → List ℕ → Contents
-valueAnswer version s = answer_of version (CellValue version) (contents version) refused s
+abbrev pub value_answer : ℕ → List ℕ → Contents
+value_answer version s = answer_of version (CellValue version) (contents version) refused s
 
-abbrev pub argumentAnswer : ℕ → List ℕ → Argument
-argumentAnswer version s = answer_of version (grammar.Argument version below_value) (argument_contents version) refusedArgument s
+abbrev pub argument_answer : ℕ → List ℕ → Argument
+argument_answer version s = answer_of version (grammar.Argument version below_value) (argument_contents version) refused_argument_answer s

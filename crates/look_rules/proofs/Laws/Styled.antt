@@ -25,7 +25,7 @@ use Rattle.look.specs.declared.Frames.{Frames}
 use Rattle.look.specs.declared.Look.{Look}
 use Rattle.look.specs.Look.{Separator, PVSeparatorStyle, PVCellStyle, AreaStyle, MostAreas, PVTextStyle, V2StylesIf, TableLook, TableLook02}
 use Rattle.look.specs.Values as values
-use Rattle.look.specs.Answers.{v2-data, look-of, accepted, expected}
+use Rattle.look.specs.Answers.{v2_data, look_of, accepted, expected}
 use Rattle.look_rules.specs.StyleRule.{listed, listed_border, last_valign, last_halign, most_height, height, style_rule}
 use Rattle.look_rules.proofs.Laws.Listed.{fields_listed, of_tree, of_border}
 use Rattle.look_rules.proofs.Laws.Exactly.{numbers, kept_next, given, refused_exactly}
@@ -92,7 +92,7 @@ of_borders [] all_none = all_none
 of_borders (x ∷ xs) (all_more h hs) = all_more (sym (of_border x) ∙ h) (of_borders xs hs)
 
 -- those of version 02, or the defaults
-v2_frames : (b : Bool) (t : Tree (V2StylesIf b)) (at : ℕ) → All Listed (sep3_if b t) → FieldsListed (v2-data b (placed (V2StylesIf b) t at)).0.0.0.0.0
+v2_frames : (b : Bool) (t : Tree (V2StylesIf b)) (at : ℕ) → All Listed (sep3_if b t) → FieldsListed (v2_data b (placed (V2StylesIf b) t at)).0.0.0.0.0
 unfolding placed listed pick
 v2_frames true t at h = of_trees _ h
 v2_frames false t at h =
@@ -124,7 +124,7 @@ three = PVSeparatorStyle ▸ PVCellStyle ▸ PVTextStyle
 abbrev three_of : Look → Fields three
 three_of x = values.◌&◌ (values.◌&◌ (values.separator_style x.rows x.columns) (values.cell_style x.title.color)) (values.text_style x.title.style x.most_areas)
 
-module _ {bs : List ℕ} (d : Derivation TableLook bs) (x : Look) (e : look-of (placed TableLook d.tree 0) ≡ values.fields x) where
+module _ {bs : List ℕ} (d : Derivation TableLook bs) (x : Look) (e : look_of (placed TableLook d.tree 0) ≡ values.fields x) where
   stands : Stands (spell TableLook d.tree) bs 0 []
   stands = record { inside = omega arith; here = sym d.spells ∙ sym (append-nil (spell TableLook d.tree)) }
 
@@ -151,7 +151,7 @@ module _ {bs : List ℕ} (d : Derivation TableLook bs) (x : Look) (e : look-of (
 -- an accepted look is that of a derivation
 pub record Answered (bs : List ℕ) (x : Look) : Type 0 where
   pub derivation : Derivation TableLook bs
-  pub look : look-of (placed TableLook derivation.tree 0) ≡ values.fields x
+  pub look : look_of (placed TableLook derivation.tree 0) ≡ values.fields x
 
 pub answered : {bs : List ℕ} → Bytes bs → (x : Look) → accepted (values.fields x) ≡ expected (read TableLook bs 0) → Answered bs x
 unfolding expected
@@ -162,7 +162,7 @@ answered {bs} h x = go (read TableLook bs 0) refl
     go (got t (b ∷ r) p) i e = absurd (let z : ◌≡◌ {A = ℕ} 0 1 = cc in omega arith)
     go (got t [] p) i e =
         let q = laws.sound TableLook bs h 0 t [] p i in
-        let same : look-of (placed TableLook t 0) ≡ values.fields x = cc in
+        let same : look_of (placed TableLook t 0) ≡ values.fields x = cc in
         record { derivation = record { tree = t; valid = q.0; spells = sym (q.1 ∙ append-nil (spell TableLook t)) }; look = same }
 
 -- the look can become styles

@@ -20,7 +20,7 @@ use Rattle.look.specs.declared.Look.{Look}
 use Rattle.look.specs.declared.Answer.{Answer}
 use Rattle.look.specs.declared.Answer.TheVariants as look
 use Rattle.look.specs.Look.{TableLook}
-use Rattle.look.specs.Answers.{look-of, outcome, expected}
+use Rattle.look.specs.Answers.{look_of, outcome, expected}
 use Rattle.look.specs.Laws.RefusedExactly as reading
 use Rattle.look_write.specs.Laws.Theorems.{of_file, fields_are, accepted_exactly, never_two}
 use Rattle.look_rules.specs.StyleRule.{style_rule}
@@ -64,7 +64,7 @@ module _ (s : List ℕ) (h : Bytes s) (room : ℕ) where
     unfolding sections derived
     same_sections d x =
         let t : d.tree ≡ derived.tree = never_two s d derived in
-        let e = x.fields ∙ ap (λ (t : Tree TableLook). look-of (placed TableLook t 0)) t ∙ sym (fields_are s h y i) in
+        let e = x.fields ∙ ap (λ (t : Tree TableLook). look_of (placed TableLook t 0)) t ∙ sym (fields_are s h y i) in
         rw (same_styles x.look y e)
 
     passed : (d : Derivation TableLook s) → Kept style_rule d.tree → forget (check style_rule s 0) ≡ Next (length s)

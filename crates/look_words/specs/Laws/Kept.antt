@@ -15,7 +15,7 @@ use Rattle.look.specs.Look as grammar
 use Rattle.look.specs.Look.{TableLook, TableLook02}
 use Rattle.look.specs.Values as values
 use Rattle.look.specs.Values.{◌&◌}
-use Rattle.look.specs.Answers.{defaults, accepted, expected, v2-data, look-of}
+use Rattle.look.specs.Answers.{defaults, accepted, expected, v2_data, look_of}
 use Rattle.look.specs.Laws.Bounds.{bounded, most_bytes}
 
 abbrev pub KeptText : Text → Type 0
@@ -75,11 +75,11 @@ kept_separators : (fs : List (Fields grammar.Separator)) → All (Kept grammar.S
 kept_separators [] = all_none
 kept_separators (f ∷ fs) = all_more (no_names (eqb f.0 1) f.1) (kept_separators fs)
 
-v2_kept : (b : Bool) (f : Fields (grammar.V2StylesIf b)) → Kept (grammar.V2StylesIf b) f → Kept grammar.V2Styles (v2-data b f)
+v2_kept : (b : Bool) (f : Fields (grammar.V2StylesIf b)) → Kept (grammar.V2StylesIf b) f → Kept grammar.V2Styles (v2_data b f)
 v2_kept true f h = h
 v2_kept false f h = kept_separators (values.frames defaults.frames) & tt & tt & tt & tt & tt
 
-look_kept : (f : Fields TableLook) → Kept TableLook f → Kept TableLook02 (look-of f)
+look_kept : (f : Fields TableLook) → Kept TableLook f → Kept TableLook02 (look_of f)
 look_kept f k = (k.0, (k.1.0, (k.1.1.0, v2_kept (eqb f.1.0 2) f.1.1.1.1 k.1.1.1)))
 
 -- whatever fields `read_look` gives for bytes that it accepts
@@ -91,7 +91,7 @@ kept s bs f e = go (read TableLook s 0) refl e
     go (got t [] p) i j =
         let valid = (laws.sound TableLook s bs 0 t [] p i).0 in
         let k : Kept TableLook (placed TableLook t 0) = kept_placed TableLook t 0 (omega (arith, short t valid)) in
-        let e : look-of (placed TableLook t 0) ≡ f = cc in
+        let e : look_of (placed TableLook t 0) ≡ f = cc in
         subst (Kept TableLook02) e (look_kept (placed TableLook t 0) k)
     go (got t (b ∷ r) p) i j = absurd (let z : ◌≡◌ {A = ℕ} 0 1 = cc in omega arith)
     go (no n p) i j = absurd (let z : ◌≡◌ {A = ℕ} 0 1 = cc in omega arith)

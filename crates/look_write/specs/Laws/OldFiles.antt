@@ -13,7 +13,7 @@ use Rattle.look.specs.declared.Answer.TheVariants as answer
 use Rattle.look.specs.Look as grammar
 use Rattle.look.specs.Look.{TableLook, TableLook02}
 use Rattle.look.specs.Values as values
-use Rattle.look.specs.Answers.{defaults, outcome, v2-data, expected}
+use Rattle.look.specs.Answers.{defaults, outcome, v2_data, expected}
 use Rattle.look.specs.Laws.Separators.{separator_at, separator_back}
 use Rattle.look_write.specs.Laws.Theorems.{of_file, fields_are}
 
@@ -68,7 +68,7 @@ version_placed : (t : Tree TableLook) → (placed TableLook t 0).1.0 ≡ t.1.0
 unfolding placed
 version_placed t = refl
 
-default_if : (b : Bool) (f : Fields (grammar.V2StylesIf b)) → b ≡ false → v2-data b f ≡ values.v2_styles defaults
+default_if : (b : Bool) (f : Fields (grammar.V2StylesIf b)) → b ≡ false → v2_data b f ≡ values.v2_styles defaults
 default_if true f e = absurd (false≢true (sym e))
 default_if false f e = refl
 
@@ -82,6 +82,6 @@ module _ (bs : List ℕ) (h : Bytes bs) (y : Look) (i : outcome (answer.Accepted
   pub old_defaults : (of_file bs h y i).tree.1.0 ≡ 0 → y.v2 ≡ defaults
   old_defaults e =
       let f = placed TableLook (of_file bs h y i).tree 0 in
-      let same : values.v2_styles y.v2 ≡ v2-data (eqb f.1.0 2) f.1.1.1.1 = ap (λ (f : Fields TableLook02). f.1.1.1.1) (fields_are bs h y i) in
+      let same : values.v2_styles y.v2 ≡ v2_data (eqb f.1.0 2) f.1.1.1.1 = ap (λ (f : Fields TableLook02). f.1.1.1.1) (fields_are bs h y i) in
       let none : eqb f.1.0 2 ≡ false = ne_eqb f.1.0 2 (λ j. omega (arith, e, version_placed (of_file bs h y i).tree, j)) in
       sym (styles_back y.v2) ∙ ap styles_of (same ∙ default_if (eqb f.1.0 2) f.1.1.1.1 none) ∙ styles_back defaults

@@ -22,7 +22,7 @@ use Rattle.look.specs.Look as grammar
 use Rattle.look.specs.Look.{TableLook, TableLook02}
 use Rattle.look.specs.Values as values
 use Rattle.look.specs.Values.{◌&◌}
-use Rattle.look.specs.Answers.{defaults, accepted, outcome, v2-data, look-of, expected}
+use Rattle.look.specs.Answers.{defaults, accepted, outcome, v2_data, look_of, expected}
 use Rattle.look.specs.Laws.Defaults.{default_tree, default_bytes, default_spells}
 use Rattle.store.specs.Deliver.{ending}
 use Rattle.look_write.specs.Writing.{file, writing, Fits}
@@ -51,12 +51,12 @@ v2_part false t = default_tree
 unfoldable pub look_tree : Tree TableLook → Tree TableLook02
 look_tree t = (t.0, (2, (t.1.1.0, (t.1.1.1.0, v2_part (eqb t.1.0 2) t.1.1.1.1))))
 
-resolve_v2 : (b : Bool) (s : List ℕ) (f : Fields (grammar.V2StylesIf b)) → resolve grammar.V2Styles s (v2-data b f) ≡ v2_part b (resolve (grammar.V2StylesIf b) s f)
+resolve_v2 : (b : Bool) (s : List ℕ) (f : Fields (grammar.V2StylesIf b)) → resolve grammar.V2Styles s (v2_data b f) ≡ v2_part b (resolve (grammar.V2StylesIf b) s f)
 unfolding default_tree resolve resolve_all text_of
 resolve_v2 true s f = refl
 resolve_v2 false s f = refl
 
-resolve_look : (s : List ℕ) (f : Fields TableLook) → resolve TableLook02 s (look-of f) ≡ look_tree (resolve TableLook s f)
+resolve_look : (s : List ℕ) (f : Fields TableLook) → resolve TableLook02 s (look_of f) ≡ look_tree (resolve TableLook s f)
 unfolding look_tree resolve
 resolve_look s f = rw (← (resolve_v2 (eqb f.1.0 2) s f.1.1.1.1))
 
@@ -187,11 +187,11 @@ look_valid : (t : Tree TableLook) → Valid TableLook t → Valid TableLook02 (l
 unfolding look_tree passes among
 look_valid t v = (v.0, (omega arith, refl, (v.1.2.0, (v.1.2.1.0, v2_valid (eqb t.1.0 2) t.1.1.1.1 v.1.2.1.1))))
 
-v2_writable : (b : Bool) (s : List ℕ) (f : Fields (grammar.V2StylesIf b)) → Writable (grammar.V2StylesIf b) s f → Writable grammar.V2Styles s (v2-data b f)
+v2_writable : (b : Bool) (s : List ℕ) (f : Fields (grammar.V2StylesIf b)) → Writable (grammar.V2StylesIf b) s f → Writable grammar.V2Styles s (v2_data b f)
 v2_writable true s f w = w
 v2_writable false s f w = default_writable s
 
-look_writable : (s : List ℕ) (f : Fields TableLook) → Writable TableLook s f → Writable TableLook02 s (look-of f)
+look_writable : (s : List ℕ) (f : Fields TableLook) → Writable TableLook s f → Writable TableLook02 s (look_of f)
 unfolding passes among
 look_writable s f w = (w.0, (refl, (w.1.1.0, (w.1.1.1.0, v2_writable (eqb f.1.0 2) s f.1.1.1.1 w.1.1.1.1))))
 
@@ -211,20 +211,20 @@ accepts (answer.Refused n p) f e = absurd (let z : ◌≡◌ {A = ℕ} 0 1 = cc 
 record Back (a : Answer) (bs : List ℕ) (t : Tree TableLook) : Type 0 where
   look : Look
   is : a ≡ answer.Accepted look
-  fields : values.fields look ≡ look-of (placed TableLook t 0)
+  fields : values.fields look ≡ look_of (placed TableLook t 0)
   all : resolve TableLook02 bs (values.fields look) ≡ look_tree t
 
 stands_whole : (bs : List ℕ) (t : Tree TableLook) → spell TableLook t ≡ bs → Stands (spell TableLook t) bs 0 []
 stands_whole bs t e = record { inside = omega arith; here = sym (append-nil (spell TableLook t) ∙ e) }
 
-resolved : (bs : List ℕ) (t : Tree TableLook) → spell TableLook t ≡ bs → resolve TableLook02 bs (look-of (placed TableLook t 0)) ≡ look_tree t
+resolved : (bs : List ℕ) (t : Tree TableLook) → spell TableLook t ≡ bs → resolve TableLook02 bs (look_of (placed TableLook t 0)) ≡ look_tree t
 resolved bs t e = resolve_look bs (placed TableLook t 0) ∙ ap look_tree (resolve_placed TableLook t bs 0 [] (stands_whole bs t e))
 
 read_back : (a : Answer) (bs : List ℕ) (t : Tree TableLook) (p : ℕ) → read TableLook bs 0 ≡ got t [] p → spell TableLook t ≡ bs
     → outcome a ≡ expected (read TableLook bs 0) → Back a bs t
 unfolding expected
 read_back a bs t p r e i =
-    let y = accepts a (look-of (placed TableLook t 0)) (i ∙ ap expected r) in
+    let y = accepts a (look_of (placed TableLook t 0)) (i ∙ ap expected r) in
     record {
       look = y.look;
       is = y.is;
@@ -281,7 +281,7 @@ module _ (bs : List ℕ) (h : Bytes bs) (y : Look) (i : outcome (answer.Accepted
   of_file = (laws.accepts TableLook bs h).0 (whole.0, whole.1, whole.2)
 
   -- the look's fields are those of the derivation, with 002's defaults where the file has no V2Styles
-  pub fields_are : values.fields y ≡ look-of (placed TableLook of_file.tree 0)
+  pub fields_are : values.fields y ≡ look_of (placed TableLook of_file.tree 0)
   unfolding expected
   fields_are = let e = i ∙ ap expected (laws.derived TableLook bs of_file) in cc
 

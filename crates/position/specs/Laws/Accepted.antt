@@ -13,7 +13,7 @@ use Rattle.grammar.specs.Once.{fresh, Distinct, OnceEach}
 use Rattle.grammar.specs.Laws.Once.{one_more}
 use Rattle.grammar.specs.Index.{product, coordinate}
 use Rattle.position.specs.Axes.{position_on, coordinate_on, coordinate_at, part, axes_of}
-use Rattle.position.specs.Answers.{onceEach, tooLarge, axesMatch, refusal}
+use Rattle.position.specs.Answers.{each_axis_once, too_large_answer, axes_match, refusal}
 use Rattle.position.specs.Laws.Among.{on_first, on_later, parted}
 use Rattle.position.specs.Laws.Axis.{position_below, position_same, coordinate_inside}
 use Rattle.position.specs.Laws.Turned.{Axes, joined, Fits, on_some, in_table, at_inside}
@@ -23,17 +23,17 @@ use Rattle.position.specs.Laws.Bounds.{some_places, first_places}
 -- ---- the test of an order
 
 -- Once each: the test finds out whether the numbers stand once each
-passed_once : (d : ℕ) (es : List ℕ) → onceEach d es ≡ true → OnceEach d es
-unfolding onceEach
+passed_once : (d : ℕ) (es : List ℕ) → each_axis_once d es ≡ true → OnceEach d es
+unfolding each_axis_once
 passed_once d [] h = record { below = all_none; distinct = tt }
-passed_once d (e ∷ es) h = let q = and_is_true (fresh d es e) (onceEach d es) h in (one_more d es e).0 (q.0, passed_once d es q.1)
+passed_once d (e ∷ es) h = let q = and_is_true (fresh d es e) (each_axis_once d es) h in (one_more d es e).0 (q.0, passed_once d es q.1)
 
-once_passed : (d : ℕ) (es : List ℕ) → OnceEach d es → onceEach d es ≡ true
-unfolding onceEach
+once_passed : (d : ℕ) (es : List ℕ) → OnceEach d es → each_axis_once d es ≡ true
+unfolding each_axis_once
 once_passed d [] o = refl
 once_passed d (e ∷ es) o = let q = (one_more d es e).1 o in rw q.0 (once_passed d es q.1)
 
-pub once_each : (d : ℕ) (es : List ℕ) → (onceEach d es ≡ true) ↔ OnceEach d es
+pub once_each : (d : ℕ) (es : List ℕ) → (each_axis_once d es ≡ true) ↔ OnceEach d es
 once_each d es = (passed_once d es, once_passed d es)
 
 -- ---- the entries of an order
@@ -96,11 +96,11 @@ not_large false large h = (refl, h)
 
 module _ (ns : List ℕ) (a b c : ℕ) (order : List ℕ) where
   pub no_refusal : refusal ns a b c order ≡ 0 → Accepted ns a b c order
-  unfolding refusal tooLarge axesMatch
+  unfolding refusal too_large_answer axes_match
   no_refusal h =
-      let q = numbered (tooLarge ns) (axesMatch (length ns) a b c order) h in
+      let q = numbered (too_large_answer ns) (axes_match (length ns) a b c order) h in
       let s = not_large (ltb most_dimensions (length ns)) (ltb most_places (product ns)) q.0 in
-      let t = and_is_true (eqb (a + b + c) (length ns) && eqb (length order) (length ns)) (onceEach (length ns) order) q.1 in
+      let t = and_is_true (eqb (a + b + c) (length ns) && eqb (length order) (length ns)) (each_axis_once (length ns) order) q.1 in
       let u = and_is_true (eqb (a + b + c) (length ns)) (eqb (length order) (length ns)) t.0 in
       record {
         few = ltb-false most_dimensions (length ns) s.0;
@@ -111,7 +111,7 @@ module _ (ns : List ℕ) (a b c : ℕ) (order : List ℕ) where
       }
 
   pub not_refused : Accepted ns a b c order → refusal ns a b c order ≡ 0
-  unfolding refusal tooLarge axesMatch pick
+  unfolding refusal too_large_answer axes_match pick
   not_refused x =
       rw (
         le-ltb most_dimensions (length ns) x.few,

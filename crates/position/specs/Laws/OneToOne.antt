@@ -16,7 +16,7 @@ use Rattle.grammar.specs.Index.{product, coordinate}
 use Rattle.position.specs.declared.Position.{Position}
 use Rattle.position.specs.declared.CellIndex.{CellIndex}
 use Rattle.position.specs.Axes.{positions, coordinate_at, axes_of, index_at}
-use Rattle.position.specs.Answers.{refusal, along, at, noPosition, position, span_of, within, found, noIndex, index_of}
+use Rattle.position.specs.Answers.{refusal, along, at, no_position_answer, position, span_of, within, found, no_index_answer, index_of}
 use Rattle.position.specs.Laws.Turned.{Fits, fits_none, fits_more}
 use Rattle.position.specs.Laws.Table.{table_fits, index_back, coordinate_kept, index_below, positions_back}
 use Rattle.position.specs.Laws.Accepted.{Accepted, axes_once, no_refusal}
@@ -33,7 +33,7 @@ pub record Placed (n : ℕ) (b : Bool) (x y z l r m : ℕ) : Type 0 where
   pub row : y ≡ r
   pub column : z ≡ m
 
-placed_by : (n : ℕ) (t b : Bool) (x y z : ℕ) {l r m : ℕ} → eqb n 0 ≡ t → pick t (pick b (at x y z) (noPosition 10)) (noPosition n) ≡ at l r m → Placed n b x y z l r m
+placed_by : (n : ℕ) (t b : Bool) (x y z : ℕ) {l r m : ℕ} → eqb n 0 ≡ t → pick t (pick b (at x y z) (no_position_answer 10)) (no_position_answer n) ≡ at l r m → Placed n b x y z l r m
 unfolding pick
 placed_by n true true x y z q h = record {
   plain = eqb-true n 0 q;
@@ -50,7 +50,7 @@ pub record Told (n : ℕ) (b : Bool) (x k : ℕ) : Type 0 where
   pub inside : b ≡ true
   pub index : x ≡ k
 
-told_by : (n : ℕ) (t b : Bool) (x : ℕ) {k : ℕ} → eqb n 0 ≡ t → pick t (pick b (found x) (noIndex 10)) (noIndex n) ≡ found k → Told n b x k
+told_by : (n : ℕ) (t b : Bool) (x : ℕ) {k : ℕ} → eqb n 0 ≡ t → pick t (pick b (found x) (no_index_answer 10)) (no_index_answer n) ≡ found k → Told n b x k
 unfolding pick
 told_by n true true x q h = record { plain = eqb-true n 0 q; inside = refl; index = ap (λ (p : CellIndex). p.index) h }
 told_by n true false x q h = zero_ten (ap (λ (p : CellIndex). p.refusal) h)
@@ -149,17 +149,17 @@ module _ (ns : List ℕ) (a b c : ℕ) (order : List ℕ) where
     )
 
     -- Nothing: in a table whose product is 0, 10 is the answer for every index ..
-    pub no_index : product ns ≡ 0 → (k : ℕ) → position ns a b c order k ≡ noPosition 10
+    pub no_index : product ns ≡ 0 → (k : ℕ) → position ns a b c order k ≡ no_position_answer 10
     unfolding position pick
     no_index e k = rw (z, le-ltb k (product ns) (omega arith))
 
-    no_position_by : product ns ≡ 0 → (l r m : ℕ) (t : Bool) → within ns a b c order l r m ≡ t → index_of ns a b c order l r m ≡ noIndex 10
+    no_position_by : product ns ≡ 0 → (l r m : ℕ) (t : Bool) → within ns a b c order l r m ≡ t → index_of ns a b c order l r m ≡ no_index_answer 10
     unfolding index_of pick
     no_position_by e l r m false h = rw (z, h)
     no_position_by e l r m true h = absurd (omega (arith, (each_position l r m (within_is l r m h)).2, e))
 
     -- .. and for every position
-    pub no_position : product ns ≡ 0 → (l r m : ℕ) → index_of ns a b c order l r m ≡ noIndex 10
+    pub no_position : product ns ≡ 0 → (l r m : ℕ) → index_of ns a b c order l r m ≡ no_index_answer 10
     no_position e l r m = no_position_by e l r m (within ns a b c order l r m) refl
 
   -- ---- and each is the other's inverse

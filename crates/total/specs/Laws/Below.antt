@@ -8,7 +8,7 @@ use Rattle.grammar.specs.Table.{Cell}
 use Rattle.grammar.specs.Member.{version, cells, nodes, cells_start, MemberDerivation}
 use Rattle.total.specs.declared.LeafTotal.{LeafTotal}
 use Rattle.total.specs.Total.{cells_say, member_cells, under, leaf_sums}
-use Rattle.total.specs.Answers.{refused, totalled, answered, there, leafAnswer}
+use Rattle.total.specs.Answers.{refused, totalled, answered, there, leaf_answer_of}
 use Rattle.total.specs.Laws.Sums.{sums_within}
 use Rattle.total.specs.Laws.LeafIs.{few_cells}
 
@@ -28,8 +28,8 @@ module _ {bs : List ℕ} (d : MemberDerivation bs) (dimension leaf : ℕ) where
       let w = sums_within (under d.tree dimension leaf) (member_cells d.tree) in
       omega (arith, w.total, as_many (version d.tree) (cells_start d.tree) (cells d.tree), few_cells d)
 
-  pub total_below : (leafAnswer d.tree dimension leaf).total < 2 ^ 44
-  unfolding leafAnswer
+  pub total_below : (leaf_answer_of d.tree dimension leaf).total < 2 ^ 44
+  unfolding leaf_answer_of
   total_below =
       let s = leaf_sums d.tree dimension leaf in
       let n = nodes d.tree in

@@ -18,7 +18,7 @@ use Rattle.answer.proofs.Laws.Holds.{demand3}
 use Rattle.grammar.proofs.Laws.Member.Demanded.{derivation_checked}
 use Rattle.total.specs.declared.LeafTotal.{LeafTotal}
 use Rattle.total.specs.declared.DimensionTotals.{DimensionTotals}
-use Rattle.total.specs.Answers.{memberFirst, refused, leafAnswer, totalAnswer, Totalled, ByDerivation, refusedAll, dimensionAnswer, totalsAnswer, totalsAfter, AllTotalled, AllByDerivation}
+use Rattle.total.specs.Answers.{member_first, refused, leaf_answer_of, total_answer, Totalled, ByDerivation, refused_all_answer, dimension_answer, totals_answer, totals_after, AllTotalled, AllByDerivation}
 
 -- an area that is filled where n is 0
 filled : (n : ℕ) (new old : List ℕ) {now : List ℕ} → now ≡ pick (eqb n 0) new old → n ≡ 0 → now ≡ new
@@ -38,8 +38,8 @@ module _ {bs : List ℕ} (b : Bytes bs) (N C : List ℕ) where
 
   -- where reading refuses, so does the call, with the refusal's number, place and counts
   same_refusal : {A : Type 0} (refusing : ℕ → ℕ → ℕ → ℕ → A) (said : Tree Member → A) (y : Got (Tree Member)) → let a = answer_of y (length N) (length C) in
-      (a.refusal ≡ 0 → ⊥) → memberFirst refusing said y (length N) (length C) ≡ refusing a.refusal a.place a.nodes a.cells
-  unfolding memberFirst answer_of refusal pick accepted
+      (a.refusal ≡ 0 → ⊥) → member_first refusing said y (length N) (length C) ≡ refusing a.refusal a.place a.nodes a.cells
+  unfolding member_first answer_of refusal pick accepted
   same_refusal refusing said (no n p) h = refl
   same_refusal refusing said (got t r p) h = go (wide t (length N)) (long t (length C)) h
     where
@@ -57,8 +57,8 @@ module _ {bs : List ℕ} (b : Bytes bs) (N C : List ℕ) where
 
   -- where it accepts, the call says what is said of the derivation
   of_accepted : {A : Type 0} (refusing : ℕ → ℕ → ℕ → ℕ → A) (said : Tree Member → A) (m : Accepted bs (length N) (length C))
-      → memberFirst refusing said (checked bs) (length N) (length C) ≡ said m.derivation.tree
-  unfolding memberFirst pick
+      → member_first refusing said (checked bs) (length N) (length C) ≡ said m.derivation.tree
+  unfolding member_first pick
   of_accepted refusing said m =
       let t = m.derivation.tree in
       rw (
@@ -69,15 +69,15 @@ module _ {bs : List ℕ} (b : Bytes bs) (N C : List ℕ) where
 
   module _ (dimension leaf : ℕ) where
     pub by_derivation : {r : LeafTotal} {N' C' : List ℕ} → Totalled bs N C dimension leaf r N' C' → ByDerivation bs N C dimension leaf r N' C'
-    unfolding totalAnswer
+    unfolding total_answer
     by_derivation {r} x =
-        let said : Tree Member → LeafTotal = λ t. leafAnswer t dimension leaf in
+        let said : Tree Member → LeafTotal = λ t. leaf_answer_of t dimension leaf in
         record {
           reading = reading;
-          nodes-read = nodes_after (checked bs) N (length C);
-          cells-read = cells_after (checked bs) (length N) C;
+          nodes_read = nodes_after (checked bs) N (length C);
+          cells_read = cells_after (checked bs) (length N) C;
           is_read = is_read;
-          of-refused = λ h. x.answer ∙ same_refusal refused said (checked bs) h;
+          of_refused = λ h. x.answer ∙ same_refusal refused said (checked bs) h;
           of_accepted = λ m. x.answer ∙ of_accepted refused said m;
           with_records = λ z. (filled r.refusal (nodes_after (checked bs) N (length C)) N x.node_area z, filled r.refusal (cells_after (checked bs) (length N) C) C x.cell_area z);
           unchanged = λ z. (kept r.refusal (nodes_after (checked bs) N (length C)) N x.node_area z, kept r.refusal (cells_after (checked bs) (length N) C) C x.cell_area z);
@@ -85,18 +85,18 @@ module _ {bs : List ℕ} (b : Bytes bs) (N C : List ℕ) where
 
   module _ (dimension : ℕ) (T : List ℕ) where
     pub all_by_derivation : {r : DimensionTotals} {T' N' C' : List ℕ} → AllTotalled bs T N C dimension r T' N' C' → AllByDerivation bs T N C dimension r T' N' C'
-    unfolding totalsAnswer totalsAfter
+    unfolding totals_answer totals_after
     all_by_derivation {r} x =
-        let refusing : ℕ → ℕ → ℕ → ℕ → DimensionTotals = λ n p k m. refusedAll n p k m 0 in
-        let said : Tree Member → DimensionTotals = λ t. dimensionAnswer t dimension (length T) in
+        let refusing : ℕ → ℕ → ℕ → ℕ → DimensionTotals = λ n p k m. refused_all_answer n p k m 0 in
+        let said : Tree Member → DimensionTotals = λ t. dimension_answer t dimension (length T) in
         record {
           reading = reading;
-          nodes-read = nodes_after (checked bs) N (length C);
-          cells-read = cells_after (checked bs) (length N) C;
+          nodes_read = nodes_after (checked bs) N (length C);
+          cells_read = cells_after (checked bs) (length N) C;
           is_read = is_read;
-          of-refused = λ h. x.answer ∙ same_refusal refusing said (checked bs) h;
+          of_refused = λ h. x.answer ∙ same_refusal refusing said (checked bs) h;
           of_accepted = λ m. x.answer ∙ of_accepted refusing said m;
-          with_rows = λ m z. filled r.refusal (totalsAfter (checked bs) dimension T) T x.each-leaf z ∙ rw (derivation_checked bs b m.derivation m.demanded);
+          with_rows = λ m z. filled r.refusal (totals_after (checked bs) dimension T) T x.each_leaf z ∙ rw (derivation_checked bs b m.derivation m.demanded);
           with_records = λ z. (filled r.refusal (nodes_after (checked bs) N (length C)) N x.node_area z, filled r.refusal (cells_after (checked bs) (length N) C) C x.cell_area z);
-          unchanged = λ z. (kept r.refusal (totalsAfter (checked bs) dimension T) T x.each-leaf z, kept r.refusal (nodes_after (checked bs) N (length C)) N x.node_area z, kept r.refusal (cells_after (checked bs) (length N) C) C x.cell_area z);
+          unchanged = λ z. (kept r.refusal (totals_after (checked bs) dimension T) T x.each_leaf z, kept r.refusal (nodes_after (checked bs) N (length C)) N x.node_area z, kept r.refusal (cells_after (checked bs) (length N) C) C x.cell_area z);
         }

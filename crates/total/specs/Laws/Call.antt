@@ -11,7 +11,7 @@ use Rattle.grammar.specs.Laws.Member.Checked.{checked}
 use Rattle.answer.specs.Answer.{accepted}
 use Rattle.grammar.proofs.Laws.Member.Demanded.{derivation_checked}
 use Rattle.total.specs.declared.LeafTotal.{LeafTotal}
-use Rattle.total.specs.Answers.{memberFirst, refused, totalAnswer, Totalled}
+use Rattle.total.specs.Answers.{member_first, refused, total_answer, Totalled}
 use Rattle.total.specs.Laws.Leaf.{word_answer}
 use Rattle.total.specs.Laws.LeafIs.{leaf_is}
 use Rattle.total.specs.Laws.Reading.{Taken}
@@ -29,17 +29,17 @@ unfolding pick
 too_short a bs ws dimension leaf node_length cell_length e = (λ z. rw (e, z), λ y z. rw (e, y, z))
 
 -- by the areas
-abbrev filled_as : {bs N C : List ℕ} {dimension leaf : ℕ} {x : LeafTotal} {N' C' : List ℕ} → x ≡ totalAnswer (checked bs) (length N) (length C) dimension leaf → Areas bs N C x.refusal N' C'
+abbrev filled_as : {bs N C : List ℕ} {dimension leaf : ℕ} {x : LeafTotal} {N' C' : List ℕ} → x ≡ total_answer (checked bs) (length N) (length C) dimension leaf → Areas bs N C x.refusal N' C'
     → Totalled bs N C dimension leaf x N' C'
 filled_as e y = record { answer = e; node_area = y.node_area; cell_area = y.cell_area }
 
 pub refused_call : {bs : List ℕ} {n p : ℕ} → checked bs ≡ no n p → (N C : List ℕ) (dimension leaf : ℕ) → Totalled bs N C dimension leaf (refused n p 0 0) N C
-unfolding totalAnswer memberFirst
+unfolding total_answer member_first
 refused_call e N C dimension leaf = filled_as (rw e) (refused_areas e N C)
 
 fits : {bs : List ℕ} → Bytes bs → (d : MemberDerivation bs) → AsDemanded d.tree → (others : List ℕ) (node_length cell_length dimension leaf : ℕ)
-    → fitting bs (accepted d.tree) (cell_records d.tree ++ others) dimension leaf node_length cell_length ≡ totalAnswer (checked bs) node_length cell_length dimension leaf
-unfolding totalAnswer memberFirst accepted
+    → fitting bs (accepted d.tree) (cell_records d.tree ++ others) dimension leaf node_length cell_length ≡ total_answer (checked bs) node_length cell_length dimension leaf
+unfolding total_answer member_first accepted
 fits {bs} b d dem others node_length cell_length dimension leaf = rw (derivation_checked bs b d dem, leaf_is d dem dimension leaf others)
 
 pub accepted_call : {bs : List ℕ} → Bytes bs → {a : Answer} {node-list cell-list : List ℕ} → Taken bs a node-list cell-list → (N C : List ℕ) (dimension leaf : ℕ) {x : LeafTotal}

@@ -10,7 +10,7 @@ use Rattle.grammar.specs.Laws.Member.Checked.{checked}
 use Rattle.total.specs.declared.LeafTotal.{LeafTotal}
 use Rattle.total.specs.declared.DimensionTotals.{DimensionTotals}
 use Rattle.total.specs.Words.{answer_words_of, dimension_words_of}
-use Rattle.total.specs.Answers.{totalAnswer, Totalled, ByDerivation, totalsAnswer, AllTotalled, AllByDerivation}
+use Rattle.total.specs.Answers.{total_answer, Totalled, ByDerivation, totals_answer, AllTotalled, AllByDerivation}
 use Rattle.total.specs.Calls.{TotalRead, TotalsRead}
 
 no_both : {A : Type 0} (b : Bool) → b ≡ true → b ≡ false → A
@@ -30,7 +30,7 @@ module _ (bs answer nodes cells : List ℕ) (dimension leaf : ℕ) where
   pub not_read : leb total_answer_words (length answer) ≡ false → TotalRead bs answer nodes cells dimension leaf 0 answer nodes cells
   not_read t =
       record {
-        words = without_room total_answer_words (answer_words_of (totalAnswer (checked bs) (length nodes) (length cells) dimension leaf)) answer t;
+        words = without_room total_answer_words (answer_words_of (total_answer (checked bs) (length nodes) (length cells) dimension leaf)) answer t;
         called = λ f. no_both _ f t;
         demands = λ f. no_both _ f t;
         not_called = λ _. (refl, refl);
@@ -50,7 +50,7 @@ module _ (bs answer totals nodes cells : List ℕ) (dimension : ℕ) where
   pub none_read : leb totals_answer_words (length answer) ≡ false → TotalsRead bs answer totals nodes cells dimension 0 answer totals nodes cells
   none_read t =
       record {
-        words = without_room totals_answer_words (dimension_words_of (totalsAnswer (checked bs) dimension (length totals) (length nodes) (length cells))) answer t;
+        words = without_room totals_answer_words (dimension_words_of (totals_answer (checked bs) dimension (length totals) (length nodes) (length cells))) answer t;
         called = λ f. no_both _ f t;
         demands = λ f. no_both _ f t;
         not_called = λ _. (refl, refl, refl);

@@ -11,7 +11,7 @@ use Rattle.answer.specs.Answer.{wide, long}
 use Rattle.total.specs.declared.sums.Sums.{Sums}
 use Rattle.total.specs.declared.LeafTotal.{LeafTotal}
 use Rattle.total.specs.Total.{leaf_sums}
-use Rattle.total.specs.Answers.{memberFirst, double, refused, answered, there, leafAnswer, totalAnswer}
+use Rattle.total.specs.Answers.{member_first, double, refused, answered, there, leaf_answer_of, total_answer}
 
 odd_number : (d : ℕ) (s : Bool) (q k l : ℕ) → T (not (is_nan (odd d s q k l)))
 unfolding odd is_nan
@@ -54,12 +54,12 @@ pub answered_numbers : (node-count cell-count : ℕ) (s : Sums) → Numbers (ans
 answered_numbers node-count cell-count s =
     either_numbers s.bad _ _ (refused_numbers 20 s.place 0 0) (record { smallest = double_number s.smallest; largest = double_number s.largest })
 
-leaf_numbers : (t : Tree Member) (dimension leaf : ℕ) → Numbers (leafAnswer t dimension leaf)
-unfolding leafAnswer
+leaf_numbers : (t : Tree Member) (dimension leaf : ℕ) → Numbers (leaf_answer_of t dimension leaf)
+unfolding leaf_answer_of
 leaf_numbers t dimension leaf = either_numbers (there t dimension leaf) _ _ (answered_numbers _ _ (leaf_sums t dimension leaf)) (refused_numbers 19 0 0 0)
 
-pub total_numbers : (y : Got (Tree Member)) (node_length cell_length dimension leaf : ℕ) → Numbers (totalAnswer y node_length cell_length dimension leaf)
-unfolding totalAnswer memberFirst
+pub total_numbers : (y : Got (Tree Member)) (node_length cell_length dimension leaf : ℕ) → Numbers (total_answer y node_length cell_length dimension leaf)
+unfolding total_answer member_first
 total_numbers (no n p) node_length cell_length dimension leaf = refused_numbers n p 0 0
 total_numbers (got t r p) node_length cell_length dimension leaf =
     either_numbers (wide t node_length) _ _ (either_numbers (long t cell_length) _ _ (leaf_numbers t dimension leaf) (refused_numbers 13 0 _ _)) (refused_numbers 12 0 _ _)

@@ -19,7 +19,7 @@ use Rattle.grammar.specs.Member.{version, dimensions_section, cells_section, dim
 use Rattle.answer.specs.Demand3.{zeros}
 use Rattle.answer.specs.Answer.{accepted}
 use Rattle.total.specs.Total.{sums, leaf_sums}
-use Rattle.total.specs.Answers.{answered, refused, there, leafAnswer}
+use Rattle.total.specs.Answers.{answered, refused, there, leaf_answer_of}
 use Rattle.total.specs.Laws.Words.{records_say, under_by}
 use Rattle.grid.specs.Grid.{version_of, places_of, grid_of, there_of}
 use Rattle.total.specs.Laws.Leaf.{word_sums, word_answer}
@@ -86,8 +86,8 @@ module _ {bs : List ℕ} (d : MemberDerivation bs) (dem : AsDemanded d.tree) whe
 
   -- ---- the answer
 
-  pub leaf_is : (i leaf : ℕ) (rest : List ℕ) → word_answer bs (accepted d.tree) (cell_records d.tree ++ rest) i leaf ≡ leafAnswer d.tree i leaf
-  unfolding word_answer word_sums grid_of leafAnswer accepted entries count pick
+  pub leaf_is : (i leaf : ℕ) (rest : List ℕ) → word_answer bs (accepted d.tree) (cell_records d.tree ++ rest) i leaf ≡ leaf_answer_of d.tree i leaf
+  unfolding word_answer word_sums grid_of leaf_answer_of accepted entries count pick
   leaf_is i leaf rest = rw (there_is i leaf) (go (there d.tree i leaf) refl)
     where
       n : ℕ
@@ -108,7 +108,7 @@ module _ {bs : List ℕ} (d : MemberDerivation bs) (dem : AsDemanded d.tree) whe
 
   -- and so is what it answers for each leaf that is there
   pub row_is : (i leaf : ℕ) (rest : List ℕ) → i < length (dimensions d.tree) → leaf < get_or (ns d.tree) i 0
-      → answered (nodes d.tree) (length (cells d.tree)) (word_sums bs (accepted d.tree) (cell_records d.tree ++ rest) i leaf) ≡ leafAnswer d.tree i leaf
-  unfolding word_sums grid_of leafAnswer accepted entries count pick
+      → answered (nodes d.tree) (length (cells d.tree)) (word_sums bs (accepted d.tree) (cell_records d.tree ++ rest) i leaf) ≡ leaf_answer_of d.tree i leaf
+  unfolding word_sums grid_of leaf_answer_of accepted entries count pick
   row_is i leaf rest h l =
       rw (lt-ltb i (length (dimensions d.tree)) h, lt-ltb leaf (get_or (ns d.tree) i 0) l) (ap (answered (nodes d.tree) (length (cells d.tree))) (sums_are i leaf rest h))

@@ -21,13 +21,13 @@ use Rattle.grammar.specs.Laws.Member.RecordsSpelt.{part_of_lem}
 use Rattle.grammar.specs.Records.{cell_words_of, rows_words, cell_index, cell_value}
 use Rattle.contents.specs.Contents.{contents}
 use Rattle.contents.specs.Answers.{unread}
-use Rattle.contents.specs.Laws.Answers.{answer_of, valueAnswer}
+use Rattle.contents.specs.Laws.Answers.{answer_of, value_answer}
 use Rattle.total.specs.Total.{CellSays, cells_say}
 use Rattle.total.specs.Laws.Words.{records_say}
 
 -- what is answered for the bytes of a Value is what it says
 value_of_bytes : (version : ℕ) (s : List ℕ) (v : Tree (CellValue version)) → unread version s ≡ 0 → s ≡ spell (CellValue version) v → Valid (CellValue version) v
-    → valueAnswer version s ≡ contents version v
+    → value_answer version s ≡ contents version v
 unfolding answer_of pick
 value_of_bytes version s v known e h =
     let r : read (CellValue version) s 0 ≡ got v [] (0 + length (spell (CellValue version) v)) =
@@ -44,7 +44,7 @@ later_word pre ys i m e = rw e (get_or-append-add pre ys m 0)
 module _ (bs : List ℕ) (version : ℕ) (known : (place long : ℕ) → unread version (part_of bs place long) ≡ 0) where
   -- the Value of a cell, which is at `at`
   cell_value_lem : (at : ℕ) (c : Tree (Cell version)) (after : List ℕ) → Valid (Cell version) c → drop at bs ≡ spell (Cell version) c ++ after
-      → valueAnswer version (part_of bs (at + 8) (size (CellValue version) (cell_value version c))) ≡ contents version (cell_value version c)
+      → value_answer version (part_of bs (at + 8) (size (CellValue version) (cell_value version c))) ≡ contents version (cell_value version c)
   unfolding spell
   cell_value_lem at c after h e =
       let v = cell_value version c in

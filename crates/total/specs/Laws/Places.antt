@@ -24,7 +24,7 @@ use Rattle.counts.specs.Count.{kind}
 use Rattle.total.specs.declared.sums.Sums.{Sums}
 use Rattle.total.specs.declared.LeafTotal.{LeafTotal}
 use Rattle.total.specs.Total.{CellSays, add, with_cell, sums, cells_say, under, leaf_sums}
-use Rattle.total.specs.Answers.{memberFirst, refused, answered, there, leafAnswer, totalAnswer}
+use Rattle.total.specs.Answers.{member_first, refused, answered, there, leaf_answer_of, total_answer}
 
 -- ---- sums
 
@@ -70,8 +70,8 @@ either_total true m x y h k = h
 either_total false m x y h k = k
 
 module _ {bs : List ℕ} (b : Bytes bs) (N C : List ℕ) (dimension leaf : ℕ) where
-  leaf_place : (t : Tree Member) (r : List ℕ) (p : ℕ) → checked bs ≡ got t r p → (leafAnswer t dimension leaf).place ≤ length bs
-  unfolding leafAnswer
+  leaf_place : (t : Tree Member) (r : List ℕ) (p : ℕ) → checked bs ≡ got t r p → (leaf_answer_of t dimension leaf).place ≤ length bs
+  unfolding leaf_answer_of
   leaf_place t r p e =
       let k = demanded.accepted bs b t r p e in
       let d = k.derivation in
@@ -81,19 +81,19 @@ module _ {bs : List ℕ} (b : Bytes bs) (N C : List ℕ) (dimension leaf : ℕ) 
       either_total (there t dimension leaf) (length bs) (answered (nodes t) (length (cells t)) (leaf_sums t dimension leaf)) (refused 19 0 0 0)
       (either_total (leaf_sums t dimension leaf).bad (length bs) (refused 20 (leaf_sums t dimension leaf).place 0 0) _ s' (omega arith)) (omega arith)
 
-  pub total_place : (totalAnswer (checked bs) (length N) (length C) dimension leaf).place ≤ length bs
-  unfolding totalAnswer memberFirst answer_of refusal
+  pub total_place : (total_answer (checked bs) (length N) (length C) dimension leaf).place ≤ length bs
+  unfolding total_answer member_first answer_of refusal
   total_place = go (checked bs) refl
     where
       d : Demand3 bs N C (answer_of (checked bs) (length N) (length C)) (nodes_after (checked bs) N (length C)) (cells_after (checked bs) (length N) C)
       d = demand3 bs b N C (record { answer = refl; node_area = refl; cell_area = refl })
 
-      go : (y : Got (Tree Member)) → checked bs ≡ y → (totalAnswer y (length N) (length C) dimension leaf).place ≤ length bs
+      go : (y : Got (Tree Member)) → checked bs ≡ y → (total_answer y (length N) (length C) dimension leaf).place ≤ length bs
       go (no n p) e = let l : (answer_of (no n p) (length N) (length C)).place ≤ length bs = rw e at d.place.0 in l
       go (got t r p) e =
-          either_total (wide t (length N)) (length bs) (pick (long t (length C)) (leafAnswer t dimension leaf) (refused 13 0 (nodes t) (length (cells t)))) (refused 12 0 (nodes t) (length (cells t)))
-          (either_total (long t (length C)) (length bs) (leafAnswer t dimension leaf) (refused 13 0 (nodes t) (length (cells t))) (leaf_place t r p e) (omega arith)) (omega arith)
+          either_total (wide t (length N)) (length bs) (pick (long t (length C)) (leaf_answer_of t dimension leaf) (refused 13 0 (nodes t) (length (cells t)))) (refused 12 0 (nodes t) (length (cells t)))
+          (either_total (long t (length C)) (length bs) (leaf_answer_of t dimension leaf) (refused 13 0 (nodes t) (length (cells t))) (leaf_place t r p e) (omega arith)) (omega arith)
 
   -- a member has at most 1,048,576 bytes, and a longer one is refused at 0
-  pub place_kept : let x = totalAnswer (checked bs) (length N) (length C) dimension leaf in length bs < 2 ^ 32 → word32 x.place ≡ x.place
+  pub place_kept : let x = total_answer (checked bs) (length N) (length C) dimension leaf in length bs < 2 ^ 32 → word32 x.place ≡ x.place
   place_kept h = word_same _ (omega (arith, total_place))

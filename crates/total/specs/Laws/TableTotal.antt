@@ -14,7 +14,7 @@ use Rattle.counts.specs.declared.Kind.TheVariants.{Text, Missing, Number, Bad}
 use Rattle.total.specs.declared.sums.Sums.{Sums}
 use Rattle.counts.specs.Count.{kind}
 use Rattle.total.specs.Total.{CellSays, add, with_cell, sums, member_cells, leaf_sums, table_sums}
-use Rattle.total.specs.Answers.{leafAnswer}
+use Rattle.total.specs.Answers.{leaf_answer_of}
 use Rattle.total.specs.Laws.Under.{all_say}
 use Rattle.total.specs.Laws.Leaves.{sum_to, sum_same, leaves_add_up}
 
@@ -51,11 +51,11 @@ module _ (t : Tree Member) (a : AsDemanded t) (i : ℕ) (there : i < length (dim
   under_some (all_more {x = k} h hs) = all_more (coordinate_below (ns t) i k h (omega (arith, how_many))) (under_some hs)
 
   -- the total of a leaf that is there, where no cell is refused
-  leaf_total_lem : (table_sums t).bad ≡ false → (j : ℕ) → j < get_or (ns t) i 0 → (leafAnswer t i j).total ≡ (leaf_sums t i j).total
-  unfolding leafAnswer pick
+  leaf_total_lem : (table_sums t).bad ≡ false → (j : ℕ) → j < get_or (ns t) i 0 → (leaf_answer_of t i j).total ≡ (leaf_sums t i j).total
+  unfolding leaf_answer_of pick
   leaf_total_lem good j h = rw (lt-ltb i (length (dimensions t)) there, lt-ltb j (get_or (ns t) i 0) h, some_good _ (member_cells t) good)
 
-  pub totals_add_up : (table_sums t).bad ≡ false → sum_to (get_or (ns t) i 0) (λ j. (leafAnswer t i j).total) ≡ (table_sums t).total
+  pub totals_add_up : (table_sums t).bad ≡ false → sum_to (get_or (ns t) i 0) (λ j. (leaf_answer_of t i j).total) ≡ (table_sums t).total
   totals_add_up good =
-      sum_same (get_or (ns t) i 0) (λ j. (leafAnswer t i j).total) (λ j. (leaf_sums t i j).total) (leaf_total_lem good)
+      sum_same (get_or (ns t) i 0) (λ j. (leaf_answer_of t i j).total) (λ j. (leaf_sums t i j).total) (leaf_total_lem good)
       ∙ leaves_add_up (coordinate (ns t) i) (get_or (ns t) i 0) (all_say (version t) (λ k. coordinate (ns t) i k < get_or (ns t) i 0) (cells_start t) (cells t) (under_some a.inside.below))

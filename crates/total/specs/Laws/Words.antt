@@ -6,7 +6,7 @@ use Rattle.sizes.specs.Basics.{pick, among}
 use Rattle.grammar.specs.Part.{part_of}
 use Rattle.grammar.specs.RecordWords.{word}
 use Rattle.contents.specs.declared.RawValue.{RawValue}
-use Rattle.contents.specs.Laws.Answers.{valueAnswer}
+use Rattle.contents.specs.Laws.Answers.{value_answer}
 use Rattle.contents.specs.Laws.Figure.{figure, figure_with, no_figure}
 use Rattle.counts.specs.declared.Kind.{Kind}
 use Rattle.counts.specs.Count.{kind}
@@ -19,7 +19,7 @@ abbrev pub record_says : List ℕ → ℕ → List ℕ → ℕ → CellSays
 record_says bs version ws i = record {
   index = word ws (cell_words * i);
   place = word ws (cell_words * i + 1);
-  contents = valueAnswer version (part_of bs (word ws (cell_words * i + 1)) (word ws (cell_words * i + 2)));
+  contents = value_answer version (part_of bs (word ws (cell_words * i + 1)) (word ws (cell_words * i + 2)));
 }
 
 -- what it counts as

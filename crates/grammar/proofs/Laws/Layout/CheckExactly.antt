@@ -11,13 +11,12 @@ use Rattle.sizes.specs.Basics.{pick}
 use Rattle.grammar.specs.Layout.{Order, Test, passes, Layout, empty, number, times, Tree, digits, spell_all, spell, Bytes, All, all_none, all_more, Valid}
 use Rattle.grammar.specs.Fails.{Spells, SpellsAll, Fails, number_short, number_wrong, number_then}
 use Rattle.grammar.specs.Rule.{Rule, plain, ◌▸▸◌, numbered, items, asked, tested, onto, KeptAll, Kept, Breaks, fails, first, second, in_number, after_number, item, not_so, is_so, before_test, wrong}
-use Rattle.grammar.specs.Laws.Layout.Read.{Got, got, no, bind, read_number, read, refusal}
+use Rattle.grammar.specs.Laws.Layout.Read.{Got, no, bind, read_number, read, refusal}
 use Rattle.grammar.specs.Laws.Layout.Check.{check_times, judge, check}
-use Rattle.grammar.specs.Laws.Layout.IfGot.{IfGot, is_got, is_no, bind_got, pick_got, of_got}
 use Rattle.grammar.specs.Laws.Layout.IfNo.{IfNo, if_got, if_no, bind_no, bind_only, last_no, pick_no, of_no, so_no}
 use Rattle.grammar.specs.Laws.Layout.Digits.{length_digits}
-use Rattle.grammar.specs.Laws.Layout.Complete.{Complete, number_complete, complete}
-use Rattle.grammar.specs.Laws.Layout.Sound.{Spelt, Sound, cut, number_sound, after, sound_at}
+use Rattle.grammar.specs.Laws.Layout.Complete.{Complete}
+use Rattle.grammar.specs.Laws.Layout.Sound.{Spelt, cut, number_sound}
 use Rattle.grammar.specs.Laws.Layout.FailsExactly.{number_no, begun, number_few, begins_read, refused, IsGot}
 use Rattle.grammar.proofs.Laws.Layout.FailsExactly.{fails_at}
 use Rattle.grammar.specs.Laws.Layout.CheckExactly.{check_sound, check_complete, spelt, spells_check}

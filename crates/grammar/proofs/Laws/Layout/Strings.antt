@@ -1,9 +1,9 @@
 -- Passed on: where a layout asks of each of its strings that no byte is 0, no string of a derivation has a byte 0.
-use Rattle.std.specs.Prelude.{◌≡◌, refl, Bool, true, false, not, ◌||◌, ℕ, eqb}
+use Rattle.std.specs.Prelude.{◌≡◌, refl, Bool, true, false, not, ℕ, eqb}
 use Rattle.std.proofs.Common.{sym}
 use Rattle.std.proofs.lemmas.Bool.{false≢true, eqb-false}
 use Rattle.std.proofs.Math.Option.{none, some}
-use mathlib.Core.List.{List, [], ◌∷◌, ◌++◌, flat_map}
+use mathlib.Core.List.{List, [], ◌∷◌}
 use Rattle.sizes.specs.Basics.{among}
 use Rattle.grammar.specs.Layout.{Test, Content, any_bytes, no_zero, suits, Fill, exact, optional, open_ended, Filled, Layout, Tree, spell, All, all_none, all_more, ValidFill, Valid}
 use Rattle.grammar.specs.Strings.{strings_in, strings, NoZero}

@@ -1,23 +1,13 @@
 -- A member that is accepted, by computation in the logic: 940 bytes, with a group, four leaves and two cells. So demand 3 holds of something:
 -- these bytes have a derivation that is as demanded.
-use Rattle.std.specs.Prelude.{◌≡◌, refl, Bool, true, ◌&&◌, List, [], ◌∷◌, ◌++◌, ℕ, length, take, drop, set, ltb}
+use Rattle.std.specs.Prelude.{◌≡◌, refl, Bool, true, ◌&&◌, List, [], ◌∷◌, ℕ, length, ltb}
 use Rattle.std.proofs.Math.Bool.{and-eq-true_iff}
 use Rattle.std.proofs.Common.{arith, ltb-true, subst, sym}
-use Rattle.sizes.specs.Sizes.{no_parent}
-use Rattle.sizes.specs.Basics.{le, among, pick}
-use Rattle.grammar.specs.Layout.{digits, spell_all, spell_fill, spell, Tree, passes, suits, Bytes, no_bytes, byte, size}
-use Rattle.grammar.specs.Laws.Layout.Read.{Got, got, no, lead, read, refusal}
-use Rattle.grammar.specs.Laws.Layout.Check.{check}
-use Rattle.grammar.specs.Value.{FontStyle, CellStyle, StylePair, TemplatePrefix, TemplateString, Modifiers, ValueMod, ArgumentOf, TemplateOf, Form01, Form02, Form03, Form04, Form05, Form06, RawValueOf, ValueIn, Value, CellValue}
-use Rattle.grammar.specs.Sections.{HeaderFlags, HeaderNumbers, HeaderStart, HeaderRest, Titles, Footnote, Footnotes, AreaFont, AreaColors, AreaMargins, Area, EightAreas, Areas, BordersContent, Borders, PrintSettingsContent, PrintSettings, BreaksContent, TableFlags, TableSettingsContent, TableSettings, Y0, CustomCurrency, X1Start, X1, X2, X1X2, X3, Y1, Y2, X0, FormatsEnd, Formats, Front}
-use Rattle.grammar.specs.Once.{fresh, first_bad}
-use Rattle.grammar.specs.Index.{product}
-use Rattle.grammar.specs.Table.{DimProperties}
-use Rattle.grammar.specs.Records.{sum, nodes as categoryNodes, leaf_indexes, dim_nodes, dim_leaves, node_record, dim_record, words_all, tree_words, dim_words, dims_words, dim_entry, dims_entries}
-use Rattle.grammar.specs.Rules.{category_rule, leaves_all, tree_leaves, leaves_of, dimension_rule, dimensions_rule, entry_rule, axes_rule, cell_rule, cells_rule}
-use Rattle.grammar.specs.Member.{Member, dimensions, nodes, cells, node_records, dimension_entries, MemberDerivation, AsDemanded}
-use Rattle.grammar.specs.Refused.{body_rule, member_rule, RefusedWith, few_node_words}
-use Rattle.grammar.specs.Laws.Member.Checked.{ended, checked}
+use Rattle.grammar.specs.Layout.{Tree, Bytes, no_bytes, byte}
+use Rattle.grammar.specs.Laws.Layout.Read.{Got, got, no}
+use Rattle.grammar.specs.Member.{Member, dimensions, nodes, cells}
+use Rattle.grammar.specs.Refused.{RefusedWith, few_node_words}
+use Rattle.grammar.specs.Laws.Member.Checked.{checked}
 use Rattle.grammar.proofs.Laws.Member.Demanded.{accepted}
 use Rattle.grammar.specs.Laws.Member.AcceptedExample.{member, accepted_with, to_line, computed, line, HasTable}
 

@@ -1,6 +1,6 @@
 -- Demand 3 by the rule of the member: a tree passes the rule exactly when it is as demanded and keeps the sizes, and so reading by the rule
 -- gives exactly the derivations that are as demanded.
-use Rattle.std.specs.Prelude.{◌≡◌, refl, ◌↔◌, Bool, true, false, ℕ, suc, ◌+◌, ◌≤◌, length, eqb, leb}
+use Rattle.std.specs.Prelude.{◌≡◌, refl, ◌↔◌, Bool, true, false, ℕ, suc, ◌≤◌, length, eqb, leb}
 use Rattle.std.proofs.Math.Path.{sym, ap}
 use Rattle.std.proofs.Common.{◌∙◌, arith}
 use mathlib.Core.List.{List, [], ◌∷◌, ◌++◌}
@@ -11,9 +11,9 @@ use Rattle.sizes.specs.Basics.{pick}
 use Rattle.grammar.specs.Layout.{Tree, spell, Bytes}
 use Rattle.grammar.specs.Fails.{Spells}
 use Rattle.grammar.specs.Rule.{Kept}
-use Rattle.grammar.specs.Laws.Layout.Read.{Got, got, no, lead, read}
+use Rattle.grammar.specs.Laws.Layout.Read.{got, lead}
 use Rattle.grammar.specs.Laws.Layout.Check.{check}
-use Rattle.grammar.specs.Laws.Layout.{complete, passes_exactly}
+use Rattle.grammar.specs.Laws.Layout.{passes_exactly}
 use Rattle.grammar.specs.Laws.Table.KeptTable.{axes_kept, cells_kept}
 use Rattle.grammar.proofs.Laws.Table.KeptTable.{dimensions_kept}
 use Rattle.grammar.specs.Member.{Member, final, version, dimensions, nodes, places, MemberDerivation, AsDemanded, dimensions_section, axes_section, cells_section}

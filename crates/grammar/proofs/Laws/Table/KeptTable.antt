@@ -1,25 +1,19 @@
 -- What the rules of dimensions, axes and cells ask of a tree, in the words of demand 3: the number of nodes, leaf indexes, axis entries and
 -- cell indexes that stand once each, the sum of the axis counts, the product. No reader is in it.
-use Rattle.std.specs.Prelude.{◌≡◌, ◌↔◌, Bool, true, false, length}
-use Rattle.std.proofs.Math.Path.{refl, ap}
-use Rattle.std.proofs.Common.{sym, ◌∙◌}
-use Rattle.std.proofs.Math.Option.{none, some}
-use mathlib.Core.List.{List, [], ◌∷◌, ◌++◌, map}
+use Rattle.std.specs.Prelude.{◌≡◌, ◌↔◌, length}
+use Rattle.std.proofs.Math.Option.{none}
+use mathlib.Core.List.{List, [], ◌∷◌}
 use Prim.Native.Nat.{ℕ, zero, suc, ◌+◌, ◌≤◌}
 use native.Mathlib.Omega.{arith}
-use Rattle.std.proofs.lemmas.List.{length-map}
-use borrow.Author.Tests.{ltb-true, lt-ltb, leb-true, le-leb, eqb-true, eq-eqb}
-use Rattle.sizes.specs.Sizes.{most_nodes, category_depth, most_places}
-use Rattle.sizes.specs.Basics.{pick}
-use Rattle.grammar.specs.Layout.{◌▸◌, Tree, All, all_none, all_more, spell_all, size}
-use Rattle.grammar.specs.Conventions.{int32}
-use Rattle.grammar.specs.Rule.{onto, KeptAll, Kept}
-use Rattle.grammar.specs.Once.{OnceEach, AllFresh, Leaf, indexes, fresh, first_bad}
-use Rattle.grammar.specs.Laws.Once.{all_fresh, none_bad}
-use Rattle.grammar.specs.Value.{Value}
-use Rattle.grammar.specs.Table.{CategoryIn, DimProperties, Dimension, Dimensions, Axes, Cell, Cells, Category}
-use Rattle.grammar.specs.Records.{Head, sum, nodes, leaf_indexes, dim_nodes, dim_leaves, LeavesOnce, entry_index, cell_index, leaf_index_of, dim_own, dim_categories, dims_of, axis_layers, axis_rows, axis_columns, axis_entries, cells_of}
-use Rattle.grammar.specs.Rules.{category_rule, leaves_all, tree_leaves, leaves_of, dimension_rule, dimensions_rule, places_of, entry_rule, axes_rule, cell_rule, cells_rule}
+use borrow.Author.Tests.{ltb-true, lt-ltb}
+use Rattle.sizes.specs.Sizes.{most_nodes, category_depth}
+use Rattle.grammar.specs.Layout.{Tree, All, all_none, all_more}
+use Rattle.grammar.specs.Rule.{KeptAll, Kept}
+use Rattle.grammar.specs.Once.{first_bad}
+use Rattle.grammar.specs.Laws.Once.{none_bad}
+use Rattle.grammar.specs.Table.{CategoryIn, Dimension, Dimensions, Category}
+use Rattle.grammar.specs.Records.{sum, nodes, dim_nodes, LeavesOnce, dim_categories, dims_of}
+use Rattle.grammar.specs.Rules.{category_rule, leaves_of, dimension_rule, dimensions_rule}
 use Rattle.grammar.specs.Laws.Table.KeptTable.{indexes_are, leaf_count}
 
 -- trees that follow each other, each of which passes exactly when Q holds of it and the nodes up to its end are at most `most_nodes`

@@ -1,8 +1,7 @@
 -- The leaves that the node words give are those of the derivations, with the same indexes at the same places.
-use Rattle.std.specs.Prelude.{◌≡◌, Bool, true, false, drop, get_or, eqb}
+use Rattle.std.specs.Prelude.{◌≡◌, drop, get_or, eqb}
 use Rattle.std.proofs.Math.Path.{refl}
 use Rattle.std.proofs.Common.{sym, ap, ◌∙◌, get_or-drop, drop-drop}
-use Rattle.std.proofs.Math.Option.{Option, none, some}
 use mathlib.Core.List.{List, [], ◌∷◌, ◌++◌, append_assoc, append-nil}
 use Prim.Native.Nat.{ℕ, zero, suc, ◌+◌, ◌-◌, ◌*◌, ◌≤◌, min}
 use native.Mathlib.Omega.{arith}
@@ -12,7 +11,7 @@ use Rattle.sizes.specs.Sizes.{most_nodes, category_depth, node_words, name_place
 use Rattle.sizes.specs.Basics.{pick}
 use Rattle.grammar.specs.Layout.{Tree, size}
 use Rattle.grammar.specs.RecordWords.{word, leaf, is_leaf, leaves}
-use Rattle.grammar.specs.Once.{Leaf, fresh, first_bad}
+use Rattle.grammar.specs.Once.{Leaf}
 use Rattle.grammar.specs.Value.{Value}
 use Rattle.grammar.specs.Table.{CategoryIn, Category}
 use Rattle.grammar.specs.Records.{Head, sum, nodes, words_all, tree_words}

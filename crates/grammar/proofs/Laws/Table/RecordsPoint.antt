@@ -1,19 +1,17 @@
 -- What the records of derivations point to: the place and the length in each are those of a Value, which the bytes there spell.
-use Rattle.std.specs.Prelude.{◌≡◌, get_or}
+use Rattle.std.specs.Prelude.{◌≡◌}
 use Rattle.std.proofs.Math.Path.{refl}
-use Rattle.std.proofs.Common.{sym, ap, ◌∙◌, mul-zero, mul-suc, arith, length-append, get_or-append-add}
-use Rattle.std.proofs.Math.Option.{some}
-use mathlib.Core.List.{List, [], ◌∷◌, ◌++◌, append-nil, append_assoc, map, flat_map}
-use Prim.Native.Nat.{ℕ, zero, suc, ◌+◌, ◌*◌, ◌<◌}
-use Rattle.std.proofs.Math.ListN.{length, drop, get_elem?, get_or-append}
-use Rattle.sizes.specs.Sizes.{category_depth, node_words, cell_words, dimension_words, no_parent, name_place, name_length}
-use Rattle.grammar.specs.Layout.{Order, little, one_of, Layout, empty, number, ◌▸◌, Tree, digits, spell_all, spell, size}
-use Rattle.grammar.specs.Laws.Layout.{digits_length}
+use Rattle.std.proofs.Common.{ap, ◌∙◌}
+use mathlib.Core.List.{List, [], ◌∷◌, ◌++◌, append_assoc, flat_map}
+use Prim.Native.Nat.{ℕ, zero, suc, ◌+◌}
+use Rattle.std.proofs.Math.ListN.{length, drop}
+use Rattle.sizes.specs.Sizes.{category_depth, node_words, no_parent, name_place, name_length}
+use Rattle.grammar.specs.Layout.{little, one_of, empty, number, ◌▸◌, Tree, digits, spell_all, spell, size}
 use Rattle.grammar.specs.Laws.Layout.Spelt.{after}
-use Rattle.grammar.specs.Value.{Value, CellValue}
-use Rattle.grammar.specs.Table.{kinds, KindOf, CategoryIn, DimProperties, Dimension, Cell, Category}
-use Rattle.grammar.specs.Records.{Head, front, children, sum, nodes, words_all, node_words_of, tree_words, dim_nodes, dim_words, dim_entry, dims_words, dims_entries, cell_words_of, rows_words, dim_own, dim_name, dim_categories, cell_value, tree_names, category_names}
-use Rattle.grammar.specs.Laws.Table.Lengths.{spell_category, spell_dimension}
+use Rattle.grammar.specs.Value.{Value}
+use Rattle.grammar.specs.Table.{kinds, KindOf, CategoryIn, DimProperties, Dimension, Category}
+use Rattle.grammar.specs.Records.{Head, front, children, nodes, node_words_of, tree_words, dim_nodes, dim_words, dims_words, dim_own, dim_categories, tree_names, category_names}
+use Rattle.grammar.specs.Laws.Table.Lengths.{spell_category}
 use Rattle.grammar.specs.Laws.Table.RecordsPoint.{after_digits, first_of, rest_of, Points, Pointing, no_records, one_record, joined, first_points, all_point, own_part}
 
 module _ (version : ℕ) where

@@ -1,16 +1,15 @@
 -- Which numbers a refusal of a layout or of a rule can have, and where its place can be.
-use Rattle.std.specs.Prelude.{◌≡◌, Bool, true, false, ◌||◌, ◌&&◌, List, [], ◌∷◌, ℕ, ◌+◌, ◌≤◌, length, eqb}
+use Rattle.std.specs.Prelude.{◌≡◌, Bool, true, false, ◌||◌, ◌&&◌, List, [], ◌∷◌, ℕ, ◌≤◌, length, eqb}
 use Rattle.std.proofs.Math.Path.{refl}
 use Rattle.std.proofs.Math.Option.{some}
-use Rattle.std.proofs.Common.{arith, length-append, eqb-true}
+use Rattle.std.proofs.Common.{eqb-true}
 use Rattle.sizes.specs.Basics.{among, pick}
-use Rattle.grammar.specs.Layout.{Test, any_number, the_number, a_version, a_bool, at_most, one_of, one_of_but, a_color, Content, any_bytes, no_zero, Layout, empty, number, string, ◌▸◌, times, leading, region, nothing, Tree, spell, passes, suits, Valid}
+use Rattle.grammar.specs.Layout.{Test, any_number, the_number, a_version, a_bool, at_most, one_of, one_of_but, a_color, Content, any_bytes, no_zero, Layout, Tree, spell, passes, suits, Valid}
 use Rattle.grammar.specs.Numbers.{refusal, too_short, zero_byte, differs, ends_early, limit_passed}
 use Rattle.grammar.specs.Fails.{Fails, number_short, number_wrong, number_then, string_short, string_wrong, first, second, item, after_run, run_alone, region_short, content, bytes_left, too_deep}
 use Rattle.grammar.specs.Rule.{Rule, plain, ◌▸▸◌, numbered, items, asked, tested, onto, Breaks}
 use Rattle.grammar.specs.Rule as rule
-use Rattle.grammar.specs.Laws.Layout.Uses.{Uses, of_empty, of_number, of_string, of_two, of_times, of_leading, of_region, of_nothing}
-use Rattle.grammar.specs.Laws.Layout.Digits.{length_digits}
+use Rattle.grammar.specs.Laws.Layout.Uses.{Uses, of_empty, of_number, of_string, of_two, of_times, of_leading, of_region}
 
 -- ---- numbers
 

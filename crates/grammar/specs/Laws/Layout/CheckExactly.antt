@@ -4,21 +4,17 @@ use Rattle.std.proofs.Math.Path.{refl, ap}
 use Rattle.std.proofs.Common.{sym, ◌∙◌, subst}
 use Rattle.std.proofs.Math.Option.{Option, none, some}
 use mathlib.Core.List.{List, [], ◌∷◌, ◌++◌, append_assoc}
-use Prim.Native.Nat.{ℕ, zero, suc, ◌+◌, ◌<◌}
+use Prim.Native.Nat.{ℕ, zero, suc, ◌+◌}
 use native.Mathlib.Omega.{arith}
 use Rattle.std.proofs.Math.ListN.{length, length-append}
-use Rattle.sizes.specs.Basics.{pick}
-use Rattle.grammar.specs.Layout.{Order, Test, passes, Layout, empty, number, times, Tree, digits, spell_all, spell, Bytes, All, all_none, all_more, Valid}
-use Rattle.grammar.specs.Fails.{Spells, SpellsAll, Fails, number_short, number_wrong, number_then}
-use Rattle.grammar.specs.Rule.{Rule, plain, ◌▸▸◌, numbered, items, asked, tested, onto, KeptAll, Kept, Breaks, fails, first, second, in_number, after_number, item, not_so, is_so, before_test, wrong}
-use Rattle.grammar.specs.Laws.Layout.Read.{Got, got, no, bind, read_number, read, refusal}
+use Rattle.grammar.specs.Layout.{passes, Layout, Tree, digits, spell_all, spell, Bytes, All, all_none, all_more, Valid}
+use Rattle.grammar.specs.Fails.{Spells}
+use Rattle.grammar.specs.Rule.{Rule, plain, ◌▸▸◌, numbered, items, asked, tested, KeptAll, Kept}
+use Rattle.grammar.specs.Laws.Layout.Read.{Got, got}
 use Rattle.grammar.specs.Laws.Layout.Check.{check_times, judge, check}
 use Rattle.grammar.specs.Laws.Layout.IfGot.{IfGot, is_got, is_no, bind_got, pick_got, of_got}
-use Rattle.grammar.specs.Laws.Layout.IfNo.{IfNo, if_got, if_no, bind_no, bind_only, last_no, pick_no, of_no, so_no}
-use Rattle.grammar.specs.Laws.Layout.Digits.{length_digits}
 use Rattle.grammar.specs.Laws.Layout.Complete.{Complete, number_complete, complete}
 use Rattle.grammar.specs.Laws.Layout.Sound.{Spelt, Sound, cut, number_sound, after, sound_at}
-use Rattle.grammar.specs.Laws.Layout.FailsExactly.{number_no, begun, number_few, begins_read, refused, IsGot}
 
 -- ---- what is read is a valid tree that passes, and the tree spells what was read
 

@@ -1,22 +1,19 @@
 -- A reading is refused exactly where the bytes fail, with that number and that place.
-use Rattle.std.specs.Prelude.{◌≡◌, refl, ◌↔◌, ◌⊎◌, false, ℕ, zero, suc, ◌+◌, ◌^◌, ◌≤◌, ◌<◌, length, drop, replicate, leb, ltb}
-use Rattle.std.proofs.Common.{sym, ap, ◌∙◌, subst, inl, inr, arith, length-append, drop_at, leb-false, ltb-false, le-ltb, ne_eqb, eq-eqb}
-use Rattle.std.proofs.Math.Option.{none}
+use Rattle.std.specs.Prelude.{◌≡◌, refl, false, ℕ, zero, suc, ◌+◌, ◌^◌, ◌≤◌, ◌<◌, length, drop, replicate, leb, ltb}
+use Rattle.std.proofs.Common.{ap, ◌∙◌, subst, arith, length-append, drop_at, leb-false, le-ltb, ne_eqb, eq-eqb}
 use mathlib.Core.List.{List, [], ◌∷◌, ◌++◌, append_assoc}
 use Rattle.std.proofs.lemmas.List.{length-replicate}
 use Rattle.std.proofs.lemmas.Bool.{lt-leb}
 use Rattle.sizes.specs.Basics.{pick}
-use Rattle.grammar.specs.Layout.{Order, Fill, exact, optional, open_ended, Layout, empty, number, string, ◌▸◌, times, leading, region, nothing, Tree, digits, spell_all, spell, passes, Bytes, All, all_none, all_more, Valid, suits}
+use Rattle.grammar.specs.Layout.{Order, Fill, exact, optional, open_ended, Layout, Tree, digits, spell_all, spell, All, all_none, all_more, Valid}
 use Rattle.grammar.specs.Numbers.{too_short, differs, ends_early}
 use Rattle.grammar.specs.Fails.{Spells, Begins, Runs, Holds, Unfit, no_count, no_room, Looked, Closed, Fails, number_short, number_wrong, number_then, string_short, string_wrong, first, second, item, after_run, run_alone, region_short, content, bytes_left, too_deep}
-use Rattle.grammar.specs.Laws.Layout.Read.{Got, got, no, bind, read_number, read_counted, read_times, lead, read_leading, ends, read_fill, read}
-use Rattle.grammar.specs.Laws.Layout.IfGot.{IfGot, is_got, is_no}
-use Rattle.grammar.specs.Laws.Layout.IfNo.{IfNo, if_got, if_no, Only, only, bind_no, bind_only, last_no, pick_no, of_no}
+use Rattle.grammar.specs.Laws.Layout.Read.{Got, got, no, bind, read_number, read_counted, read_times, lead, read_leading, read_fill, read}
+use Rattle.grammar.specs.Laws.Layout.IfNo.{IfNo, if_got, if_no, Only, only, pick_no}
 use Rattle.grammar.specs.Laws.Layout.Lead.{Run, run_lead}
 use Rattle.grammar.specs.Laws.Layout.Digits.{length_digits}
-use Rattle.grammar.specs.Laws.Layout.Places.{Within, w_no, within, shift, read_shifts}
 use Rattle.grammar.specs.Laws.Layout.Complete.{number_complete, counted_complete, optional_more, complete}
-use Rattle.grammar.specs.Laws.Layout.Sound.{Spelt, Counted, cut, number_sound, counted_sound, sound_at}
+use Rattle.grammar.specs.Laws.Layout.Sound.{Spelt}
 
 -- ---- a refusal says what the bytes are
 

@@ -1,14 +1,7 @@
 -- Passed on: where a layout asks of each of its strings that no byte is 0, no string of a derivation has a byte 0.
-use Rattle.std.specs.Prelude.{◌≡◌, refl, Bool, true, false, not, ◌||◌, ℕ, eqb}
-use Rattle.std.proofs.Common.{sym}
-use Rattle.std.proofs.lemmas.Bool.{false≢true, eqb-false}
-use Rattle.std.proofs.Math.Option.{none, some}
-use mathlib.Core.List.{List, [], ◌∷◌, ◌++◌, flat_map}
-use Rattle.sizes.specs.Basics.{among}
-use Rattle.grammar.specs.Layout.{Test, Content, any_bytes, no_zero, suits, Fill, exact, optional, open_ended, Filled, Layout, Tree, spell, All, all_none, all_more, ValidFill, Valid}
-use Rattle.grammar.specs.Strings.{strings_in, strings, NoZero}
-use Rattle.grammar.specs.Laws.Layout.Uses.{Uses, of_empty, of_number, of_string, of_two, of_times, of_leading, of_region, of_nothing}
-use Rattle.grammar.specs.Laws.Layout.Tests.{or_is_false}
+use Rattle.std.specs.Prelude.{Bool, true, false}
+use mathlib.Core.List.{List, ◌++◌, flat_map}
+use Rattle.grammar.specs.Layout.{Content, any_bytes, no_zero, All, all_none, all_more}
 
 -- the content that asks for it
 abbrev pub strict : Content → Bool

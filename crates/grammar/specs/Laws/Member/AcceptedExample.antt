@@ -1,11 +1,9 @@
 -- A member that is accepted, by computation in the logic: 940 bytes, with a group, four leaves and two cells. So demand 3 holds of something:
 -- these bytes have a derivation that is as demanded.
-use Rattle.std.specs.Prelude.{◌≡◌, refl, Bool, true, ◌&&◌, List, [], ◌∷◌, ◌++◌, ℕ, length, take, drop, set, ltb}
-use Rattle.std.proofs.Math.Bool.{and-eq-true_iff}
-use Rattle.std.proofs.Common.{arith, ltb-true, subst, sym}
+use Rattle.std.specs.Prelude.{◌≡◌, refl, List, [], ◌∷◌, ◌++◌, ℕ, length, take, drop, set}
 use Rattle.sizes.specs.Sizes.{no_parent}
 use Rattle.sizes.specs.Basics.{le, among, pick}
-use Rattle.grammar.specs.Layout.{digits, spell_all, spell_fill, spell, Tree, passes, suits, Bytes, no_bytes, byte, size}
+use Rattle.grammar.specs.Layout.{digits, spell_all, spell_fill, spell, Tree, passes, suits, size}
 use Rattle.grammar.specs.Laws.Layout.Read.{Got, got, no, lead, read, refusal}
 use Rattle.grammar.specs.Laws.Layout.Check.{check}
 use Rattle.grammar.specs.Value.{FontStyle, CellStyle, StylePair, TemplatePrefix, TemplateString, Modifiers, ValueMod, ArgumentOf, TemplateOf, Form01, Form02, Form03, Form04, Form05, Form06, RawValueOf, ValueIn, Value, CellValue}
@@ -16,7 +14,7 @@ use Rattle.grammar.specs.Table.{DimProperties}
 use Rattle.grammar.specs.Records.{sum, nodes as categoryNodes, leaf_indexes, dim_nodes, dim_leaves, node_record, dim_record, words_all, tree_words, dim_words, dims_words, dim_entry, dims_entries}
 use Rattle.grammar.specs.Rules.{category_rule, leaves_all, tree_leaves, leaves_of, dimension_rule, dimensions_rule, entry_rule, axes_rule, cell_rule, cells_rule}
 use Rattle.grammar.specs.Member.{Member, dimensions, nodes, cells, node_records, dimension_entries, MemberDerivation, AsDemanded}
-use Rattle.grammar.specs.Refused.{body_rule, member_rule, RefusedWith, few_node_words}
+use Rattle.grammar.specs.Refused.{body_rule, member_rule}
 use Rattle.grammar.specs.Laws.Member.Checked.{ended, checked}
 
 -- ---- the bytes, by the sections of source document 003

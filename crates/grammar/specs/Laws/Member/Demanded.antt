@@ -1,23 +1,18 @@
 -- Demand 3 by the rule of the member: a tree passes the rule exactly when it is as demanded and keeps the sizes, and so reading by the rule
 -- gives exactly the derivations that are as demanded.
-use Rattle.std.specs.Prelude.{◌≡◌, refl, ◌↔◌, Bool, true, false, ℕ, suc, ◌+◌, ◌≤◌, length, eqb, leb}
-use Rattle.std.proofs.Math.Path.{sym, ap}
-use Rattle.std.proofs.Common.{◌∙◌, arith}
-use mathlib.Core.List.{List, [], ◌∷◌, ◌++◌}
+use Rattle.std.specs.Prelude.{◌≡◌, refl, Bool, true, false, ℕ, ◌+◌, ◌≤◌, length, leb}
+use Rattle.std.proofs.Math.Path.{ap}
+use Rattle.std.proofs.Common.{arith}
+use mathlib.Core.List.{List}
 use Rattle.std.proofs.Math.Nat.{zero-add}
-use borrow.Author.Tests.{eqb-true, leb-true, le-leb}
-use Rattle.sizes.specs.Sizes.{member_bytes, most_nodes, most_places}
+use borrow.Author.Tests.{leb-true}
 use Rattle.sizes.specs.Basics.{pick}
-use Rattle.grammar.specs.Layout.{Tree, spell, Bytes}
+use Rattle.grammar.specs.Layout.{Tree, spell}
 use Rattle.grammar.specs.Fails.{Spells}
-use Rattle.grammar.specs.Rule.{Kept}
 use Rattle.grammar.specs.Laws.Layout.Read.{Got, got, no, lead, read}
-use Rattle.grammar.specs.Laws.Layout.Check.{check}
-use Rattle.grammar.specs.Laws.Layout.{complete, passes_exactly}
-use Rattle.grammar.specs.Laws.Table.KeptTable.{axes_kept, cells_kept}
-use Rattle.grammar.specs.Member.{Member, final, version, dimensions, nodes, places, MemberDerivation, AsDemanded, dimensions_section, axes_section, cells_section}
-use Rattle.grammar.specs.Refused.{body_rule, member_rule}
-use Rattle.grammar.specs.Laws.Member.Checked.{ended, checked}
+use Rattle.grammar.specs.Laws.Layout.{complete}
+use Rattle.grammar.specs.Member.{Member, final, MemberDerivation, AsDemanded}
+use Rattle.grammar.specs.Laws.Member.Checked.{ended}
 
 -- ---- the rule, in the words of demand 3
 

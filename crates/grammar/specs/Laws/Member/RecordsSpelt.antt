@@ -4,7 +4,7 @@ use Rattle.std.specs.Prelude.{◌≡◌, refl, Bool, true, false, List, [], ◌�
 use Rattle.std.proofs.Common.{sym, ap, ◌∙◌, append_assoc, add-zero, arith, length-append, length-drop, take_at, drop_at, le-leb}
 use Rattle.std.proofs.Math.Option.{some}
 use Rattle.std.proofs.Math.ListN.{length, get_elem?}
-use Rattle.sizes.specs.Sizes.{node_words, cell_words, dimension_words, name_place, name_length}
+use Rattle.sizes.specs.Sizes.{node_words, cell_words, dimension_words}
 use Rattle.sizes.specs.Basics.{pick}
 use Rattle.grammar.specs.Layout.{little, Layout, ◌▸◌, Tree, digits, spell_all, spell, size}
 use Rattle.grammar.specs.Laws.Layout.{digits_length}

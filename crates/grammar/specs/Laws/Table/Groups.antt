@@ -1,19 +1,11 @@
 -- Document 02, T-07: "A node's descendants are then exactly the records directly after it, that many less one."
-use Rattle.std.specs.Prelude.{◌≡◌, refl, ◌↔◌, ◌⊎◌, Bool, true, false, length, get_or, ltb}
-use Rattle.std.proofs.Common.{sym, ap, ◌∙◌, inl, inr, ⊎_elim, eq-or-lt_of_le, get_or-drop, ltb-true, ltb-false}
-use mathlib.Core.List.{List, [], ◌∷◌, ◌++◌, append_assoc}
-use Prim.Native.Nat.{ℕ, zero, suc, ◌+◌, ◌*◌, ◌≤◌, ◌<◌}
+use Rattle.std.specs.Prelude.{◌≡◌, refl, ◌↔◌, ◌⊎◌, Bool, true, false, ltb}
+use Rattle.std.proofs.Common.{inl, inr, ⊎_elim, eq-or-lt_of_le, ltb-true, ltb-false}
+use mathlib.Core.List.{List}
+use Prim.Native.Nat.{ℕ, ◌+◌, ◌≤◌, ◌<◌}
 use native.Mathlib.Omega.{arith}
-use Rattle.std.proofs.Math.ListN.{drop}
-use Rattle.sizes.specs.Sizes.{category_depth, node_words, node_parent, node_size, no_parent}
-use Rattle.grammar.specs.Layout.{◌▸◌, Tree, size}
-use Rattle.grammar.specs.Laws.Layout.Spelt.{after}
-use Rattle.grammar.specs.Value.{Value}
-use Rattle.grammar.specs.Table.{CategoryIn, DimProperties, Dimension, Category}
-use Rattle.grammar.specs.Records.{Head, front, children, sum, nodes, words_all, node_words_of, tree_words, dim_nodes, dim_words, dims_words, dim_own, dim_categories}
+use Rattle.sizes.specs.Sizes.{no_parent}
 use Rattle.grammar.specs.Below.{parent_of, size_of, Below, child, deeper}
-use Rattle.grammar.specs.Laws.Table.Words.{width_tree}
-use Rattle.grammar.specs.Laws.Table.Words.{width_dim}
 
 -- the records from number a up to e are groups, one after the other, all with the parent par: a node, what is below it, and then the next
 pub data Groups (ws : List ℕ) : ℕ → ℕ → ℕ → Type 0 where

@@ -8,18 +8,18 @@ use mathlib.Core.List.{List, [], ◌∷◌, ◌++◌, map}
 use Prim.Native.Nat.{ℕ, zero, suc, ◌+◌, ◌≤◌}
 use native.Mathlib.Omega.{arith}
 use Rattle.std.proofs.lemmas.List.{length-map}
-use borrow.Author.Tests.{ltb-true, lt-ltb, leb-true, le-leb, eqb-true, eq-eqb}
-use Rattle.sizes.specs.Sizes.{most_nodes, category_depth, most_places}
+use borrow.Author.Tests.{leb-true, le-leb, eqb-true, eq-eqb}
+use Rattle.sizes.specs.Sizes.{category_depth, most_places}
 use Rattle.sizes.specs.Basics.{pick}
-use Rattle.grammar.specs.Layout.{◌▸◌, Tree, All, all_none, all_more, spell_all, size}
+use Rattle.grammar.specs.Layout.{◌▸◌, Tree, spell_all, size}
 use Rattle.grammar.specs.Conventions.{int32}
 use Rattle.grammar.specs.Rule.{onto, KeptAll, Kept}
-use Rattle.grammar.specs.Once.{OnceEach, AllFresh, Leaf, indexes, fresh, first_bad}
-use Rattle.grammar.specs.Laws.Once.{all_fresh, none_bad}
+use Rattle.grammar.specs.Once.{OnceEach, AllFresh, Leaf, indexes, fresh}
+use Rattle.grammar.specs.Laws.Once.{all_fresh}
 use Rattle.grammar.specs.Value.{Value}
-use Rattle.grammar.specs.Table.{CategoryIn, DimProperties, Dimension, Dimensions, Axes, Cell, Cells, Category}
-use Rattle.grammar.specs.Records.{Head, sum, nodes, leaf_indexes, dim_nodes, dim_leaves, LeavesOnce, entry_index, cell_index, leaf_index_of, dim_own, dim_categories, dims_of, axis_layers, axis_rows, axis_columns, axis_entries, cells_of}
-use Rattle.grammar.specs.Rules.{category_rule, leaves_all, tree_leaves, leaves_of, dimension_rule, dimensions_rule, places_of, entry_rule, axes_rule, cell_rule, cells_rule}
+use Rattle.grammar.specs.Table.{CategoryIn, DimProperties, Dimension, Axes, Cell, Cells, Category}
+use Rattle.grammar.specs.Records.{Head, leaf_indexes, dim_leaves, entry_index, cell_index, leaf_index_of, dim_own, dim_categories, axis_layers, axis_rows, axis_columns, axis_entries, cells_of}
+use Rattle.grammar.specs.Rules.{leaves_all, tree_leaves, leaves_of, places_of, entry_rule, axes_rule, cell_rule, cells_rule}
 
 -- ---- the number of nodes
 

@@ -1,23 +1,15 @@
 -- The leaves that the node words give are those of the derivations, with the same indexes at the same places.
-use Rattle.std.specs.Prelude.{◌≡◌, Bool, true, false, drop, get_or, eqb}
+use Rattle.std.specs.Prelude.{◌≡◌, Bool, true, false}
 use Rattle.std.proofs.Math.Path.{refl}
-use Rattle.std.proofs.Common.{sym, ap, ◌∙◌, get_or-drop, drop-drop}
+use Rattle.std.proofs.Common.{sym, ap}
 use Rattle.std.proofs.Math.Option.{Option, none, some}
-use mathlib.Core.List.{List, [], ◌∷◌, ◌++◌, append_assoc, append-nil}
-use Prim.Native.Nat.{ℕ, zero, suc, ◌+◌, ◌-◌, ◌*◌, ◌≤◌, min}
+use mathlib.Core.List.{List, [], ◌∷◌}
+use Prim.Native.Nat.{ℕ, zero, suc, ◌+◌, ◌≤◌}
 use native.Mathlib.Omega.{arith}
 use Rattle.std.proofs.Math.ListN.{length}
-use Rattle.std.proofs.lemmas.List.Edits.{sets}
-use Rattle.sizes.specs.Sizes.{most_nodes, category_depth, node_words, name_place, name_length, leaf_index, name_to_index}
 use Rattle.sizes.specs.Basics.{pick}
-use Rattle.grammar.specs.Layout.{Tree, size}
-use Rattle.grammar.specs.RecordWords.{word, leaf, is_leaf, leaves}
+use Rattle.grammar.specs.RecordWords.{leaf, is_leaf, leaves}
 use Rattle.grammar.specs.Once.{Leaf, fresh, first_bad}
-use Rattle.grammar.specs.Value.{Value}
-use Rattle.grammar.specs.Table.{CategoryIn, Category}
-use Rattle.grammar.specs.Records.{Head, sum, nodes, words_all, tree_words}
-use Rattle.grammar.specs.Rules.{leaves_all, tree_leaves}
-use Rattle.grammar.specs.Laws.Table.Words.{drop_sets, width_all, width_tree}
 
 -- ---- 1. the leaves of the words of k nodes
 

@@ -6,14 +6,14 @@ use Rattle.std.proofs.Math.Option.{some}
 use mathlib.Core.List.{List, [], ◌∷◌, ◌++◌, append-nil, append_assoc, map, flat_map}
 use Prim.Native.Nat.{ℕ, zero, suc, ◌+◌, ◌*◌, ◌<◌}
 use Rattle.std.proofs.Math.ListN.{length, drop, get_elem?, get_or-append}
-use Rattle.sizes.specs.Sizes.{category_depth, node_words, cell_words, dimension_words, no_parent, name_place, name_length}
-use Rattle.grammar.specs.Layout.{Order, little, one_of, Layout, empty, number, ◌▸◌, Tree, digits, spell_all, spell, size}
+use Rattle.sizes.specs.Sizes.{category_depth, node_words, cell_words, dimension_words, name_place, name_length}
+use Rattle.grammar.specs.Layout.{Order, little, Layout, ◌▸◌, Tree, digits, spell_all, spell, size}
 use Rattle.grammar.specs.Laws.Layout.{digits_length}
 use Rattle.grammar.specs.Laws.Layout.Spelt.{after}
 use Rattle.grammar.specs.Value.{Value, CellValue}
-use Rattle.grammar.specs.Table.{kinds, KindOf, CategoryIn, DimProperties, Dimension, Cell, Category}
-use Rattle.grammar.specs.Records.{Head, front, children, sum, nodes, words_all, node_words_of, tree_words, dim_nodes, dim_words, dim_entry, dims_words, dims_entries, cell_words_of, rows_words, dim_own, dim_name, dim_categories, cell_value, tree_names, category_names}
-use Rattle.grammar.specs.Laws.Table.Lengths.{spell_category, spell_dimension}
+use Rattle.grammar.specs.Table.{CategoryIn, DimProperties, Dimension, Cell, Category}
+use Rattle.grammar.specs.Records.{children, sum, nodes, words_all, dim_nodes, dim_entry, dims_entries, cell_words_of, rows_words, dim_own, dim_name, dim_categories, cell_value, tree_names, category_names}
+use Rattle.grammar.specs.Laws.Table.Lengths.{spell_dimension}
 
 -- a word of the first record, and of those after it
 first_word : (ws rest : List ℕ) (j : ℕ) → j < length ws → (i : ℕ) → i ≡ j → get_or ws j 0 ≡ get_or (ws ++ rest) i 0

@@ -1,23 +1,17 @@
 -- Which numbers the rules of dimensions, axes and cells give, and that what they find wrong lies inside.
 use Rattle.std.specs.Prelude.{◌≡◌, refl, Bool, true, false}
 use Rattle.std.proofs.Math.Option.{none, some}
-use mathlib.Core.List.{List, [], ◌∷◌, ◌++◌}
-use Prim.Native.Nat.{ℕ, zero, suc, ◌+◌, ◌≤◌}
-use Rattle.std.proofs.Common.{arith, length-append}
-use Rattle.sizes.specs.Sizes.{category_depth, name_to_index}
+use mathlib.Core.List.{List, [], ◌∷◌}
+use Prim.Native.Nat.{ℕ, zero, suc, ◌≤◌}
+use Rattle.std.proofs.Common.{arith}
+use Rattle.sizes.specs.Sizes.{category_depth}
 use Rattle.sizes.specs.Basics.{among, pick}
-use Rattle.grammar.specs.Layout.{◌▸◌, Tree, spell, All, all_none, all_more, size}
+use Rattle.grammar.specs.Layout.{Tree}
 use Rattle.grammar.specs.Conventions.{int32}
 use Rattle.grammar.specs.Rule.{Rule}
-use Rattle.grammar.specs.Laws.Layout.{digits_length}
 use Rattle.grammar.specs.Laws.Layout.Bounds.{Numbered, PlacesInside}
-use Rattle.grammar.specs.Value.{Value}
-use Rattle.grammar.specs.Once.{fresh, first_bad}
-use Rattle.grammar.specs.Once as once
-use Rattle.grammar.specs.Table.{CategoryIn, DimProperties, Dimension, Category}
-use Rattle.grammar.specs.Records.{Head, sum, dim_own, dim_categories}
-use Rattle.grammar.specs.Rules.{kind_rule, category_rule, leaves_all, tree_leaves, leaves_of, dimension_rule, dimensions_rule, entry_rule, axes_rule, cell_rule, cells_rule}
-use Rattle.grammar.specs.Laws.Table.Lengths.{size_category, size_dimension}
+use Rattle.grammar.specs.Table.{CategoryIn, Dimension}
+use Rattle.grammar.specs.Rules.{kind_rule, category_rule, dimension_rule, dimensions_rule, entry_rule, axes_rule, cell_rule, cells_rule}
 
 -- ---- numbers
 
