@@ -1,3 +1,4 @@
 pub mod Stream
 pub mod Machine
 pub mod Cuts
+pub mod Laws

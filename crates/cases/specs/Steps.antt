@@ -4,7 +4,7 @@ use Rattle.std.proofs.lemmas.List.Edits.{sets}
 use Rattle.sizes.specs.Basics.{le, pick}
 use Rattle.case_stream.specs.Stream.{Element, limit}
 use Rattle.case_stream.specs.Machine.{fits, less, Step, halts, goes, moves, out, put, feed}
-use Rattle.case_stream.proofs.Laws.Steps.{μ}
+use Rattle.case_stream.specs.Laws.Steps.{μ}
 use Rattle.case_state.specs.declared.Cursor.{Cursor}
 use Rattle.cases.specs.declared.Moved.{Moved}
 use Rattle.case_state.specs.Cursor.{gather_at, act_at, rest_at, view, Good}

@@ -114,9 +114,11 @@ fn absent(rt: &impl Eprint, name: impl Display + Drop, why: io::Error) -> io::Re
     })
 }
 
-// What a file holds. One that cannot be opened is told of on standard error. The system's paths are text: no other name can be opened.
+// What a file holds. One that cannot be opened is told of on standard error. The system's paths are text: no other name can be opened. After an
+// error the buffer is as long as it was; of its bytes nothing is known, since those that were read may stand there.
 pub fn read_file<R: Files + Eprint>(rt: &R, name: &[u8], buf: &mut [u8]) -> io::Result<Input>
-    ensures { IfOk result (λ input. IsPrefixLen input.bytes buf.new) }
+    ensures count { IfOk result (λ input. IsPrefixLen input.bytes buf.new) }
+    ensures err { OnErr result (length buf.new ≡ length buf.old) }
 {
     let Ok(path) = str::from_utf8(name) else {
         let why = io::Error::from(io::ErrorKind::InvalidFilename);

@@ -8,11 +8,9 @@ use Rattle.std.proofs.Math.ListN.{length-append}
 use Rattle.sizes.specs.Basics.{pick}
 use Rattle.case_stream.specs.Stream.{Element, limit, ended, bad, full, Says, skip, finish, block, wrong, gives, says}
 use Rattle.case_stream.specs.Machine.{State, gather, acting, stopped, Room, has, less, Step, halts, goes, after, gathered, takes, next, blocked, acts, moves, step, Out, out, put, weight, iterate, feed}
+use Rattle.case_stream.specs.Laws.Steps.{μ}
 
 -- ---- 1. each step makes the weight smaller
-
-abbrev pub μ : State → List ℕ → ℕ
-μ t s = 10 * length s + weight t
 
 pub data Falls (m : ℕ) : Step → Type 0 where
   stays : Falls m halts

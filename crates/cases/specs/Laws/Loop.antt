@@ -13,7 +13,8 @@ use Rattle.sizes.specs.Basics.{le, pick}
 use Rattle.grammar.specs.Laws.Layout.Digits.{length_le}
 use Rattle.case_stream.specs.Stream.{Element}
 use Rattle.case_stream.specs.Machine.{State, fits, has, less, halts, moves, step, put, feed}
-use Rattle.case_stream.proofs.Laws.Steps.{μ, put_nil, put_put, feed_halts}
+use Rattle.case_stream.specs.Laws.Steps.{μ}
+use Rattle.case_stream.proofs.Laws.Steps.{put_nil, put_put, feed_halts}
 use Rattle.case_state.specs.declared.Cursor.{Cursor}
 use Rattle.cases.specs.declared.Moved.{Moved}
 use Rattle.case_state.specs.Cursor.{view, Good}

@@ -14,7 +14,8 @@ use Rattle.layout.specs.Steps.Slices.{drop_bytes, take_bytes}
 use Rattle.grammar.specs.Laws.Layout.Digits.{length_le, digits_undigits, undigits_lt}
 use Rattle.case_stream.specs.Stream.{limit, block_code, block, says}
 use Rattle.case_stream.specs.Machine.{gather, acting, fits, endless, has, halts, goes, after, next, moves, step, weight}
-use Rattle.case_stream.proofs.Laws.Steps.{μ, after_weight, put_nil, falls_goes, step_falls}
+use Rattle.case_stream.specs.Laws.Steps.{μ}
+use Rattle.case_stream.proofs.Laws.Steps.{after_weight, put_nil, falls_goes, step_falls}
 use Rattle.case_stream.proofs.Laws.Compose.{less_nil}
 use Rattle.case_stream.proofs.Laws.Whole.{room_goes, gather_whole, block_whole}
 use Rattle.case_state.specs.declared.Cursor.{Cursor}
