@@ -9,7 +9,7 @@
 -- And document 01: "A refusal is given exactly in its case."
 --
 -- The grammar is `Member`, and a derivation `MemberDerivation`, in grammar's Member.antt; which refusal is given where stands in its Refused.antt. A call of
--- `read_member` ensures `Demand3`, below; the statements after it are proved in Laws/Theorems.antt.
+-- `read_member` ensures `Demand3`, below; the statements after it are proved in proofs/Laws/Theorems.antt.
 use Rattle.std.specs.Prelude.{◌≡◌, ◌↔◌, ◌⊎◌, List, ◌++◌, ℕ, ◌*◌, ◌-◌, ◌≤◌, length, drop, replicate}
 use Rattle.sizes.specs.Sizes.{member_bytes, most_dimensions, node_words, cell_words, dimension_area}
 use Rattle.grammar.specs.Layout.{Tree, All}

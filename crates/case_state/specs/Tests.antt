@@ -1,4 +1,4 @@
--- The tests of a state that the code makes. `Laws.Valid` proves that they ask just what `Good` says.
+-- The tests of a state that the code makes. proofs/Laws/Valid.antt proves that they ask just what `Good` says.
 use Rattle.std.specs.Prelude.{Bool, true, false, List, ℕ, zero, suc, ◌+◌, ◌-◌, ◌*◌, ◌/◌, ◌%◌, ◌^◌, eqb, leb, ltb, get_or}
 use Rattle.sizes.specs.Basics.{pick}
 use Rattle.case_stream.specs.Stream.{limit, block_code, most_kinds, most_bias, string_kind}

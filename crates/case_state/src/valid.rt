@@ -1,5 +1,5 @@
 // Whether a state is one that a start and calls can leave: a state with a number out of range is 21. `specs/Cursor.antt` says what is asked
-// of one (`Good`), and `specs/Laws/Valid.antt` proves that these tests ask just that.
+// of one (`Good`), and `proofs/Laws/Valid.antt` proves that these tests ask just that.
 ghost use Rattle.std.specs.Prelude.{◌≡◌, ◌-◌, ◌^◌, ◌≤◌, ◌<◌, min, ltb};
 ghost use Rattle.case_state.specs.Tests as spec;
 

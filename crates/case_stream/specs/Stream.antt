@@ -42,7 +42,7 @@ most_kinds = 256
 abbrev pub most_bias : ℕ
 most_bias = 255
 
--- "Code and bias become f64 without loss and are subtracted" (01, List of forms); `Laws.Exact` proves that nothing is lost
+-- "Code and bias become f64 without loss and are subtracted" (01, List of forms); proofs/Laws/Exact.antt proves that nothing is lost
 abbrev pub difference : ℕ → ℕ → Float
 difference code bias = sub binary64 (of_int binary64 (pos code)) (of_int binary64 (pos bias))
 

@@ -4,7 +4,7 @@ use Rattle.sizes.specs.Basics.{pick}
 use Rattle.convert.specs.Pages.{first_page, page_count, no_code_point, no_byte, code_point, byte}
 use Rattle.convert.specs.Utf8.{encode, decode}
 
--- ---- the text v in page k is the UTF-8 text u: each byte's code point, encoded. Both directions are held to it (Laws/SameText.antt)
+-- ---- the text v in page k is the UTF-8 text u: each byte's code point, encoded. Both directions are held to it (proofs/Laws/SameText.antt)
 
 pub data SameText (k : ℕ) : List ℕ → List ℕ → Type 0 where
   empty : SameText k [] []

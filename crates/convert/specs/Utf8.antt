@@ -36,7 +36,7 @@ encode c =
     (pick (ltb c four_bytes) ((224 + c / 4096) ∷ (128 + c / 64 % 64) ∷ (128 + c % 64) ∷ [])
     ((240 + c / 262144) ∷ (128 + c / 4096 % 64) ∷ (128 + c / 64 % 64) ∷ (128 + c % 64) ∷ [])))
 
--- ---- decoding: the same rows, read from right to left. `decode-exactly` in Laws/Utf8.antt says that this is `encode` backwards.
+-- ---- decoding: the same rows, read from right to left. `decode_encode` and `encode_decode` in proofs/Laws/Utf8.antt say that this is `encode` backwards.
 
 unfoldable pub continuation : ℕ → Bool
 continuation x = pick (ltb x 128) false (ltb x 192)

@@ -1,6 +1,6 @@
 -- Which bytes have no derivation in front, by which refusal, and where (document 01, "Refusal numbers" and "Order"): what stands before
 -- the failing field are valid trees, and the failing field is what the bytes there are. It says nothing of how it is found out.
--- `Laws.Layout` says that a reading is refused exactly so.
+-- proofs/Laws/Layout.antt says that a reading is refused exactly so (`fails_exactly`).
 use Rattle.std.specs.Prelude.{◌≡◌, true, false, List, ◌∷◌, ◌++◌, ℕ, ◌+◌, ◌^◌, ◌≤◌, ◌<◌, length, replicate}
 use Rattle.grammar.specs.Layout.{Order, Test, passes, Content, suits, Fill, exact, optional, open_ended, Layout, number, string, ◌▸◌, times, leading, region, nothing, Tree, digits, spell_all, spell, All, Valid}
 use Rattle.grammar.specs.Numbers.{refusal, too_short, zero_byte, differs, ends_early, limit_passed}

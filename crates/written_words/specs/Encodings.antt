@@ -7,7 +7,7 @@ use Rattle.store.specs.Puts.{AtFront}
 use Rattle.convert.specs.Convert.{Outcome, refused, written, after}
 
 -- three words, as of a look that is written (our rule): the refusal, 0 if there is none, its place, and the length; of a place and a length the lowest 32 bits, which is all of them for a text and an output
--- of less than 4 GiB (`Place-kept` and `length_kept` in Laws/Encodings.antt)
+-- of less than 4 GiB (`place_kept` and `length_kept` in Laws/Encodings.antt)
 unfoldable pub outcome_words : Outcome → List ℕ
 outcome_words (refused n p) = n ∷ word32 p ∷ 0 ∷ []
 outcome_words (written v) = 0 ∷ 0 ∷ word32 (length v) ∷ []
