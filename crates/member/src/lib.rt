@@ -11,7 +11,6 @@ ghost use Rattle.table.specs.Laws.Within.{needed};
 ghost use Rattle.table.specs.Laws.Dims.{node_record_sizes};
 ghost use Rattle.cells.specs.Laws.Cells.{AllCells, cells_out, cell_record_sizes};
 ghost use Rattle.answer.specs.Answer.{Delivered};
-ghost use Rattle.lists.specs.Lists.{smallest_lists, small_lists, medium_lists, large_lists, larger_lists, largest_lists};
 ghost use Rattle.member.specs.Laws.IntoLists.{into_lists, Stored, LongEnough};
 ghost use Rattle.answer.specs.Demand3.{Demand3};
 ghost use Rattle.grammar.specs.Laws.Member.Checked.{ended, checked};
@@ -25,9 +24,7 @@ use index::product_of;
 use layout::Step;
 use layout::number::left;
 use layout::slice::part as part_of;
-use lists::{
-    LARGE_LISTS, LARGER_LISTS, LARGEST_LISTS, MEDIUM_LISTS, SMALL_LISTS, SMALLEST_LISTS, has_room,
-};
+use lists::with_lists;
 use opening::{Head, ending, opening};
 use sizes::{
     CELL_AREA, CELL_WORDS, DIMENSION_AREA, MEMBER_BYTES, MOST_DIMENSIONS, MOST_PLACES, NODE_AREA,
@@ -109,18 +106,6 @@ fn after_dims(
     }
 }
 
-// The first n words of one list, over those of another.
-fn copy(from: &[u32], to: &mut [u32], n: usize)
-    requires { (n ≤ length from.now) × (n ≤ length to.old) }
-    ensures { to.new ≡ take n from.now ++ drop n to.old }
-{
-    let mut i = 0;
-    while i < n {
-        to[i] = from[i];
-        i += 1;
-    }
-}
-
 // That part of the member; the empty part if it doesn't lie inside.
 pub fn part(member: &[u8], place: usize, length: usize) -> &[u8]
     ensures { result.now ≡ part_of member.now place length }
@@ -144,8 +129,8 @@ fn deliver(
     if wide {
         let long = cell_words <= cells.len();
         if long {
-            copy(node_list, nodes, node_words);
-            copy(cell_list, cells, cell_words);
+            nodes[..node_words].copy_from_slice(&node_list[..node_words]);
+            cells[..cell_words].copy_from_slice(&cell_list[..cell_words]);
             0
         } else {
             13
@@ -247,203 +232,6 @@ fn read_with_lists(
     a
 }
 
-// Where few bytes are left there are few nodes and cells, and short lists are sooner cleared.
-fn with_smallest_lists(
-    member: &[u8],
-    version: u64,
-    at: usize,
-    nodes: &mut [u32],
-    cells: &mut [u32],
-) -> Answer
-    requires { LongEnough member.now at (needed node_record_sizes smallest_lists) (needed cell_record_sizes smallest_lists) × Opened member.now version at }
-    ensures { Delivered (checked member.now) nodes.old cells.old result nodes.new cells.new }
-{
-    let mut node_list = [0u32; SMALLEST_LISTS / LEAST_CATEGORY * NODE_WORDS];
-    let mut cell_list = [0u32; SMALLEST_LISTS / LEAST_CELL * CELL_WORDS];
-    read_with_lists(
-        member,
-        version,
-        at,
-        &mut node_list,
-        &mut cell_list,
-        nodes,
-        cells,
-    )
-}
-
-// With small lists.
-fn with_small_lists(
-    member: &[u8],
-    version: u64,
-    at: usize,
-    nodes: &mut [u32],
-    cells: &mut [u32],
-) -> Answer
-    requires { LongEnough member.now at (needed node_record_sizes small_lists) (needed cell_record_sizes small_lists) × Opened member.now version at }
-    ensures { Delivered (checked member.now) nodes.old cells.old result nodes.new cells.new }
-{
-    let mut node_list = [0u32; SMALL_LISTS / LEAST_CATEGORY * NODE_WORDS];
-    let mut cell_list = [0u32; SMALL_LISTS / LEAST_CELL * CELL_WORDS];
-    read_with_lists(
-        member,
-        version,
-        at,
-        &mut node_list,
-        &mut cell_list,
-        nodes,
-        cells,
-    )
-}
-
-// With medium lists.
-fn with_medium_lists(
-    member: &[u8],
-    version: u64,
-    at: usize,
-    nodes: &mut [u32],
-    cells: &mut [u32],
-) -> Answer
-    requires { LongEnough member.now at (needed node_record_sizes medium_lists) (needed cell_record_sizes medium_lists) × Opened member.now version at }
-    ensures { Delivered (checked member.now) nodes.old cells.old result nodes.new cells.new }
-{
-    let mut node_list = [0u32; MEDIUM_LISTS / LEAST_CATEGORY * NODE_WORDS];
-    let mut cell_list = [0u32; MEDIUM_LISTS / LEAST_CELL * CELL_WORDS];
-    read_with_lists(
-        member,
-        version,
-        at,
-        &mut node_list,
-        &mut cell_list,
-        nodes,
-        cells,
-    )
-}
-
-// With large lists.
-fn with_large_lists(
-    member: &[u8],
-    version: u64,
-    at: usize,
-    nodes: &mut [u32],
-    cells: &mut [u32],
-) -> Answer
-    requires { LongEnough member.now at (needed node_record_sizes large_lists) (needed cell_record_sizes large_lists) × Opened member.now version at }
-    ensures { Delivered (checked member.now) nodes.old cells.old result nodes.new cells.new }
-{
-    let mut node_list = [0u32; LARGE_LISTS / LEAST_CATEGORY * NODE_WORDS];
-    let mut cell_list = [0u32; LARGE_LISTS / LEAST_CELL * CELL_WORDS];
-    read_with_lists(
-        member,
-        version,
-        at,
-        &mut node_list,
-        &mut cell_list,
-        nodes,
-        cells,
-    )
-}
-
-// With larger lists.
-fn with_larger_lists(
-    member: &[u8],
-    version: u64,
-    at: usize,
-    nodes: &mut [u32],
-    cells: &mut [u32],
-) -> Answer
-    requires { LongEnough member.now at (needed node_record_sizes larger_lists) (needed cell_record_sizes larger_lists) × Opened member.now version at }
-    ensures { Delivered (checked member.now) nodes.old cells.old result nodes.new cells.new }
-{
-    let mut node_list = [0u32; LARGER_LISTS / LEAST_CATEGORY * NODE_WORDS];
-    let mut cell_list = [0u32; LARGER_LISTS / LEAST_CELL * CELL_WORDS];
-    read_with_lists(
-        member,
-        version,
-        at,
-        &mut node_list,
-        &mut cell_list,
-        nodes,
-        cells,
-    )
-}
-
-// With the largest lists of a step.
-fn with_largest_lists(
-    member: &[u8],
-    version: u64,
-    at: usize,
-    nodes: &mut [u32],
-    cells: &mut [u32],
-) -> Answer
-    requires { LongEnough member.now at (needed node_record_sizes largest_lists) (needed cell_record_sizes largest_lists) × Opened member.now version at }
-    ensures { Delivered (checked member.now) nodes.old cells.old result nodes.new cells.new }
-{
-    let mut node_list = [0u32; LARGEST_LISTS / LEAST_CATEGORY * NODE_WORDS];
-    let mut cell_list = [0u32; LARGEST_LISTS / LEAST_CELL * CELL_WORDS];
-    read_with_lists(
-        member,
-        version,
-        at,
-        &mut node_list,
-        &mut cell_list,
-        nodes,
-        cells,
-    )
-}
-
-// With lists for a member of any length.
-fn with_full_lists(
-    member: &[u8],
-    version: u64,
-    at: usize,
-    nodes: &mut [u32],
-    cells: &mut [u32],
-) -> Answer
-    requires { LongEnough member.now at node_area cell_area × Opened member.now version at }
-    ensures { Delivered (checked member.now) nodes.old cells.old result nodes.new cells.new }
-{
-    let mut node_list = [0u32; NODE_AREA];
-    let mut cell_list = [0u32; CELL_AREA];
-    read_with_lists(
-        member,
-        version,
-        at,
-        &mut node_list,
-        &mut cell_list,
-        nodes,
-        cells,
-    )
-}
-
-// Reads a member from its dimensions on at the first step, from that one on, whose lists have room for its records. It calls itself: into
-// such a function the compiler puts none that has long lists. So a small member is read on a small stack.
-fn read_from_step(
-    member: &[u8],
-    step: usize,
-    version: u64,
-    at: usize,
-    nodes: &mut [u32],
-    cells: &mut [u32],
-) -> Answer
-    requires { Opened member.now version at }
-    ensures { Delivered (checked member.now) nodes.old cells.old result nodes.new cells.new }
-{
-    let room = has_room(step, left(member, at));
-    if room {
-        match step {
-            0 => with_smallest_lists(member, version, at, nodes, cells),
-            1 => with_small_lists(member, version, at, nodes, cells),
-            2 => with_medium_lists(member, version, at, nodes, cells),
-            3 => with_large_lists(member, version, at, nodes, cells),
-            4 => with_larger_lists(member, version, at, nodes, cells),
-            5 => with_largest_lists(member, version, at, nodes, cells),
-            _ => with_full_lists(member, version, at, nodes, cells),
-        }
-    } else {
-        read_from_step(member, step + 1, version, at, nodes, cells)
-    }
-}
-
 // Reads a member. On a refusal both areas hold what they held; on acceptance the records, and beyond them what was there.
 pub fn read_member(member: &[u8], nodes: &mut [u32], cells: &mut [u32]) -> Answer
     ensures checks { Delivered (checked member.now) nodes.old cells.old result nodes.new cells.new }
@@ -451,6 +239,12 @@ pub fn read_member(member: &[u8], nodes: &mut [u32], cells: &mut [u32]) -> Answe
 {
     match opening(member) {
         Head::Refused(r, p) => refused(r, p, 0, 0),
-        Head::Of(version, at) => read_from_step(member, 0, version, at, nodes, cells),
+        Head::Of(version, at) => with_lists(
+            left(member, at),
+            &mut |node_list, cell_list|
+                requires { LongEnough member.now at (length node_list.old) (length cell_list.old) × Opened member.now version at }
+                ensures { Delivered (checked member.entry.now) nodes.entry.now cells.entry.now result nodes.exit.now cells.exit.now }
+            { read_with_lists(member, version, at, node_list, cell_list, nodes, cells) },
+        ),
     }
 }

@@ -96,7 +96,7 @@ fn accepted_all(
 }
 
 // Reads a member into two lists that are long enough for its records.
-pub fn all_with_lists(
+pub fn all_into_lists(
     member: &[u8],
     dimension: u32,
     node_list: &mut [u32],

@@ -76,7 +76,7 @@ fn accepted(
 }
 
 // Reads a member into two lists that are long enough for its records.
-pub fn with_lists(
+pub fn leaf_into_lists(
     member: &[u8],
     dimension: u32,
     leaf: u32,

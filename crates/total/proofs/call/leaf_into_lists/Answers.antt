@@ -1,7 +1,7 @@
 use Rattle.layout.specs.Steps.Slices.{bytes_of}
 use Rattle.total.specs.Laws.Reading.{taken, turned_down}
 use Rattle.total.specs.Laws.Call.{refused_call}
-use Rattle.total.proofs.call.with_lists.Goals as goal
+use Rattle.total.proofs.call.leaf_into_lists.Goals as goal
 
 pub accepted-requires : goal.accepted-requires
 accepted-requires c =

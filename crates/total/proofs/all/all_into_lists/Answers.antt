@@ -1,7 +1,7 @@
 use Rattle.layout.specs.Steps.Slices.{bytes_of}
 use Rattle.total.specs.Laws.Reading.{taken, turned_down}
 use Rattle.total.specs.Laws.AllCall.{refused_call}
-use Rattle.total.proofs.all.all_with_lists.Goals as goal
+use Rattle.total.proofs.all.all_into_lists.Goals as goal
 
 pub accepted_all-requires : goal.accepted_all-requires
 accepted_all-requires c =
