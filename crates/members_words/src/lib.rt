@@ -36,11 +36,8 @@ fn read_all(buffer: &[u8], list: &[u32], answers: &mut [u32], nodes: &mut [u32],
     requires { answer_words * members_spec.members list.now ≤ length answers.old }
     ensures { AllRead buffer.now list.now answers.old nodes.old cells.old answers.new nodes.new cells.new }
 {
-    let n = list.len() / 2;
-    let mut i = 0;
-    while i < n {
+    for i in 0..list.len() / 2 {
         read_into(buffer, list, i, answers, nodes, cells);
-        i += 1;
     }
 }
 
