@@ -31,16 +31,16 @@ fn entry(s: &[u8], at: usize, d: u64, j: usize, order: &mut [u32; MOST_DIMENSION
     requires { j < most_dimensions }
     ensures { Keeps s.now (Row spec.entry_kind at (j, order.old)) (check (spec.entry_of d (firsts 1 order.old j)) (drop at s.now) at) (row_of (j + 1) result order.new) }
 {
-    let x = peek(s, Step::Next(at), LITTLE, 4);
-    match any(s, Step::Next(at), 4) {
-        Step::Refused(r, p) => Step::Refused(r, p),
-        Step::Next(p) => {
+    let x = peek(s, Ok(at), LITTLE, 4);
+    match any(s, Ok(at), 4) {
+        Err(refusal) => Err(refusal),
+        Ok(p) => {
             let good = is_fresh(order, d, j, x);
             if good {
                 order[j] = (x % 4294967296) as u32;
-                Step::Next(p)
+                Ok(p)
             } else {
-                Step::Refused(9, at)
+                Err(Refusal { reason: Reason::Axes, place: at })
             }
         }
     }
@@ -56,20 +56,20 @@ fn entries(s: &[u8], at: usize, d: u64, n: usize) -> Entries
     let mut j = 0;
     while j < n {
         match entry(s, at, d, j, &mut order) {
-            Step::Refused(r, p) => {
+            Err(refusal) => {
                 return Entries {
-                    end: Step::Refused(r, p),
+                    end: Err(TODO(r, p)),
                     order,
                 };
             }
-            Step::Next(q) => {
+            Ok(q) => {
                 at = q;
             }
         }
         j += 1;
     }
     Entries {
-        end: Step::Next(at),
+        end: Ok(at),
         order,
     }
 }
@@ -94,28 +94,28 @@ pub fn axes(s: &[u8], at: usize, d: usize) -> AxesRead
     ensures refused { spec.Cleared result.counts result.order }
 {
     let d = at_most(d, MOST_DIMENSIONS);
-    let layers = peek(s, Step::Next(at), LITTLE, 4);
-    let a = any(s, Step::Next(at), 4);
+    let layers = peek(s, Ok(at), LITTLE, 4);
+    let a = any(s, Ok(at), 4);
     let rows = peek(s, a, LITTLE, 4);
     let b = any(s, a, 4);
     let columns = peek(s, b, LITTLE, 4);
     match any(s, b, 4) {
-        Step::Refused(r, p) => AxesRead {
+        Err(refusal) => AxesRead {
             counts: AxisCounts::Refused(r, p),
             order: [0u32; MOST_DIMENSIONS],
         },
-        Step::Next(f) => {
+        Ok(f) => {
             let good = adds_up(layers, rows, columns, d as u64);
             if good {
                 let e = entries(s, f, d as u64, d);
                 let order = e.order;
                 let end = e.end;
                 match end {
-                    Step::Refused(r, p) => AxesRead {
+                    Err(refusal) => AxesRead {
                         counts: AxisCounts::Refused(r, p),
                         order: [0u32; MOST_DIMENSIONS],
                     },
-                    Step::Next(p) => AxesRead {
+                    Ok(p) => AxesRead {
                         counts: AxisCounts::Of(
                             (layers % 4294967296) as u32,
                             (rows % 4294967296) as u32,

@@ -30,12 +30,12 @@ fn record(s: &[u8], at: usize, j: usize, x: u64, cells: &mut [u32], version: u64
 {
     let index = (x % 4294967296) as u32;
     let place = (at % 4294967296) as u32;
-    match cell_value(s, Step::Next(at), version) {
-        Step::Refused(r, p) => {
+    match cell_value(s, Ok(at), version) {
+        Err(refusal) => {
             put_three(cells, CELL_WORDS * j, index, place, 0);
             CellRead::BadValue(r, p)
         }
-        Step::Next(q) => {
+        Ok(q) => {
             let size = length(at, q);
             put_three(cells, CELL_WORDS * j, index, place, size);
             CellRead::Whole(q)
@@ -49,10 +49,10 @@ fn cell(s: &[u8], at: usize, places: u32, j: usize, cells: &mut [u32], version: 
     requires { (j < most_cells) × (length s.now ≤ member_bytes) × (0 < at) × Room spec.cell_record_sizes (length cells.old) j (at - 1) s.now }
     ensures { spec.CellDone version s.now at places j cells.old result cells.new }
 {
-    let x = peek(s, Step::Next(at), LITTLE, INDEX_BYTES);
-    match any(s, Step::Next(at), INDEX_BYTES) {
-        Step::Refused(r, p) => CellRead::BadIndex(r, p),
-        Step::Next(p) => {
+    let x = peek(s, Ok(at), LITTLE, INDEX_BYTES);
+    match any(s, Ok(at), INDEX_BYTES) {
+        Err(refusal) => CellRead::BadIndex(r, p),
+        Ok(p) => {
             let below = x < places as u64;
             if below {
                 record(s, p, j, x, cells, version)
@@ -71,7 +71,7 @@ fn once_each(cells: &[u32], m: usize, end: Step) -> Step
     let repeat = first_repeat(cells, CELL_WORDS, m);
     if repeat.at < m {
         let place = word(cells, CELL_WORDS * repeat.at + 1) as usize;
-        Step::Refused(10, place - INDEX_BYTES)
+        Err(Refusal { reason: Reason::CellIndex, place: place - INDEX_BYTES })
     } else {
         end
     }
@@ -87,10 +87,10 @@ fn all(s: &[u8], at: usize, places: u32, n: usize, words: &mut [u32], version: u
     while j < n {
         match cell(s, at, places, j, words, version) {
             CellRead::BadIndex(r, p) => {
-                return once_each(words, j, Step::Refused(r, p));
+                return once_each(words, j, Err(TODO(r, p)));
             }
             CellRead::BadValue(r, p) => {
-                return once_each(words, j + 1, Step::Refused(r, p));
+                return once_each(words, j + 1, Err(TODO(r, p)));
             }
             CellRead::Whole(q) => {
                 at = q;
@@ -98,7 +98,7 @@ fn all(s: &[u8], at: usize, places: u32, n: usize, words: &mut [u32], version: u
         }
         j += 1;
     }
-    once_each(words, n, Step::Next(at))
+    once_each(words, n, Ok(at))
 }
 
 // The section, in a member that is no longer than members are, with room for its records.
@@ -106,12 +106,12 @@ fn section(s: &[u8], at: usize, places: u32, words: &mut [u32], version: u64) ->
     requires { (length s.now ≤ member_bytes) × Room spec.cell_record_sizes (length words.old) 0 at s.now }
     ensures { Keeps s.now (spec.AllCells version at words.old) (check (cells_rule version places) (drop at s.now) at) (spec.cells_out result words.new) }
 {
-    let n = peek(s, Step::Next(at), LITTLE, 4);
-    match count(s, Step::Next(at), LIMIT) {
-        Step::Refused(r, p) => Walk::Refused(r, p),
-        Step::Next(p) => match all(s, p, places, n as usize, words, version) {
-            Step::Refused(r, q) => Walk::Refused(r, q),
-            Step::Next(q) => Walk::On(q, n as usize),
+    let n = peek(s, Ok(at), LITTLE, 4);
+    match count(s, Ok(at), LIMIT) {
+        Err(refusal) => Err(refusal),
+        Ok(p) => match all(s, p, places, n as usize, words, version) {
+            Err(refusal) => Err(refusal),
+            Ok(q) => Ok((q, n as usize)),
         },
     }
 }
@@ -131,11 +131,11 @@ pub fn cells(s: &[u8], at: usize, places: u32, words: &mut [u32], version: u64) 
     ensures scratch { Scratch words.old words.new }
 {
     if MEMBER_BYTES < s.len() {
-        return Walk::Refused(1, 0);
+        return Err(Refusal { reason: Reason::TooLong, place: 0 });
     }
     let most = most_cell_words(left(s, at));
     if words.len() < most {
-        return Walk::Refused(13, 0);
+        return Err(Refusal { reason: Reason::CellArea, place: 0 });
     }
     section(s, at, places, words, version)
 }

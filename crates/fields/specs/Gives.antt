@@ -1,13 +1,11 @@
 -- What the contract of a reader that also gives the fields says.
 use Rattle.std.specs.Prelude.{◌≡◌, List, ℕ, length, drop}
-use Rattle.layout.specs.declared.Step.{Step}
-use Rattle.layout.specs.declared.Step.TheVariants.{Next, Refused}
+use Rattle.layout.specs.Step.{Step}
+use Rattle.std.specs.Prelude.{Ok, Err}
 use Rattle.grammar.specs.Layout.{Layout, Tree, Bytes}
 use Rattle.grammar.specs.Laws.Layout.Read.{got, read}
-use Rattle.layout.specs.Reads.{Reads, bytes}
-use Rattle.layout.specs.declared.Span.{Span}
-use Rattle.layout.specs.declared.Span.TheVariants.{Of}
-use Rattle.layout.specs.declared.Span.TheVariants as span
+use Rattle.layout.specs.Reads.{ReadsTo, bytes}
+use Rattle.layout.specs.Step.{Span}
 use Rattle.store.specs.declared.Name.{Name}
 use Rattle.store.specs.Fields.{Fields, placed}
 
@@ -19,20 +17,20 @@ pub record Found {A : Type 0} (g : Layout) (f : Tree g → ℕ → A) (s : List 
 
 -- r is what reading g in s gives after st; where that is no refusal, x is what f says of the tree that was read, and of its place
 pub record Shows {A : Type 0} (g : Layout) (f : Tree g → ℕ → A) (s : List ℕ) (st r : Step) (x : A) : Type 0 where
-  pub reads : Reads g s st r
-  pub found : Bytes s → (at p : ℕ) → st ≡ Next at → r ≡ Next p → Found g f s at p x
+  pub reads : ReadsTo g s st r
+  pub found : Bytes s → (at p : ℕ) → st ≡ Ok at → r ≡ Ok p → Found g f s at p x
 
 -- the same, where x is the fields of the tree: a record of its own, in which the layout is found without looking at the fields
 pub record Gives (g : Layout) (s : List ℕ) (st r : Step) (x : Fields g) : Type 0 where
-  pub reads : Reads g s st r
-  pub found : Bytes s → (at p : ℕ) → st ≡ Next at → r ≡ Next p → Found g (placed g) s at p x
+  pub reads : ReadsTo g s st r
+  pub found : Bytes s → (at p : ℕ) → st ≡ Ok at → r ≡ Ok p → Found g (placed g) s at p x
 
 -- the same of a single value v; after a refusal it is zero ("everything else returned is 0": document 01, "Refusal numbers")
 pub record GivesValue {A : Type 0} (g : Layout) (s : List ℕ) (st r : Step) (f : Fields g) (v zero : A) : Type 0 where
   pub gives : Gives g s st r f
-  pub none : (n p : ℕ) → r ≡ Refused n p → v ≡ zero
+  pub none : (n p : ℕ) → r ≡ Err (n, p) → v ≡ zero
 
 -- the name that a counted part is
 abbrev pub name_at : List ℕ → Span → Name
-name_at s (Of b e) = record { place = b; length = length (bytes s (Of b e)) }
-name_at s (span.Refused r p) = record { place = 0; length = 0 }
+name_at s (Ok (b, e)) = record { place = b; length = length (bytes s (Ok (b, e))) }
+name_at s (Err (r, p)) = record { place = 0; length = 0 }

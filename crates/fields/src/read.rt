@@ -99,13 +99,13 @@ pub fn small(s: &[u8], st: Step, n: u64) -> Got8
 {
     let v = peek(s, st, LITTLE, 1);
     match field(s, st, 1, limit(v, n)) {
-        Step::Next(p) => Got8 {
+        Ok(p) => Got8 {
             value: v as u8,
-            next: Step::Next(p),
+            next: Ok(p),
         },
-        Step::Refused(r, p) => Got8 {
+        Err(refusal) => Got8 {
             value: 0,
-            next: Step::Refused(r, p),
+            next: Err(TODO(r, p)),
         },
     }
 }
@@ -116,13 +116,13 @@ pub fn color(s: &[u8], st: Step) -> Got32
 {
     let v = peek(s, st, LITTLE, 4);
     match field(s, st, 4, high_byte(v)) {
-        Step::Next(p) => Got32 {
+        Ok(p) => Got32 {
             value: v as u32,
-            next: Step::Next(p),
+            next: Ok(p),
         },
-        Step::Refused(r, p) => Got32 {
+        Err(refusal) => Got32 {
             value: 0,
-            next: Step::Refused(r, p),
+            next: Err(TODO(r, p)),
         },
     }
 }
@@ -165,11 +165,11 @@ fn name_at(s: &[u8], p: Span) -> Name
     ensures { result ≡ name_at s.now p }
 {
     match p {
-        Span::Of(b, e) => Name {
+        Ok((b, e)) => Name {
             place: b,
-            length: bytes(s, Span::Of(b, e)).len(),
+            length: bytes(s, Ok((b, e))).len(),
         },
-        Span::Refused(_, _) => Name {
+        Err(_) => Name {
             place: 0,
             length: 0,
         },
@@ -183,13 +183,13 @@ pub fn name(s: &[u8], st: Step) -> GotName
     let p = part(s, st, LITTLE, 1);
     let value = name_at(s, p);
     match p {
-        Span::Of(_, e) => GotName {
+        Ok((_, e)) => GotName {
             value,
-            next: Step::Next(e),
+            next: Ok(e),
         },
-        Span::Refused(r, q) => GotName {
+        Err(refusal) => GotName {
             value,
-            next: Step::Refused(r, q),
+            next: Err(TODO(r, q)),
         },
     }
 }
@@ -199,28 +199,28 @@ pub fn text(s: &[u8], st: Step) -> GotName
     ensures { GivesValue grammar.lestring s.now st result.next (lent result.value) result.value (record { place = 0; length = 0 }) }
 {
     match st {
-        Step::Next(at) => match string(s, Step::Next(at), LITTLE, 4) {
-            Step::Next(p) => GotName {
+        Ok(at) => match string(s, Ok(at), LITTLE, 4) {
+            Ok(p) => GotName {
                 value: Name {
                     place: at + 4,
                     length: p - at - 4,
                 },
-                next: Step::Next(p),
+                next: Ok(p),
             },
-            Step::Refused(r, p) => GotName {
+            Err(refusal) => GotName {
                 value: Name {
                     place: 0,
                     length: 0,
                 },
-                next: Step::Refused(r, p),
+                next: Err(TODO(r, p)),
             },
         },
-        Step::Refused(r, p) => GotName {
+        Err(refusal) => GotName {
             value: Name {
                 place: 0,
                 length: 0,
             },
-            next: Step::Refused(r, p),
+            next: Err(TODO(r, p)),
         },
     }
 }
@@ -245,17 +245,17 @@ pub fn letters(s: &[u8], st: Step, text: &[u8]) -> Step
     ensures { Gives (grammar.field big (length text.now) (the_number (undigits big text.now))) s.now st result
         (undigits big text.now, tt) }
 {
-    let Step::Next(at) = st else {
+    let Ok(at) = st else {
         return st;
     };
     if text.len() <= left(s, at) {
         let good = same(s, at, text);
         if good {
-            Step::Next(at + text.len())
+            Ok(at + text.len())
         } else {
-            Step::Refused(3, at)
+            Err(Refusal { reason: Reason::FixedDiffers, place: at })
         }
     } else {
-        Step::Refused(2, at)
+        Err(Refusal { reason: Reason::DoesNotFit, place: at })
     }
 }

@@ -4,9 +4,9 @@ use mathlib.Core.Bool.{Bool, true, false, false≢true}
 use mathlib.Core.List.{List, [], ◌∷◌}
 use Prim.Native.Nat.{ℕ}
 use lib.Dec.{eqb}
-use Rattle.layout.specs.declared.Step.{Step}
+use Rattle.layout.specs.Step.{Step}
 use Rattle.grammar.specs.Layout.{little, a_version, Layout, empty, number, ◌▸◌, Tree}
-use Rattle.layout.specs.Reads.{Reads, peek}
+use Rattle.layout.specs.Reads.{ReadsTo, peek}
 use Rattle.layout.specs.Steps.Chain.{empty_of}
 use Rattle.store.specs.Fields.{Fields, placed}
 use Rattle.fields.specs.Gives.{Shows, Gives}
@@ -41,7 +41,7 @@ after_said version t at =
     (2, (f.0, (f.1.0, v2_data (eqb version 2) f.1.1)))
 
 pub look_shows : (v : ℕ) {s : List ℕ} {st q₁ q₂ q₃ q₄ r : Step} {a : Fields (grammar.section grammar.PTTable_look_name)} {b : Fields grammar.settings} {c : Fields three} {d : Fields grammar.V2Styles}
-    → Gives (grammar.section grammar.PTTable_look_name) s st q₁ a → v ≡ peek little 1 s q₁ → Reads (number little 1 (a_version (0 ∷ 2 ∷ [])) (λ _. empty)) s q₁ q₂
+    → Gives (grammar.section grammar.PTTable_look_name) s st q₁ a → v ≡ peek little 1 s q₁ → ReadsTo (number little 1 (a_version (0 ∷ 2 ∷ [])) (λ _. empty)) s q₁ q₂
     → Gives grammar.settings s q₂ q₃ b → Gives three s q₃ q₄ c
     → Shows (grammar.V2StylesIf (eqb v 2)) (λ t at. v2_data (eqb v 2) (placed (grammar.V2StylesIf (eqb v 2)) t at)) s q₄ r d
     → Shows grammar.TableLook (λ t at. look_of (placed grammar.TableLook t at)) s st r (a, (2, (b, (c, d))))

@@ -49,10 +49,10 @@ fn cells_and_end(s: &[u8], at: usize, places: u32, words: &mut [u32], version: u
     ensures { Keeps s.now (AllCells version at words.old) (ended (check (cells_rule version places) (drop at s.now) at)) (cells_out result words.new) }
 {
     match cells_section(s, at, places, words, version) {
-        Walk::Refused(r, p) => Walk::Refused(r, p),
-        Walk::On(q, m) => match ending(s, q) {
-            Step::Refused(r, p) => Walk::Refused(r, p),
-            Step::Next(_) => Walk::On(q, m),
+        Err(refusal) => Err(refusal),
+        Ok((q, m)) => match ending(s, q) {
+            Err(refusal) => Err(refusal),
+            Ok(_) => Ok((q, m)),
         },
     }
 }
@@ -88,12 +88,12 @@ fn after_dims(
                 words,
                 version,
             ) {
-                Walk::Refused(r, p) => Tail {
+                Err(refusal) => Tail {
                     axes: AxisCounts::Refused(r, p),
                     cells: 0,
                     order,
                 },
-                Walk::On(q, m) => Tail {
+                Ok((q, m)) => Tail {
                     axes: AxisCounts::Of(layers, rows, columns, q),
                     cells: m,
                     order,
@@ -168,8 +168,8 @@ fn read_body(
 {
     let mut dims = [0u32; DIMENSION_AREA];
     match dimensions(member, at, node_list, &mut dims, version) {
-        Section::Refused(r, p) => refused(r, p, 0, 0),
-        Section::Of(next, d, used) => {
+        Err(refusal) => refused(r, p, 0, 0),
+        Ok((next, d, used)) => {
             let tail = after_dims(member, next, d, &dims, cell_list, version);
             let order = tail.order;
             let axes = tail.axes;
@@ -198,8 +198,8 @@ fn read_ready(member: &[u8], node_list: &mut [u32], cell_list: &mut [u32]) -> An
     ensures { Stored node_list.old cell_list.old (checked member.now) result node_list.new cell_list.new }
 {
     match opening(member) {
-        Head::Refused(r, p) => refused(r, p, 0, 0),
-        Head::Of(version, at) => read_body(member, version, at, node_list, cell_list),
+        Err(refusal) => refused(r, p, 0, 0),
+        Ok((version, at)) => read_body(member, version, at, node_list, cell_list),
     }
 }
 
@@ -450,7 +450,7 @@ pub fn read_member(member: &[u8], nodes: &mut [u32], cells: &mut [u32]) -> Answe
     ensures demands { Demand3 member.now nodes.old cells.old result nodes.new cells.new }
 {
     match opening(member) {
-        Head::Refused(r, p) => refused(r, p, 0, 0),
-        Head::Of(version, at) => read_from_step(member, 0, version, at, nodes, cells),
+        Err(refusal) => refused(r, p, 0, 0),
+        Ok((version, at)) => read_from_step(member, 0, version, at, nodes, cells),
     }
 }

@@ -24,11 +24,11 @@ pub enum Head {
 fn header(s: &[u8]) -> Head
     ensures { HeaderRead s.now result }
 {
-    let st = start(s, Step::Next(0));
+    let st = start(s, Ok(0));
     let version = peek(s, st, LITTLE, 4);
     match known_version(s, st) {
-        Step::Next(at) => Head::Of(version, at),
-        Step::Refused(r, p) => Head::Refused(r, p),
+        Ok(at) => Ok((version, at)),
+        Err(refusal) => Err(refusal),
     }
 }
 
@@ -37,13 +37,13 @@ pub fn opening(s: &[u8]) -> Head
     ensures { OpeningRead s.now result }
 {
     if MEMBER_BYTES < s.len() {
-        return Head::Refused(1, 0);
+        return Err(Refusal { reason: Reason::TooLong, place: 0 });
     }
     match header(s) {
-        Head::Refused(r, p) => Head::Refused(r, p),
-        Head::Of(version, start) => match front(s, Step::Next(start), version) {
-            Step::Refused(r, p) => Head::Refused(r, p),
-            Step::Next(end) => Head::Of(version, end),
+        Err(refusal) => Err(refusal),
+        Ok((version, start)) => match front(s, Ok(start), version) {
+            Err(refusal) => Err(refusal),
+            Ok(end) => Ok((version, end)),
         },
     }
 }
@@ -52,14 +52,14 @@ pub fn opening(s: &[u8]) -> Head
 pub fn ending(s: &[u8], at: usize) -> Step
     ensures { result ≡ end_at s.now at }
 {
-    match skip(s, Step::Next(at), 0x01, 1) {
-        Step::Refused(r, p) => Step::Refused(r, p),
-        Step::Next(p) => {
+    match skip(s, Ok(at), 0x01, 1) {
+        Err(refusal) => Err(refusal),
+        Ok(p) => {
             let over = s.len() <= p;
             if over {
-                Step::Next(at)
+                Ok(at)
             } else {
-                Step::Refused(11, p)
+                Err(Refusal { reason: Reason::BytesLeft, place: p })
             }
         }
     }

@@ -15,19 +15,19 @@ pub fn part(s: &[u8], st: Step, high: bool, w: usize) -> Span
     let n = peek(s, st, high, w) as usize;
     let w = width(w);
     match st {
-        Step::Next(at) => {
+        Ok(at) => {
             let room = left(s, at);
             let head = w <= room;
             if head {
                 let fits = n <= room - w;
                 if fits {
-                    return Span::Of(at + w, at + w + n);
+                    return Ok((at + w, at + w + n));
                 }
-                return Span::Refused(2, at);
+                return Err(Refusal { reason: Reason::DoesNotFit, place: at });
             }
-            Span::Refused(2, at)
+            Err(Refusal { reason: Reason::DoesNotFit, place: at })
         }
-        Step::Refused(r, p) => Span::Refused(r, p),
+        Err(refusal) => Err(refusal),
     }
 }
 
@@ -35,7 +35,7 @@ pub fn part(s: &[u8], st: Step, high: bool, w: usize) -> Span
 pub fn bytes(s: &[u8], p: Span) -> &[u8]
     ensures { result.now ≡ spec.bytes s.now p }
 {
-    let Span::Of(b, e) = p else {
+    let Ok((b, e)) = p else {
         return &s[..0];
     };
     if b <= e {
@@ -61,19 +61,19 @@ pub fn close(p: Span, i: Step) -> Step
     ensures { result ≡ spec.close exact p i }
 {
     match p {
-        Span::Of(b, e) => match i {
-            Step::Next(p) => {
+        Ok((b, e)) => match i {
+            Ok(p) => {
                 let at = place(b, e, p);
                 let full = at == e;
                 if full {
-                    Step::Next(e)
+                    Ok(e)
                 } else {
-                    Step::Refused(6, at)
+                    Err(Refusal { reason: Reason::RegionNotFilled, place: at })
                 }
             }
-            Step::Refused(r, p) => Step::Refused(r, place(b, e, p)),
+            Err(refusal) => Err(TODO(r, place(b, e, p))),
         },
-        Span::Refused(r, p) => Step::Refused(r, p),
+        Err(refusal) => Err(refusal),
     }
 }
 
@@ -82,15 +82,15 @@ pub fn close_optional(p: Span, i: Step) -> Step
     ensures { result ≡ spec.close optional p i }
 {
     match p {
-        Span::Of(b, e) => {
+        Ok((b, e)) => {
             let none = b == e;
             if none {
-                Step::Next(e)
+                Ok(e)
             } else {
-                close(Span::Of(b, e), i)
+                close(Ok((b, e)), i)
             }
         }
-        Span::Refused(r, p) => Step::Refused(r, p),
+        Err(refusal) => Err(refusal),
     }
 }
 
@@ -99,11 +99,11 @@ pub fn close_open(p: Span, i: Step) -> Step
     ensures { result ≡ spec.close open_ended p i }
 {
     match p {
-        Span::Of(b, e) => match i {
-            Step::Next(_) => Step::Next(e),
-            Step::Refused(r, p) => Step::Refused(r, place(b, e, p)),
+        Ok((b, e)) => match i {
+            Ok(_) => Ok(e),
+            Err(refusal) => Err(TODO(r, place(b, e, p))),
         },
-        Span::Refused(r, p) => Step::Refused(r, p),
+        Err(refusal) => Err(refusal),
     }
 }
 
@@ -112,14 +112,14 @@ fn past(s: &[u8], p: Span, w: usize) -> Step
     ensures { result ≡ spec.past no_zero w s.now p }
 {
     match p {
-        Span::Of(b, e) => {
-            let zero = has_null(bytes(s, Span::Of(b, e)));
+        Ok((b, e)) => {
+            let zero = has_null(bytes(s, Ok((b, e))));
             if zero {
-                return Step::Refused(18, between(w, b));
+                return Err(Refusal { reason: Reason::ZeroByte, place: between(w, b) });
             }
-            Step::Next(e)
+            Ok(e)
         }
-        Span::Refused(r, p) => Step::Refused(r, p),
+        Err(refusal) => Err(refusal),
     }
 }
 
@@ -137,7 +137,7 @@ fn strings(s: &[u8], st: Step, high: bool, w: usize, n: u64) -> Step
     let mut at = st;
     let mut k = n;
     while 0 < k {
-        if let Step::Refused(_, _) = at {
+        if let Err(_) = at {
             return at;
         }
         at = string(s, at, high, w);
@@ -159,7 +159,7 @@ pub fn nothing(st: Step) -> Step
     ensures { result ≡ spec.refused st }
 {
     match st {
-        Step::Next(at) => Step::Refused(7, at),
-        Step::Refused(r, p) => Step::Refused(r, p),
+        Ok(at) => Err(Refusal { reason: Reason::Limit, place: at }),
+        Err(refusal) => Err(refusal),
     }
 }

@@ -12,7 +12,7 @@ use layout::number::{any, field, left, peek};
 pub fn fitting(s: &[u8], st: Step, n: u64, size: usize) -> u64
     ensures { result ≡ spec.fitting size n s.now st }
 {
-    let Step::Next(at) = st else {
+    let Ok(at) = st else {
         return 0;
     };
     let none = size == 0;
@@ -29,8 +29,8 @@ pub fn rows(s: &[u8], st: Step, n: u64, size: usize) -> Step
 {
     let k = fitting(s, st, n, size);
     match st {
-        Step::Next(at) => Step::Next(at + k as usize * size),
-        Step::Refused(r, p) => Step::Refused(r, p),
+        Ok(at) => Ok(at + k as usize * size),
+        Err(refusal) => Err(refusal),
     }
 }
 

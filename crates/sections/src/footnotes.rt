@@ -25,7 +25,7 @@ fn notes(s: &[u8], st: Step, n: u64, version: u64) -> Step
     let mut at = st;
     let mut k = n;
     while 0 < k {
-        if let Step::Refused(_, _) = at {
+        if let Err(_) = at {
             return at;
         }
         at = footnote(s, at, version);

@@ -45,7 +45,7 @@ fn zeros(s: &[u8], st: Step, n: u64) -> Step
     let mut at = st;
     let mut k = n;
     while 0 < k {
-        if let Step::Refused(_, _) = at {
+        if let Err(_) = at {
             return at;
         }
         at = fixed(s, at, LITTLE, 1, 0x00);
@@ -69,7 +69,7 @@ fn all_styles(s: &[u8], st: Step, n: u64) -> Step
     let mut at = st;
     let mut k = n;
     while 0 < k {
-        if let Step::Refused(_, _) = at {
+        if let Err(_) = at {
             return at;
         }
         at = style_pair(s, at);
@@ -95,7 +95,7 @@ fn ending(s: &[u8], st: Step) -> Step
     ensures { Reads (region little optional (notation.i 0 ▸ notation.i 0)) s.now st result }
 {
     let p = part(s, st, LITTLE, 4);
-    close_optional(p, two_numbers(bytes(s, p), Step::Next(0)))
+    close_optional(p, two_numbers(bytes(s, p), Ok(0)))
 }
 
 fn x2(s: &[u8], st: Step) -> Step
@@ -111,7 +111,7 @@ fn x2_region(s: &[u8], st: Step) -> Step
     ensures { Reads (notation.count grammar.X2) s.now st result }
 {
     let p = part(s, st, LITTLE, 4);
-    close(p, x2(bytes(s, p), Step::Next(0)))
+    close(p, x2(bytes(s, p), Ok(0)))
 }
 
 fn x1_x2_content(s: &[u8], st: Step) -> Step
@@ -124,14 +124,14 @@ fn x1_x2(s: &[u8], st: Step) -> Step
     ensures { Reads grammar.X1X2 s.now st result }
 {
     let p = part(s, st, LITTLE, 4);
-    close(p, x1_x2_content(bytes(s, p), Step::Next(0)))
+    close(p, x1_x2_content(bytes(s, p), Ok(0)))
 }
 
 fn x3(s: &[u8], st: Step) -> Step
     ensures { Reads grammar.X3 s.now st result }
 {
     let p = part(s, st, LITTLE, 4);
-    close_open(p, Step::Next(0))
+    close_open(p, Ok(0))
 }
 
 fn outer_content(s: &[u8], st: Step) -> Step
@@ -144,7 +144,7 @@ fn outer(s: &[u8], st: Step) -> Step
     ensures { Reads (notation.count (grammar.X1X2 ▸ grammar.X3)) s.now st result }
 {
     let p = part(s, st, LITTLE, 4);
-    close(p, outer_content(bytes(s, p), Step::Next(0)))
+    close(p, outer_content(bytes(s, p), Ok(0)))
 }
 
 fn y1(s: &[u8], st: Step) -> Step
@@ -181,7 +181,7 @@ fn x0_region(s: &[u8], st: Step) -> Step
     ensures { Reads (region little optional grammar.X0) s.now st result }
 {
     let p = part(s, st, LITTLE, 4);
-    close_optional(p, x0(bytes(s, p), Step::Next(0)))
+    close_optional(p, x0(bytes(s, p), Ok(0)))
 }
 
 fn end(s: &[u8], st: Step, version: u64) -> Step

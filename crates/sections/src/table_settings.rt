@@ -24,7 +24,7 @@ fn breaks(s: &[u8], st: Step) -> Step
     ensures { Reads (notation.becount grammar.BreaksContent) s.now st result }
 {
     let p = part(s, st, BIG, 4);
-    close(p, breaks_content(bytes(s, p), Step::Next(0)))
+    close(p, breaks_content(bytes(s, p), Ok(0)))
 }
 
 fn flags(s: &[u8], st: Step) -> Step
@@ -60,5 +60,5 @@ pub fn table_settings(s: &[u8], st: Step, version: u64) -> Step
     ensures { Reads (grammar.TableSettings version) s.now st result }
 {
     let p = part(s, st, LITTLE, 4);
-    close_open(p, content_of(bytes(s, p), Step::Next(0), version))
+    close_open(p, content_of(bytes(s, p), Ok(0), version))
 }

@@ -1,6 +1,6 @@
 -- What the contracts of writers say: a buffer b, and what was written so far, st, became b' and r.
 use Rattle.std.specs.Prelude.{◌≡◌, List, ◌++◌, ℕ, length, drop, leb}
-use Rattle.layout.specs.declared.Step.{Step}
+use Rattle.layout.specs.Step.{Step}
 use Rattle.sizes.specs.Basics.{pick}
 use Rattle.grammar.specs.Layout.{Order, Layout}
 use Rattle.store.specs.Fields.{Fields}

@@ -10,16 +10,16 @@ pub fn deliver(buf: &[u8], st: Step, out: &mut [u8]) -> Written
     ensures { Delivers buf.now st out.old (answer result) out.new }
 {
     match st {
-        Step::Next(at) => {
+        Ok(at) => {
             let n = at_most(at, buf.len());
             let fits = n <= out.len();
             if fits {
                 out[..n].copy_from_slice(&buf[..n]);
-                Written::Length(n)
+                Ok(n)
             } else {
-                Written::Refused(15, 0)
+                Err(Refusal { reason: Reason::OutputTooShort, place: 0 })
             }
         }
-        Step::Refused(n, p) => Written::Refused(n, p),
+        Err(refusal) => Err(refusal),
     }
 }

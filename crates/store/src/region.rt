@@ -11,17 +11,17 @@ use layout::Step;
 pub fn start(buf: &[u8], st: Step) -> Step
     ensures { result ≡ (opened buf.now st).1 }
 {
-    let Step::Next(at) = st else {
+    let Ok(at) = st else {
         return st;
     };
     if at <= buf.len() {
         if 4 <= buf.len() - at {
-            Step::Next(at + 4)
+            Ok(at + 4)
         } else {
-            Step::Refused(2, at)
+            Err(Refusal { reason: Reason::DoesNotFit, place: at })
         }
     } else {
-        Step::Refused(2, at)
+        Err(Refusal { reason: Reason::DoesNotFit, place: at })
     }
 }
 
@@ -41,14 +41,14 @@ fn content_length(at: usize, p: usize) -> usize
 pub fn end(buf: &mut [u8], first: Step, last: Step, high: bool) -> Step
     ensures { Closes (order high) first buf.old last buf.new result }
 {
-    let Step::Next(at) = first else {
+    let Ok(at) = first else {
         return last;
     };
-    let Step::Next(p) = last else {
+    let Ok(p) = last else {
         return last;
     };
     match number(buf, first, high, 4, content_length(at, p) as u64, 0) {
-        Step::Next(_) => Step::Next(p),
-        Step::Refused(r, q) => Step::Refused(r, q),
+        Ok(_) => Ok(p),
+        Err(refusal) => Err(refusal),
     }
 }

@@ -7,7 +7,7 @@ use layout::Step;
 pub fn put(out: &mut [u32], st: Step, words: &[u32]) -> Step
     ensures { PutsWords words.now out.old st out.new result }
 {
-    let Step::Next(at) = st else {
+    let Ok(at) = st else {
         return st;
     };
     let mut at = at;
@@ -16,10 +16,10 @@ pub fn put(out: &mut [u32], st: Step, words: &[u32]) -> Step
         if at < out.len() {
             out[at] = words[i];
         } else {
-            return Step::Refused(2, at);
+            return Err(Refusal { reason: Reason::DoesNotFit, place: at });
         }
         at += 1;
         i += 1;
     }
-    Step::Next(at)
+    Ok(at)
 }

@@ -20,17 +20,17 @@ use layout::{LITTLE, Step};
 fn raw(buf: &mut [u8], st: Step, text: &[u8], c: u32) -> Step
     ensures { Stores c text.now buf.old st buf.new result }
 {
-    let Step::Next(at) = st else {
+    let Ok(at) = st else {
         return st;
     };
-    let short = Step::Refused(2, at);
+    let short = Err(Refusal { reason: Reason::DoesNotFit, place: at });
     let good = c == 0;
     if good {
         if at <= buf.len() {
             if text.len() <= buf.len() - at {
                 let n = text.len();
                 buf[at..at + n].copy_from_slice(text);
-                Step::Next(at + n)
+                Ok(at + n)
             } else {
                 short
             }
@@ -38,7 +38,7 @@ fn raw(buf: &mut [u8], st: Step, text: &[u8], c: u32) -> Step
             short
         }
     } else {
-        Step::Refused(c, at)
+        Err(TODO(c, at))
     }
 }
 
@@ -100,7 +100,7 @@ fn fits(end: usize, at: usize, m: usize, n: usize) -> bool
 fn string_field(buf: &mut [u8], st: Step, high: bool, w: usize, text: &[u8], c: u32) -> Step
     ensures { Stores c (digits (order high) (min w 8) (length text.now) ++ text.now) buf.old st buf.new result }
 {
-    let Step::Next(at) = st else {
+    let Ok(at) = st else {
         return st;
     };
     let good = c == 0;
@@ -110,10 +110,10 @@ fn string_field(buf: &mut [u8], st: Step, high: bool, w: usize, text: &[u8], c: 
             let next = number(buf, st, high, w, text.len() as u64, 0);
             raw(buf, next, text, 0)
         } else {
-            Step::Refused(2, at)
+            Err(Refusal { reason: Reason::DoesNotFit, place: at })
         }
     } else {
-        Step::Refused(c, at)
+        Err(TODO(c, at))
     }
 }
 

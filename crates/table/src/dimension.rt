@@ -41,8 +41,8 @@ fn name_length(at: usize, name: Step) -> u32
     ensures { result ≡ spec.name_length_of at name }
 {
     match name {
-        Step::Next(e) => length(at, e),
-        Step::Refused(_, _) => 0,
+        Ok(e) => length(at, e),
+        Err(_) => 0,
     }
 }
 
@@ -76,7 +76,7 @@ fn close(
     let leaves = check_leaves(nodes, used, k);
     let verdict = leaves.verdict;
     match verdict {
-        Verdict::Bad(q) => Walk::Refused(8, q),
+        Verdict::Bad(q) => Err(Refusal { reason: Reason::LeafIndex, place: q }),
         Verdict::Fine => {
             store(
                 dims,
@@ -86,7 +86,7 @@ fn close(
                 (leaves.count % 4294967296) as u32,
                 (used % 4294967296) as u32,
             );
-            Walk::On(p, u)
+            Ok((p, u))
         }
     }
 }
@@ -104,12 +104,12 @@ fn dimension(
     requires { (i < most_dimensions) × (length s.now ≤ member_bytes) × (used ≤ most_nodes) × Room spec.node_record_sizes (length nodes.old) used at s.now }
     ensures { Keeps s.now (spec.Dim version at (spec.kept i used nodes.old dims.old)) (check (dimension_rule version used) (drop at s.now) at) (spec.dims_out (i + 1) result nodes.new dims.new) }
 {
-    let name = value(s, Step::Next(at), version);
+    let name = value(s, Ok(at), version);
     let before = properties(s, name);
     let n = peek(s, before, LITTLE, 4);
     match any(s, before, 4) {
-        Step::Refused(r, p) => Walk::Refused(r, p),
-        Step::Next(f) => match categories(
+        Err(refusal) => Err(refusal),
+        Ok(f) => match categories(
             s,
             f,
             CATEGORY_DEPTH,
@@ -120,8 +120,8 @@ fn dimension(
             nodes,
             version,
         ) {
-            Walk::Refused(r, p) => Walk::Refused(r, p),
-            Walk::On(p, u) => close(i, at, name_length(at, name), used, p, u, nodes, dims),
+            Err(refusal) => Err(refusal),
+            Ok((p, u)) => close(i, at, name_length(at, name), used, p, u, nodes, dims),
         },
     }
 }
@@ -143,17 +143,17 @@ fn all(
     let mut i = 0;
     while i < n {
         match dimension(s, i, at, used, nodes, dims, version) {
-            Walk::Refused(r, p) => {
-                return Walk::Refused(r, p);
+            Err(refusal) => {
+                return Err(refusal);
             }
-            Walk::On(a, u) => {
+            Ok((a, u)) => {
                 at = a;
                 used = u;
             }
         }
         i += 1;
     }
-    Walk::On(at, used)
+    Ok((at, used))
 }
 
 // The section, in a member that is no longer than members are, with room for its records.
@@ -167,12 +167,12 @@ fn section(
     requires { (length s.now ≤ member_bytes) × Room spec.node_record_sizes (length nodes.old) 0 at s.now }
     ensures { Keeps s.now (spec.AllDims version at nodes.old dims.old) (check (dimensions_rule version) (drop at s.now) at) (spec.section_out result nodes.new dims.new) }
 {
-    let n = peek(s, Step::Next(at), LITTLE, 4);
-    match count(s, Step::Next(at), LIMIT) {
-        Step::Refused(r, p) => Section::Refused(r, p),
-        Step::Next(p) => match all(s, p, n as usize, nodes, dims, version) {
-            Walk::Refused(r, q) => Section::Refused(r, q),
-            Walk::On(q, used) => Section::Of(q, n as usize, used),
+    let n = peek(s, Ok(at), LITTLE, 4);
+    match count(s, Ok(at), LIMIT) {
+        Err(refusal) => Err(refusal),
+        Ok(p) => match all(s, p, n as usize, nodes, dims, version) {
+            Err(refusal) => Err(refusal),
+            Ok((q, used)) => Ok((q, n as usize, used)),
         },
     }
 }
@@ -197,11 +197,11 @@ pub fn dimensions(
     ensures scratch { Scratch nodes.old nodes.new }
 {
     if MEMBER_BYTES < s.len() {
-        return Section::Refused(1, 0);
+        return Err(Refusal { reason: Reason::TooLong, place: 0 });
     }
     let most = most_node_words(left(s, at));
     if nodes.len() < most {
-        return Section::Refused(12, 0);
+        return Err(Refusal { reason: Reason::NodeArea, place: 0 });
     }
     section(s, at, nodes, dims, version)
 }

@@ -7,7 +7,7 @@ ghost use Rattle.sizes.specs.Sizes.{member_bytes, most_nodes, node_words};
 ghost use Rattle.grammar.specs.Layout.{little, one_of};
 ghost use Rattle.grammar.specs.Conventions as notation;
 ghost use Rattle.grammar.specs.Laws.Layout.Read.{read};
-ghost use Rattle.layout.specs.declared.Step.TheVariants.{Next};
+ghost use Rattle.std.specs.Prelude.{Ok, Err};
 ghost use Rattle.layout.specs.Reads.{Reads, verdict};
 ghost use Rattle.grammar.specs.Value.{Value};
 ghost use Rattle.grammar.specs.Laws.Layout.Check.{check};
@@ -169,10 +169,10 @@ fn node(kind: u32, at: usize, name: Step, word: u64, children: u64, end: Step) -
     ensures { result ≡ node_of kind at name word children end }
 {
     match end {
-        Step::Refused(r, p) => NodeStart::Refused(r, p),
-        Step::Next(next) => match name {
-            Step::Refused(r, p) => NodeStart::Refused(r, p),
-            Step::Next(e) => {
+        Err(refusal) => NodeStart::Refused(r, p),
+        Ok(next) => match name {
+            Err(refusal) => NodeStart::Refused(r, p),
+            Ok(e) => {
                 let size = length(at, e);
                 NodeStart::Node(kind, size, (word % 4294967296) as u32, children, next)
             }
@@ -182,7 +182,7 @@ fn node(kind: u32, at: usize, name: Step, word: u64, children: u64, end: Step) -
 
 // What follows the name of a category, field by field: its name ends at `name`.
 fn after_name(s: &[u8], at: usize, name: Step, version: u64) -> NodeStart
-    requires { (length s.now ≤ member_bytes) × Reads (Value version) s.now (Next at) name }
+    requires { (length s.now ≤ member_bytes) × Reads (Value version) s.now (Ok at) name }
     ensures { HeadRead version s.now at (read (Head version) (drop at s.now) at) result }
 {
     let kind = peek(s, name, LITTLE, 3);
@@ -206,10 +206,10 @@ fn after_name(s: &[u8], at: usize, name: Step, version: u64) -> NodeStart
 fn own_part(bytes: &[u8]) -> Own
     ensures { result.good ≡ true → OwnIs bytes.now result.kind result.word result.children }
 {
-    let kind = peek(bytes, Step::Next(0), LITTLE, 3);
-    let first = peek(bytes, Step::Next(3), LITTLE, 4);
-    let second = peek(bytes, Step::Next(7), LITTLE, 4);
-    let third = peek(bytes, Step::Next(11), LITTLE, 4);
+    let kind = peek(bytes, Ok(0), LITTLE, 3);
+    let first = peek(bytes, Ok(3), LITTLE, 4);
+    let second = peek(bytes, Ok(7), LITTLE, 4);
+    let third = peek(bytes, Ok(11), LITTLE, 4);
     if kind == 0 {
         if first == 2 {
             if third == 0 {
@@ -241,11 +241,11 @@ fn own_part(bytes: &[u8]) -> Own
 
 // Where a name ends; the end of the bytes after a refusal.
 fn end_in(s: &[u8], name: Step) -> usize
-    ensures { own_part ≤ length s.now - result → name ≡ Next result }
+    ensures { own_part ≤ length s.now - result → name ≡ Ok result }
 {
     match name {
-        Step::Next(e) => e,
-        Step::Refused(_, _) => s.len(),
+        Ok(e) => e,
+        Err(_) => s.len(),
     }
 }
 
@@ -255,13 +255,13 @@ fn head(s: &[u8], at: usize, version: u64) -> NodeStart
     requires { length s.now ≤ member_bytes }
     ensures { HeadRead version s.now at (read (Head version) (drop at s.now) at) result }
 {
-    let name = value(s, Step::Next(at), version);
+    let name = value(s, Ok(at), version);
     let e = end_in(s, name);
     if OWN_PART <= left(s, e) {
         let next = e + OWN_PART;
         let own = own_part(&s[e..next]);
         if own.good {
-            return node(own.kind, at, name, own.word, own.children, Step::Next(next));
+            return node(own.kind, at, name, own.word, own.children, Ok(next));
         }
     }
     after_name(s, at, name, version)
@@ -286,13 +286,13 @@ fn category(
     ensures { Keeps s.now (spec.Node version depth dimension parent at (used, nodes.old)) (check (category_rule version depth used) (drop at s.now) at) (spec.walked result nodes.new) }
 {
     if depth == 0 {
-        return Walk::Refused(7, at);
+        return Err(Refusal { reason: Reason::Limit, place: at });
     }
     if MOST_NODES <= used {
-        return Walk::Refused(7, at);
+        return Err(Refusal { reason: Reason::Limit, place: at });
     }
     match head(s, at, version) {
-        NodeStart::Refused(r, p) => Walk::Refused(r, p),
+        NodeStart::Refused(r, p) => Err(refusal),
         NodeStart::Node(kind, size, word, children, next) => match below(
             s,
             next,
@@ -304,14 +304,14 @@ fn category(
             nodes,
             version,
         ) {
-            Walk::Refused(r, p) => Walk::Refused(r, p),
-            Walk::On(p, u) => {
+            Err(refusal) => Err(refusal),
+            Ok((p, u)) => {
                 let place = (at % 4294967296) as u32;
                 let many = length(used, u);
                 store_node(
                     nodes, used, kind, dimension, parent, place, size, word, many,
                 );
-                Walk::On(p, u)
+                Ok((p, u))
             }
         },
     }
@@ -334,7 +334,7 @@ fn below(
     ensures { Keeps s.now (Each (spec.Node version depth dimension parent) at (used, nodes.old)) (check (categories_rule version depth used count) (drop at s.now) at) (spec.walked result nodes.new) }
 {
     if count == 0 {
-        return Walk::On(at, used);
+        return Ok((at, used));
     }
     categories(
         whole(s),
@@ -370,15 +370,15 @@ fn categories(
     let mut i = 0;
     while i < count {
         match category(s, at, depth, dimension, parent, used, nodes, version) {
-            Walk::Refused(r, p) => {
-                return Walk::Refused(r, p);
+            Err(refusal) => {
+                return Err(refusal);
             }
-            Walk::On(a, u) => {
+            Ok((a, u)) => {
                 at = a;
                 used = u;
             }
         }
         i += 1;
     }
-    Walk::On(at, used)
+    Ok((at, used))
 }

@@ -20,7 +20,7 @@ pub fn copy(from: &[u32], n: usize, to: &mut [u32])
 {
     if n <= from.len() {
         if n <= to.len() {
-            put(to, Step::Next(0), &from[..n]);
+            put(to, Ok(0), &from[..n]);
         }
     }
 }

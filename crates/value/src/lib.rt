@@ -4,7 +4,7 @@
 
 ghost use Rattle.std.specs.Prelude.{◌≡◌};
 ghost use Rattle.grammar.specs.Layout.{times};
-ghost use Rattle.layout.specs.declared.Step.TheVariants.{Next};
+ghost use Rattle.std.specs.Prelude.{Ok, Err};
 ghost use Rattle.layout.specs.Reads.{Reads};
 ghost use Rattle.grammar.specs.Value as grammar;
 
@@ -84,9 +84,9 @@ fn form_06(s: &[u8], st: Step, version: u64) -> Step
 // A Value without the bytes 00 before it, at a position, in which `depth` levels may be nested.
 #[cycle(argument_arguments_arguments_at_raw_value_template_value_at_value_in_values)]
 fn raw_value(s: &[u8], at: usize, depth: usize, version: u64) -> Step
-    ensures { Reads (grammar.RawValueOf version (grammar.ValueIn version depth)) s.now (Next at) result }
+    ensures { Reads (grammar.RawValueOf version (grammar.ValueIn version depth)) s.now (Ok at) result }
 {
-    let st = Step::Next(at);
+    let st = Ok(at);
     let x = peek(s, st, LITTLE, 1);
     let next = any(s, st, 1);
     match x {
@@ -111,10 +111,10 @@ fn raw_value(s: &[u8], at: usize, depth: usize, version: u64) -> Step
 // A Value at a position, of which `depth` levels may be nested.
 #[cycle(argument_arguments_arguments_at_raw_value_template_value_at_value_in_values)]
 fn value_at(s: &[u8], at: usize, depth: usize, version: u64) -> Step
-    ensures { Reads (grammar.ValueIn version depth) s.now (Next at) result }
+    ensures { Reads (grammar.ValueIn version depth) s.now (Ok at) result }
 {
     if depth == 0 {
-        return nothing(Step::Next(at));
+        return nothing(Ok(at));
     }
     raw_value(whole(s), past(s, at, 0, 4), depth - 1, version)
 }
@@ -125,8 +125,8 @@ fn value_in(s: &[u8], st: Step, depth: usize, version: u64) -> Step
     ensures { Reads (grammar.ValueIn version depth) s.now st result }
 {
     match st {
-        Step::Next(at) => value_at(s, at, depth, version),
-        Step::Refused(r, p) => Step::Refused(r, p),
+        Ok(at) => value_at(s, at, depth, version),
+        Err(refusal) => Err(refusal),
     }
 }
 
@@ -142,12 +142,12 @@ fn template(s: &[u8], st: Step, depth: usize, version: u64) -> Step
 // n arguments at a position.
 #[cycle(argument_arguments_arguments_at_raw_value_template_value_at_value_in_values)]
 fn arguments_at(s: &[u8], at: usize, n: u64, depth: usize, version: u64) -> Step
-    ensures { Reads (times n (grammar.Argument version depth)) s.now (Next at) result }
+    ensures { Reads (times n (grammar.Argument version depth)) s.now (Ok at) result }
 {
-    let mut at = Step::Next(at);
+    let mut at = Ok(at);
     let mut k = n;
     while 0 < k {
-        if let Step::Refused(_, _) = at {
+        if let Err(_) = at {
             return at;
         }
         at = argument(s, at, depth, version);
@@ -162,13 +162,13 @@ pub fn arguments(s: &[u8], st: Step, n: u64, depth: usize, version: u64) -> Step
     ensures { Reads (times n (grammar.Argument version depth)) s.now st result }
 {
     match st {
-        Step::Next(at) => {
+        Ok(at) => {
             if n == 0 {
-                return Step::Next(at);
+                return Ok(at);
             }
             arguments_at(whole(s), at, n, depth, version)
         }
-        Step::Refused(r, p) => Step::Refused(r, p),
+        Err(refusal) => Err(refusal),
     }
 }
 
@@ -192,7 +192,7 @@ fn values(s: &[u8], st: Step, n: u64, depth: usize, version: u64) -> Step
     let mut at = st;
     let mut k = n;
     while 0 < k {
-        if let Step::Refused(_, _) = at {
+        if let Err(_) = at {
             return at;
         }
         at = value_in(s, at, depth, version);
@@ -218,12 +218,12 @@ pub fn cell_zeros(version: u64) -> usize
 
 // The Value of a cell at a position, with all the bytes 00 before it. Most are numbers.
 fn cell_value_at(s: &[u8], at: usize, version: u64) -> Step
-    ensures { Reads (grammar.CellValue version) s.now (Next at) result }
+    ensures { Reads (grammar.CellValue version) s.now (Ok at) result }
 {
     let from = past(s, at, 0, cell_zeros(version));
-    let x = peek(s, Step::Next(from), LITTLE, 1);
+    let x = peek(s, Ok(from), LITTLE, 1);
     if x == 1 {
-        return form_01(s, any(s, Step::Next(from), 1), version);
+        return form_01(s, any(s, Ok(from), 1), version);
     }
     raw_value(whole(s), from, BELOW_VALUE, version)
 }
@@ -233,7 +233,7 @@ pub fn cell_value(s: &[u8], st: Step, version: u64) -> Step
     ensures { Reads (grammar.CellValue version) s.now st result }
 {
     match st {
-        Step::Next(at) => cell_value_at(s, at, version),
-        Step::Refused(r, p) => Step::Refused(r, p),
+        Ok(at) => cell_value_at(s, at, version),
+        Err(refusal) => Err(refusal),
     }
 }

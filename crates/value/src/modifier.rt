@@ -2,7 +2,7 @@
 ghost use Rattle.grammar.specs.Layout.{empty, ◌▸◌};
 ghost use Rattle.grammar.specs.Conventions as grammar;
 ghost use Rattle.layout.specs.Reads.{Reads};
-ghost use Rattle.layout.specs.declared.Step.TheVariants.{Next};
+ghost use Rattle.std.specs.Prelude.{Ok, Err};
 ghost use Rattle.grammar.specs.Value as value;
 
 use layout::number::{any, boolean, fixed, one_of_two, one_of_two_but, peek};
@@ -91,7 +91,7 @@ fn template_prefix(s: &[u8], st: Step) -> Step
     ensures { Reads value.TemplatePrefix s.now st result }
 {
     let p = part(s, st, LITTLE, 4);
-    close_optional(p, prefix_content(bytes(s, p), Step::Next(0)))
+    close_optional(p, prefix_content(bytes(s, p), Ok(0)))
 }
 
 fn template_content(s: &[u8], st: Step) -> Step
@@ -104,7 +104,7 @@ fn template_string(s: &[u8], st: Step) -> Step
     ensures { Reads value.TemplateString s.now st result }
 {
     let p = part(s, st, LITTLE, 4);
-    close_optional(p, template_content(bytes(s, p), Step::Next(0)))
+    close_optional(p, template_content(bytes(s, p), Ok(0)))
 }
 
 fn mod_content(s: &[u8], st: Step) -> Step
@@ -117,14 +117,14 @@ fn mod_region(s: &[u8], st: Step) -> Step
     ensures { Reads (grammar.count (value.TemplateString ▸ value.StylePair)) s.now st result }
 {
     let p = part(s, st, LITTLE, 4);
-    close(p, mod_content(bytes(s, p), Step::Next(0)))
+    close(p, mod_content(bytes(s, p), Ok(0)))
 }
 
 // What follows the 31 of a ValueMod, at a position.
 fn modifiers_at(s: &[u8], at: usize) -> Step
-    ensures { Reads value.Modifiers s.now (Next at) result }
+    ensures { Reads value.Modifiers s.now (Ok at) result }
 {
-    let st = many(s, Step::Next(at), LITTLE, 2);
+    let st = many(s, Ok(at), LITTLE, 2);
     let st = many_strings(s, st, LITTLE, 4);
     mod_region(s, st)
 }
@@ -134,8 +134,8 @@ pub fn modifiers(s: &[u8], st: Step) -> Step
     ensures { Reads value.Modifiers s.now st result }
 {
     match st {
-        Step::Next(at) => modifiers_at(whole(s), at),
-        Step::Refused(r, p) => Step::Refused(r, p),
+        Ok(at) => modifiers_at(whole(s), at),
+        Err(refusal) => Err(refusal),
     }
 }
 
@@ -148,8 +148,8 @@ pub fn value_mod(s: &[u8], st: Step, version: u64) -> Step
     let present = x == 0x31;
     if present {
         match at {
-            Step::Next(p) => modifiers_at(whole(s), p),
-            Step::Refused(r, p) => Step::Refused(r, p),
+            Ok(p) => modifiers_at(whole(s), p),
+            Err(refusal) => Err(refusal),
         }
     } else {
         at

@@ -7,17 +7,16 @@ use Rattle.std.proofs.lemmas.Bool.{false≢true}
 use Rattle.std.proofs.Math.Nat.{add-sub_cancel_left}
 use Rattle.std.proofs.Math.ListN.{length}
 use borrow.Author.Tests.{eqb-true, ne_eqb, leb-true, leb-false, le-leb}
-use Rattle.layout.specs.declared.Span.{Span}
-use Rattle.layout.specs.declared.Span.TheVariants.{Of}
-use Rattle.layout.specs.declared.Step.{Step}
-use Rattle.layout.specs.declared.Step.TheVariants.{Next, Refused}
+use Rattle.layout.specs.Step.{Span}
+use Rattle.std.specs.Prelude.{Ok, Err}
+use Rattle.layout.specs.Step.{Step}
 use Rattle.sizes.specs.Basics.{among, pick}
 use Rattle.grammar.specs.Layout.{Order, Test, any_number, the_number, a_bool, one_of, passes, Content, suits, Layout, empty, number, string, ◌▸◌, times, spell, Bytes}
 use Rattle.layout.specs.Steps.Slices.{drop_bytes}
 use Rattle.grammar.specs.Laws.Layout.Read.{Got, got, no, bind, read_number, read_times, read, zero_byte}
 use Rattle.grammar.specs.Laws.Layout as laws
 use Rattle.grammar.specs.Laws.Layout.Places.{Announced, announced, too_few, counted_view, announced_length}
-use Rattle.layout.specs.Reads.{step, chain, Reads, peek, span_of, part, bytes}
+use Rattle.layout.specs.Reads.{step, chain, ReadsTo, peek, span_of, part, bytes}
 use Rattle.layout.specs.Steps.Chain.{empty_of, times_none, times_more}
 use Rattle.store.specs.declared.Name.{Name}
 use Rattle.store.specs.Values.{bit}
@@ -61,8 +60,8 @@ first_of_two {a = a} {n = n} x e = eqb-true n a (go (eqb n a) (rw e at x.passed)
     go false h = h
 
 -- a number alone, whose value is known
-found_number : {o : Order} {w : ℕ} {test : Test} {s : List ℕ} {st r : Step} {v : ℕ} → Reads (number o w test (λ _. empty)) s st r
-    → ((at n : ℕ) → st ≡ Next at → Numbered o w test (drop at s) at n → n ≡ v) → Gives (number o w test (λ _. empty)) s st r (v, tt)
+found_number : {o : Order} {w : ℕ} {test : Test} {s : List ℕ} {st r : Step} {v : ℕ} → ReadsTo (number o w test (λ _. empty)) s st r
+    → ((at n : ℕ) → st ≡ Ok at → Numbered o w test (drop at s) at n → n ≡ v) → Gives (number o w test (λ _. empty)) s st r (v, tt)
 unfolding placed
 found_number {o} {w} {test} {s} {v = v} h k = record {
   reads = h;
@@ -72,11 +71,11 @@ found_number {o} {w} {test} {s} {v = v} h k = record {
       record { tree = x.tree; reads = x.is; is = ap (λ (n : ℕ). (n, tt)) (k at x.tree.0 e n) };
 }
 
-pub number_gives : {o : Order} {w : ℕ} {test : Test} {s : List ℕ} {st r : Step} {v : ℕ} → Reads (number o w test (λ _. empty)) s st r → v ≡ peek o w s st
+pub number_gives : {o : Order} {w : ℕ} {test : Test} {s : List ℕ} {st r : Step} {v : ℕ} → ReadsTo (number o w test (λ _. empty)) s st r → v ≡ peek o w s st
     → Gives (number o w test (λ _. empty)) s st r (v, tt)
 number_gives {s = s} h e = found_number h (λ at n i x. peeked s at x i e)
 
-pub fixed_gives : {o : Order} {w n : ℕ} {s : List ℕ} {st r : Step} → Reads (number o w (the_number n) (λ _. empty)) s st r
+pub fixed_gives : {o : Order} {w n : ℕ} {s : List ℕ} {st r : Step} → ReadsTo (number o w (the_number n) (λ _. empty)) s st r
     → Gives (number o w (the_number n) (λ _. empty)) s st r (n, tt)
 unfolding passes
 fixed_gives {n = n} h = found_number h (λ at m i x. eqb-true m n x.passed)
@@ -92,7 +91,7 @@ bit_of true = refl
 bit_of false = refl
 
 -- a bool, which is 0 or 1
-pub bool_gives : {o : Order} {w : ℕ} {s : List ℕ} {st r : Step} {v : ℕ} → Reads (number o w a_bool (λ _. empty)) s st r → v ≡ peek o w s st
+pub bool_gives : {o : Order} {w : ℕ} {s : List ℕ} {st r : Step} {v : ℕ} → ReadsTo (number o w a_bool (λ _. empty)) s st r → v ≡ peek o w s st
     → Gives (number o w a_bool (λ _. empty)) s st r (bit (eqb v 1), tt)
 unfolding passes
 bool_gives {s = s} {v = v} h e =
@@ -100,7 +99,7 @@ bool_gives {s = s} {v = v} h e =
 
 -- a number, which is n where it is read, and then what n asks for
 pub switch_known : {o : Order} {w : ℕ} {test : Test} (k : ℕ → Layout) {s : List ℕ} {st q r : Step} {n : ℕ} {f : Fields (k n)}
-    → ((at m : ℕ) → st ≡ Next at → Numbered o w test (drop at s) at m → m ≡ n) → Reads (number o w test (λ _. empty)) s st q
+    → ((at m : ℕ) → st ≡ Ok at → Numbered o w test (drop at s) at m → m ≡ n) → ReadsTo (number o w test (λ _. empty)) s st q
     → Gives (k n) s q r f → Gives (number o w test k) s st r (n, f)
 unfolding placed
 switch_known k {n = n} {f = f} known h y =
@@ -108,50 +107,50 @@ switch_known k {n = n} {f = f} known h y =
 
 -- the same, where v is the number that comes next
 pub switch_gives : {o : Order} {w : ℕ} {test : Test} (k : ℕ → Layout) {s : List ℕ} {st q r : Step} {v : ℕ} {f : Fields (k v)}
-    → v ≡ peek o w s st → Reads (number o w test (λ _. empty)) s st q → Gives (k v) s q r f → Gives (number o w test k) s st r (v, f)
+    → v ≡ peek o w s st → ReadsTo (number o w test (λ _. empty)) s st q → Gives (k v) s q r f → Gives (number o w test k) s st r (v, f)
 switch_gives k {s = s} e h y = switch_known k (λ at m i x. peeked s at x i e) h y
 
 -- ---- a value alone, and after a refusal
 
 -- a number that is refused does not fit, or does not pass its test
-refused_peek : (o : Order) (w : ℕ) (test : Test) (s : List ℕ) (st r : Step) → Reads (number o w test (λ _. empty)) s st r → (n p : ℕ) → r ≡ Refused n p
+refused_peek : (o : Order) (w : ℕ) (test : Test) (s : List ℕ) (st r : Step) → ReadsTo (number o w test (λ _. empty)) s st r → (n p : ℕ) → r ≡ Err (n, p)
     → (peek o w s st ≡ 0) ⊎ (passes test (peek o w s st) ≡ false)
 unfolding peek chain step read bind pick
-refused_peek o w test s (Refused a b) r h n p e = inl refl
-refused_peek o w test s (Next at) r h n p e = go (read_number o w (drop at s) at) refl (passes test (peek o w s (Next at))) refl
+refused_peek o w test s (Err (a, b)) r h n p e = inl refl
+refused_peek o w test s (Ok at) r h n p e = go (read_number o w (drop at s) at) refl (passes test (peek o w s (Ok at))) refl
   where
     read_it : (m : ℕ) (a : List ℕ) (b : ℕ) → read_number o w (drop at s) at ≡ got m a b → passes test m ≡ true
-        → chain (Next at) (step (number o w test (λ _. empty)) s) ≡ Next b
+        → chain (Ok at) (step (number o w test (λ _. empty)) s) ≡ Ok b
     read_it m a b i j = rw (i, j)
 
-    go : (x : Got ℕ) → read_number o w (drop at s) at ≡ x → (b : Bool) → passes test (peek o w s (Next at)) ≡ b
-        → (peek o w s (Next at) ≡ 0) ⊎ (passes test (peek o w s (Next at)) ≡ false)
+    go : (x : Got ℕ) → read_number o w (drop at s) at ≡ x → (b : Bool) → passes test (peek o w s (Ok at)) ≡ b
+        → (peek o w s (Ok at) ≡ 0) ⊎ (passes test (peek o w s (Ok at)) ≡ false)
     go (no a b) i c j = inl (rw i)
     go (got m a b) i false j = inr j
     go (got m a b) i true j =
-        let k : Next b ≡ Refused n p = sym (read_it m a b i (rw i at j)) ∙ sym h.is ∙ e in
+        let k : Ok b ≡ Err (n, p) = sym (read_it m a b i (rw i at j)) ∙ sym h.is ∙ e in
         absurd (let z : ◌≡◌ {A = ℕ} 0 1 = cc in omega arith)
 
 -- what is refused has no fields
-pub refused_gives : {g : Layout} {s : List ℕ} {st r : Step} {f : Fields g} {n p : ℕ} → r ≡ Refused n p → Reads g s st r → Gives g s st r f
+pub refused_gives : {g : Layout} {s : List ℕ} {st r : Step} {f : Fields g} {n p : ℕ} → r ≡ Err (n, p) → ReadsTo g s st r → Gives g s st r f
 refused_gives e h = record { reads = h; found = λ bs at q i j. never_next j e }
 
 big_not_one : {v k : ℕ} → v ≡ k → leb k 1 ≡ false → v ≡ 1 → ⊥
 big_not_one {v} {k} e z j = omega (arith, leb-false k 1 z)
 
 -- what is read is no refusal
-pub next_value : {A : Type 0} {g : Layout} {s : List ℕ} {st r : Step} {f : Fields g} {v zero : A} {p : ℕ} → r ≡ Next p → Gives g s st r f → GivesValue g s st r f v zero
+pub next_value : {A : Type 0} {g : Layout} {s : List ℕ} {st r : Step} {f : Fields g} {v zero : A} {p : ℕ} → r ≡ Ok p → Gives g s st r f → GivesValue g s st r f v zero
 next_value e h = record { gives = h; none = λ n q i. never_next e i }
 
 module _ {o : Order} {w : ℕ} {s : List ℕ} {st r : Step} {v : ℕ} where
-  pub any_value : Reads (number o w any_number (λ _. empty)) s st r → v ≡ peek o w s st → GivesValue (number o w any_number (λ _. empty)) s st r (v, tt) v 0
+  pub any_value : ReadsTo (number o w any_number (λ _. empty)) s st r → v ≡ peek o w s st → GivesValue (number o w any_number (λ _. empty)) s st r (v, tt) v 0
   unfolding passes
   any_value h e = record {
     gives = number_gives h e;
     none = λ n p i. ⊎_elim (λ z. e ∙ z) (λ z. absurd (false≢true (sym z))) (refused_peek o w any_number s st r h n p i);
   }
 
-  pub bool_value : Reads (number o w a_bool (λ _. empty)) s st r → v ≡ peek o w s st
+  pub bool_value : ReadsTo (number o w a_bool (λ _. empty)) s st r → v ≡ peek o w s st
       → GivesValue (number o w a_bool (λ _. empty)) s st r (bit (eqb v 1), tt) (eqb v 1) false
   unfolding passes
   bool_value h e = record {
@@ -159,7 +158,7 @@ module _ {o : Order} {w : ℕ} {s : List ℕ} {st r : Step} {v : ℕ} where
     none = λ n p i. ⊎_elim (λ z. ne_eqb v 1 (λ j. omega arith)) (λ z. ne_eqb v 1 (λ j. big_not_one e z j)) (refused_peek o w a_bool s st r h n p i);
   }
 
-pub refused_value : {A : Type 0} {g : Layout} {s : List ℕ} {st r : Step} {f : Fields g} {v : A} {n p : ℕ} → r ≡ Refused n p → Reads g s st r → GivesValue g s st r f v v
+pub refused_value : {A : Type 0} {g : Layout} {s : List ℕ} {st r : Step} {f : Fields g} {v : A} {n p : ℕ} → r ≡ Err (n, p) → ReadsTo g s st r → GivesValue g s st r f v v
 refused_value e h = record { gives = refused_gives e h; none = λ n p i. refl }
 
 -- ---- that many times
@@ -195,7 +194,7 @@ more_gives {a} {n = n} x y = record {
 
 -- ---- names
 
-bytes_length : (s : List ℕ) (b n : ℕ) → b + n ≤ length s → length (bytes s (Of b (b + n))) ≡ n
+bytes_length : (s : List ℕ) (b n : ℕ) → b + n ≤ length s → length (bytes s (Ok (b, b + n))) ≡ n
 unfolding bytes pick
 bytes_length s b n h =
     simp (le-leb b (b + n) (omega arith), le-leb (b + n) (length s) h, add-sub_cancel_left) (length-take-le n (drop b s) (omega (arith, length-drop b s)))
@@ -207,7 +206,7 @@ suited true x r p m q e = cc
 suited false x r p m q e = absurd (let z : ◌≡◌ {A = ℕ} 0 1 = cc in omega arith)
 
 named : (o : Order) (w : ℕ) (c : Content) (s : List ℕ) (at : ℕ) (t r : List ℕ) (p : ℕ) → read (string o w c) (drop at s) at ≡ got t r p → 0 < w
-    → name_at s (part o w s (Next at)) ≡ record { place = at + w; length = length t }
+    → name_at s (part o w s (Ok at)) ≡ record { place = at + w; length = length t }
 unfolding read bind part
 named o w c s at t r p e pos = go (counted_view o w (drop at s) at) e
   where
@@ -220,14 +219,14 @@ named o w c s at t r p e pos = go (counted_view o w (drop at s) at) e
         rw (← t≡, bytes_length s (at + w) (length (take n (drop w (drop at s)))) (omega (arith, length-drop at s)))
     go too_few i = absurd (let z : ◌≡◌ {A = ℕ} 0 1 = cc in omega arith)
 
-pub string_gives : {o : Order} {w : ℕ} {c : Content} {s : List ℕ} {st r : Step} {p : Span} {n : Name} → 0 < w → Reads (string o w c) s st r → p ≡ part o w s st
+pub string_gives : {o : Order} {w : ℕ} {c : Content} {s : List ℕ} {st r : Step} {p : Span} {n : Name} → 0 < w → ReadsTo (string o w c) s st r → p ≡ part o w s st
     → n ≡ name_at s p → Gives (string o w c) s st r (lent n)
 unfolding placed
 string_gives {o} {w} {c} {s} {st} {r} {p} {n} h y a e = record {
   reads = y;
   found = λ bs at q i j.
       let x = tree_of y i j in
-      let k : p ≡ part o w s (Next at) = rw i at a in
+      let k : p ≡ part o w s (Ok at) = rw i at a in
       record { tree = x.tree; reads = x.is; is = ap lent (sym (named o w c s at x.tree (drop q s) q x.is h) ∙ sym (e ∙ rw k)) };
 }
 
@@ -250,7 +249,7 @@ string_end o w c s at t r p e = go (counted_view o w (drop at s) at) e
         rw (← t≡) (sym e)
     go too_few i = absurd (let z : ◌≡◌ {A = ℕ} 0 1 = cc in omega arith)
 
-module _ {o : Order} {w : ℕ} {c : Content} {s : List ℕ} {st r : Step} {at p : ℕ} (y : Reads (string o w c) s st r) (here : st ≡ Next at) (there : r ≡ Next p) where
+module _ {o : Order} {w : ℕ} {c : Content} {s : List ℕ} {st r : Step} {at p : ℕ} (y : ReadsTo (string o w c) s st r) (here : st ≡ Ok at) (there : r ≡ Ok p) where
   -- it lies after its length
   pub string_after : at + w ≤ p
   string_after =

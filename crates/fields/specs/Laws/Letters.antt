@@ -3,11 +3,11 @@ use Rattle.std.specs.Prelude.{◌≡◌, Bool, List, ℕ, ◌+◌, ◌-◌, ◌�
 use Rattle.std.proofs.Common.{sym, ap, ◌∙◌, arith, length-drop, ext_get_or, length-take-le, get_or-take, get_or-drop}
 use Rattle.std.proofs.Math.Bool.{true, false}
 use borrow.Author.Tests.{le-leb, lt-leb, eq-eqb, ne_eqb}
-use Rattle.layout.specs.declared.Step.TheVariants.{Next, Refused}
+use Rattle.std.specs.Prelude.{Ok, Err}
 use Rattle.sizes.specs.Basics.{pick}
 use Rattle.grammar.specs.Layout.{Order, Test, passes, empty, number, Bytes, undigits}
 use Rattle.grammar.specs.Laws.Layout.Read.{bind, read_number, read, refusal}
-use Rattle.layout.specs.Reads.{step, chain, Reads}
+use Rattle.layout.specs.Reads.{step, chain, ReadsTo}
 use Rattle.grammar.specs.Laws.Layout.Spelt.{same_letters}
 use Rattle.layout.specs.Steps.Slices.{drop_bytes, take_bytes}
 
@@ -38,12 +38,12 @@ module _ (s text : List ℕ) (at : ℕ) (fits : length text ≤ length s - at) w
 -- ---- a number that is tested, at a position: it does not fit, or does not pass, or is read
 
 module _ (o : Order) (w : ℕ) (test : Test) (s : List ℕ) (at : ℕ) where
-  pub number_short : length s - at < w → Reads (number o w test (λ _. empty)) s (Next at) (Refused 2 at)
+  pub number_short : length s - at < w → ReadsTo (number o w test (λ _. empty)) s (Ok at) (Err (2, at))
   unfolding step chain read read_number bind pick
   number_short h = record { is = rw (length-drop, lt-leb w (length s - at) h) }
 
   pub number_here : w ≤ length s - at → (b : Bool) → b ≡ passes test (undigits o (take w (drop at s)))
-      → Reads (number o w test (λ _. empty)) s (Next at) (pick b (Next (at + w)) (Refused (refusal test (undigits o (take w (drop at s)))) at))
+      → ReadsTo (number o w test (λ _. empty)) s (Ok at) (pick b (Ok (at + w)) (Err (refusal test (undigits o (take w (drop at s))), at)))
   unfolding step chain read read_number bind pick
   number_here h true e = record { is = rw (length-drop, le-leb w (length s - at) h, ← e) }
   number_here h false e = record { is = rw (length-drop, le-leb w (length s - at) h, ← e) }

@@ -1,7 +1,7 @@
 -- What is said of a separator's tree, by its value.
 use Rattle.std.specs.Prelude.{◌≡◌, refl, Bool, true, false, List, ℕ, ◌+◌, eqb}
 use Rattle.std.proofs.Common.{subst}
-use Rattle.layout.specs.declared.Step.{Step}
+use Rattle.layout.specs.Step.{Step}
 use Rattle.grammar.specs.Layout.{Tree}
 use Rattle.store.specs.Fields.{Fields, placed}
 use Rattle.fields.specs.Gives.{Shows, Gives}

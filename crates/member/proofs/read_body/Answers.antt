@@ -8,22 +8,22 @@ use Rattle.member.proofs.read_body.Goals as goal
 pub after_dims-tail-requires : goal.after_dims-tail-requires
 after_dims-tail-requires c =
     let a = c.args in
-    let later = dims_later _ a.member.now (bytes_of _ c.type_inv.member) a.node_list.now a.cell_list.now c.requires.1 c.requires.0 (rw c.in-Of.is at c.dimensions.ensures.dimensions) in
+    let later = dims_later _ a.member.now (bytes_of _ c.type_inv.member) a.node_list.now a.cell_list.now c.requires.1 c.requires.0 (rw c.in-Ok.is at c.dimensions.ensures.dimensions) in
     (c.requires.1.short, omega (arith, later, c.requires.0.1))
 
-pub returns-in-Refused : goal.returns-in-Refused
-returns-in-Refused c =
+pub returns-in-Err : goal.returns-in-Err
+returns-in-Err c =
     let a = c.args in
     let e = c.dimensions.ensures in
-    rw c.refused.ensures (none_stored (checked a.member.now) (no_dims _ a.member.now (bytes_of _ c.type_inv.member) a.node_list.now a.cell_list.now c.requires.1 c.requires.0 (rw c.in-Refused.is at e.dimensions)) e.scratch refl)
+    rw c.refused.ensures (none_stored (checked a.member.now) (no_dims _ a.member.now (bytes_of _ c.type_inv.member) a.node_list.now a.cell_list.now c.requires.1 c.requires.0 (rw c.in-Err.is at e.dimensions)) e.scratch refl)
 
-pub returns-in-Refused-axes : goal.returns-in-Refused-axes
-returns-in-Refused-axes c =
+pub returns-in-Err-axes : goal.returns-in-Err-axes
+returns-in-Err-axes c =
     let a = c.args in
     let e = c.dimensions.ensures in
-    rw c.refused-in-Refused-axes.ensures (none_stored (checked a.member.now) (no_tail _ a.member.now (bytes_of _ c.type_inv.member) a.node_list.now a.cell_list.now c.requires.1 c.requires.0 (rw c.in-Of.is at e.dimensions) c.after_dims-tail.ensures c.in-Refused-axes.is) e.scratch (omega (arith, c)))
+    rw c.refused-in-Err-axes.ensures (none_stored (checked a.member.now) (no_tail _ a.member.now (bytes_of _ c.type_inv.member) a.node_list.now a.cell_list.now c.requires.1 c.requires.0 (rw c.in-Ok.is at e.dimensions) c.after_dims-tail.ensures c.in-Err-axes.is) e.scratch (omega (arith, c)))
 
-pub returns-in-Of-axes : goal.returns-in-Of-axes
-returns-in-Of-axes c =
+pub returns-in-Ok-axes : goal.returns-in-Ok-axes
+returns-in-Ok-axes c =
     let a = c.args in
-    with_tail _ a.member.now (bytes_of _ c.type_inv.member) a.node_list.now a.cell_list.now c.requires.1 c.requires.0 (rw c.in-Of.is at c.dimensions.ensures.dimensions) c.after_dims-tail.ensures c.in-Of-axes.is
+    with_tail _ a.member.now (bytes_of _ c.type_inv.member) a.node_list.now a.cell_list.now c.requires.1 c.requires.0 (rw c.in-Ok.is at c.dimensions.ensures.dimensions) c.after_dims-tail.ensures c.in-Ok-axes.is

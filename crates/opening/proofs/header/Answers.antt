@@ -2,12 +2,12 @@ use Rattle.layout.specs.Steps.Slices.{bytes_of}
 use Rattle.opening.specs.Laws.Header.{header_on, header_off}
 use Rattle.opening.proofs.header.Goals as goal
 
-pub returns-in-Next : goal.returns-in-Next
-returns-in-Next c =
+pub returns-in-Ok : goal.returns-in-Ok
+returns-in-Ok c =
     header_on (bytes_of _ c.type_inv.s) c.start-st.ensures c.peek-version.ensures c.version.ensures
-    c.in-Next.is
+    c.in-Ok.is
 
-pub returns-in-Refused : goal.returns-in-Refused
-returns-in-Refused c =
+pub returns-in-Err : goal.returns-in-Err
+returns-in-Err c =
     header_off (bytes_of _ c.type_inv.s) c.start-st.ensures c.peek-version.ensures c.version.ensures
-    c.in-Refused.is
+    c.in-Err.is

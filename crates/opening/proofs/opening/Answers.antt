@@ -6,11 +6,11 @@ use Rattle.opening.proofs.opening.Goals as goal
 pub returns-then-s-gt-MEMBER_BYTES : goal.returns-then-s-gt-MEMBER_BYTES
 returns-then-s-gt-MEMBER_BYTES c = longer c.args.s.now (omega arith)
 
-pub returns-in-Refused : goal.returns-in-Refused
-returns-in-Refused c = no_header c.args.s.now (omega arith) (rw c.in-Refused.is at c.header.ensures)
+pub returns-in-Err : goal.returns-in-Err
+returns-in-Err c = no_header c.args.s.now (omega arith) (rw c.in-Err.is at c.header.ensures)
 
-pub returns-in-Refused-front : goal.returns-in-Refused-front
-returns-in-Refused-front c = no_front _ c.args.s.now (bytes_of _ c.type_inv.s) (omega arith) (rw c.in-Of.is at c.header.ensures) c.front.ensures c.in-Refused-front.is
+pub returns-in-Err-front : goal.returns-in-Err-front
+returns-in-Err-front c = no_front _ c.args.s.now (bytes_of _ c.type_inv.s) (omega arith) (rw c.in-Ok.is at c.header.ensures) c.front.ensures c.in-Err-front.is
 
-pub returns-in-Next : goal.returns-in-Next
-returns-in-Next c = opened _ c.args.s.now (bytes_of _ c.type_inv.s) (omega arith) (rw c.in-Of.is at c.header.ensures) c.front.ensures c.in-Next.is
+pub returns-in-Ok : goal.returns-in-Ok
+returns-in-Ok c = opened _ c.args.s.now (bytes_of _ c.type_inv.s) (omega arith) (rw c.in-Ok.is at c.header.ensures) c.front.ensures c.in-Ok.is

@@ -5,7 +5,7 @@ use Rattle.std.proofs.Math.Bool.{true, false}
 use Rattle.std.proofs.lemmas.Bool.{false≢true}
 use Rattle.std.proofs.Common.{arith, ne_eqb}
 use Rattle.sizes.specs.Basics.{among, pick}
-use Rattle.layout.specs.declared.Step.{Step}
+use Rattle.layout.specs.Step.{Step}
 use Rattle.grammar.specs.Layout.{Order, any_bytes, no_zero, suits, string}
 use Rattle.grammar.specs.Numbers.{zero_byte}
 use Rattle.grammar.specs.Part.{part_of}

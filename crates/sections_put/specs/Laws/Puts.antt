@@ -1,7 +1,7 @@
 -- More laws by which writers are proved, over any layout.
 use Rattle.std.specs.Prelude.{◌≡◌, refl, List, [], ◌∷◌, ◌++◌, ℕ, ◌+◌, ◌^◌, ◌<◌, length, replicate}
 use Rattle.std.proofs.Common.{sym, ap, ◌∙◌, length-append}
-use Rattle.layout.specs.declared.Step.{Step}
+use Rattle.layout.specs.Step.{Step}
 use Rattle.grammar.specs.Layout.{Order, any_bytes, no_zero, exact, Layout, string, times, leading, region, All, all_none, all_more, Leads}
 use Rattle.store.specs.Fields.{Text, Fields, bytes_in}
 use Rattle.store.specs.Put.{State, text_verdict, run_verdict, opened, put_all, put}

@@ -9,8 +9,8 @@ use Rattle.std.proofs.Math.ListN.{length, drop}
 use Rattle.std.proofs.lemmas.List.{set_split}
 use Rattle.std.proofs.Math.Dec.{leb}
 use borrow.Author.Tests.{eq-eqb, eqb-true, le-leb, lt-leb, leb-true}
-use Rattle.layout.specs.declared.Step.{Step}
-use Rattle.layout.specs.declared.Step.TheVariants.{Next, Refused}
+use Rattle.layout.specs.Step.{Step}
+use Rattle.std.specs.Prelude.{Ok, Err}
 use Rattle.sizes.specs.Basics.{pick}
 use Rattle.grammar.specs.Layout.{Order, big, Bytes, Content, Test, any_number, the_number, a_bool, passes, exact, Layout, empty, number, string, ◌▸◌, times, region, digits, spell_fill, all_none, all_more, undigits}
 use Rattle.grammar.specs.Numbers.{too_short}
@@ -28,25 +28,25 @@ use Rattle.store.specs.Laws.Lands.{field_long, put_long}
 -- ---- a field, case by case
 
 module _ (xs b : List ℕ) (c : ℕ) {st : Step} where
-  pub stores_kept : {n p : ℕ} → st ≡ Refused n p → Stores c xs b st b st
+  pub stores_kept : {n p : ℕ} → st ≡ Err (n, p) → Stores c xs b st b st
   unfolding put_field
   stores_kept i = record { is = rw i }
 
-  pub stores_refused : {at : ℕ} → eqb c 0 ≡ false → st ≡ Next at → Stores c xs b st b (Refused c at)
+  pub stores_refused : {at : ℕ} → eqb c 0 ≡ false → st ≡ Ok at → Stores c xs b st b (Err (c, at))
   unfolding put_field pick
   stores_refused z i = record { is = rw (i, z) }
 
-  pub stores_short : {at : ℕ} → eqb c 0 ≡ true → st ≡ Next at → length b < at + length xs → Stores c xs b st b (Refused too_short at)
+  pub stores_short : {at : ℕ} → eqb c 0 ≡ true → st ≡ Ok at → length b < at + length xs → Stores c xs b st b (Err (too_short, at))
   unfolding put_field fitted pick
   stores_short {at} z i l = record { is = rw (i, z, lt-leb (at + length xs) (length b) l) }
 
-  pub stores_done : {at : ℕ} {b' : List ℕ} → eqb c 0 ≡ true → st ≡ Next at → at + length xs ≤ length b → b' ≡ stored b at xs
-      → Stores c xs b st b' (Next (at + length xs))
+  pub stores_done : {at : ℕ} {b' : List ℕ} → eqb c 0 ≡ true → st ≡ Ok at → at + length xs ≤ length b → b' ≡ stored b at xs
+      → Stores c xs b st b' (Ok (at + length xs))
   unfolding put_field fitted pick
   stores_done {at} z i l e = record { is = rw (i, z, le-leb (at + length xs) (length b) l, e) }
 
 -- two fields that both fit are one
-pub stores_both : {xs ys b b₁ b₂ : List ℕ} {st q r : Step} (at : ℕ) → st ≡ Next at → at + length xs + length ys ≤ length b
+pub stores_both : {xs ys b b₁ b₂ : List ℕ} {st q r : Step} (at : ℕ) → st ≡ Ok at → at + length xs + length ys ≤ length b
     → Stores 0 xs b st b₁ q → Stores 0 ys b₁ q b₂ r → Stores 0 (xs ++ ys) b st b₂ r
 unfolding put_field fitted pick
 stores_both {xs} {ys} {b} at i l x y =
@@ -57,7 +57,7 @@ stores_both {xs} {ys} {b} at i l x y =
       is = y.is
           ∙ ap (λ (s : State). put_field 0 ys s.0 s.1) x.is
           ∙ rw (i, le-leb (at + length xs) (length b) first, le-leb (at + length xs + length ys) (length (stored b at xs)) second, le-leb (at + length (xs ++ ys)) (length b) all, stored_more b at xs ys l)
-          (ap (λ (n : ℕ). (stored b at (xs ++ ys), Next n)) (rw length-append (omega arith)));
+          (ap (λ (n : ℕ). (stored b at (xs ++ ys), Ok n)) (rw length-append (omega arith)));
     }
 
 -- a field that is refused is refused whatever it holds
@@ -66,8 +66,8 @@ unfolding put_field pick
 stores_other {c} {xs} {ys} {b} {st} z x = record { is = x.is ∙ go st }
   where
     go : (st : Step) → put_field c xs b st ≡ put_field c ys b st
-    go (Next at) = rw z
-    go (Refused n p) = refl
+    go (Ok at) = rw z
+    go (Err (n, p)) = refl
 
 -- ---- one after the other
 
@@ -120,10 +120,10 @@ text_puts {o} {w} {v} {c} {s} {t} {xs} {b} {st} {b'} {r} l e h x = record { is =
 -- the buffer is as it was before the content
 opened_same : (b : List ℕ) (st : Step) → opened b st ≡ (b, (opened b st).1)
 unfolding opened pick
-opened_same b (Refused n p) = refl
-opened_same b (Next at) = go (leb (at + 4) (length b))
+opened_same b (Err (n, p)) = refl
+opened_same b (Ok at) = go (leb (at + 4) (length b))
   where
-    go : (u : Bool) → ◌≡◌ {A = State} (pick u (b, Next (at + 4)) (b, Refused too_short at)) (b, (pick {X = State} u (b, Next (at + 4)) (b, Refused too_short at)).1)
+    go : (u : Bool) → ◌≡◌ {A = State} (pick u (b, Ok (at + 4)) (b, Err (too_short, at))) (b, (pick {X = State} u (b, Ok (at + 4)) (b, Err (too_short, at))).1)
     go true = refl
     go false = refl
 
@@ -216,46 +216,46 @@ pub long_words : {ws b : List ℕ} {st : Step} {b' : List ℕ} {r : Step} → Pu
 long_words {ws} {b} {st} x = ap (λ (y : State). length y.0) x.is ∙ words_long ws (b, st)
 
 -- one by one: the word at i is stored; or does not fit; or there is none
-pub words_kept : (ws b : List ℕ) (n p : ℕ) → put_words ws (b, Refused n p) ≡ (b, Refused n p)
+pub words_kept : (ws b : List ℕ) (n p : ℕ) → put_words ws (b, Err (n, p)) ≡ (b, Err (n, p))
 unfolding put_words put_field
 words_kept [] b n p = refl
 words_kept (w ∷ ws) b n p = words_kept ws b n p
 
-word_stored : (w : ℕ) (b : List ℕ) (at : ℕ) → at < length b → put_field 0 (w ∷ []) b (Next at) ≡ (set b at w, Next (at + 1))
+word_stored : (w : ℕ) (b : List ℕ) (at : ℕ) → at < length b → put_field 0 (w ∷ []) b (Ok at) ≡ (set b at w, Ok (at + 1))
 unfolding put_field fitted stored pick
 word_stored w b at h = rw (le-leb (at + 1) (length b) (omega arith), set_split b at w h, add-one at)
 
-word_refused : (w : ℕ) (b : List ℕ) (at : ℕ) → length b ≤ at → put_field 0 (w ∷ []) b (Next at) ≡ (b, Refused too_short at)
+word_refused : (w : ℕ) (b : List ℕ) (at : ℕ) → length b ≤ at → put_field 0 (w ∷ []) b (Ok at) ≡ (b, Err (too_short, at))
 unfolding put_field fitted pick
 word_refused w b at h = rw (lt-leb (at + 1) (length b) (omega arith))
 
 module _ (ws b : List ℕ) (i at : ℕ) where
-  pub words_next : i < length ws → at < length b → put_words (drop i ws) (b, Next at) ≡ put_words (drop (i + 1) ws) (set b at (get_or ws i 0), Next (at + 1))
+  pub words_next : i < length ws → at < length b → put_words (drop i ws) (b, Ok at) ≡ put_words (drop (i + 1) ws) (set b at (get_or ws i 0), Ok (at + 1))
   unfolding put_words
   words_next h l = rw (drop-cons ws i 0 h, add-one i) (ap (put_words (drop (suc i) ws)) (word_stored (get_or ws i 0) b at l))
 
-  pub words_short : i < length ws → length b ≤ at → put_words (drop i ws) (b, Next at) ≡ (b, Refused too_short at)
+  pub words_short : i < length ws → length b ≤ at → put_words (drop i ws) (b, Ok at) ≡ (b, Err (too_short, at))
   unfolding put_words
   words_short h l =
       rw (drop-cons ws i 0 h) (ap (put_words (drop (suc i) ws)) (word_refused (get_or ws i 0) b at l) ∙ words_kept (drop (suc i) ws) b too_short at)
 
-  pub words_end : length ws ≤ i → put_words (drop i ws) (b, Next at) ≡ (b, Next at)
+  pub words_end : length ws ≤ i → put_words (drop i ws) (b, Ok at) ≡ (b, Ok at)
   unfolding put_words
   words_end h = rw (drop_of_length-le ws {i = i} h)
 
 -- where they all fit
-words_land : (ws b : List ℕ) (at : ℕ) → at + length ws ≤ length b → put_words ws (b, Next at) ≡ (stored b at ws, Next (at + length ws))
+words_land : (ws b : List ℕ) (at : ℕ) → at + length ws ≤ length b → put_words ws (b, Ok at) ≡ (stored b at ws, Ok (at + length ws))
 unfolding put_words put_field fitted pick
-words_land [] b at h = rw stored_none (ap (λ (n : ℕ). (b, Next n)) (omega arith))
+words_land [] b at h = rw stored_none (ap (λ (n : ℕ). (b, Ok n)) (omega arith))
 words_land (w ∷ ws) b at h =
     let one : at + 1 ≤ length b = omega arith in
     let b₁ : List ℕ = stored b at (w ∷ []) in
     let rest : at + 1 + length ws ≤ length b₁ = rw (stored_length b at (w ∷ []) one) (omega arith) in
-    rw (le-leb (at + 1) (length b) one) (words_land ws b₁ (at + 1) rest ∙ rw (stored_more b at (w ∷ []) ws (omega arith)) (ap (λ (n : ℕ). (stored b at (w ∷ ws), Next n)) (omega arith)))
+    rw (le-leb (at + 1) (length b) one) (words_land ws b₁ (at + 1) rest ∙ rw (stored_more b at (w ∷ []) ws (omega arith)) (ap (λ (n : ℕ). (stored b at (w ∷ ws), Ok n)) (omega arith)))
 
 -- at the front of an area
 module _ (n : ℕ) (xs b : List ℕ) where
-  pub with_room : {b' : List ℕ} {r : Step} → length xs ≡ n → leb n (length b) ≡ true → PutsWords xs b (Next 0) b' r → AtFront n xs b n b'
+  pub with_room : {b' : List ℕ} {r : Step} → length xs ≡ n → leb n (length b) ≡ true → PutsWords xs b (Ok 0) b' r → AtFront n xs b n b'
   unfolding pick stored
   with_room e t x =
       let p : 0 + length xs ≡ n = zero-add (length xs) ∙ e in
@@ -269,43 +269,43 @@ module _ (n : ℕ) (xs b : List ℕ) where
 -- ---- the count of a region, case by case
 
 -- stored or refused as a field
-count_field : (o : Order) (b : List ℕ) {first : Step} (at n : ℕ) → first ≡ Next at
-    → put_field 0 (digits o 4 n) b first ≡ pick (leb (at + 4) (length b)) (stored b at (digits o 4 n), Next (at + 4)) (b, Refused too_short at)
+count_field : (o : Order) (b : List ℕ) {first : Step} (at n : ℕ) → first ≡ Ok at
+    → put_field 0 (digits o 4 n) b first ≡ pick (leb (at + 4) (length b)) (stored b at (digits o 4 n), Ok (at + 4)) (b, Err (too_short, at))
 unfolding put_field fitted pick
 count_field o b at n i =
-    rw i (ap (λ (m : ℕ). pick {X = State} (leb (at + m) (length b)) (stored b at (digits o 4 n), Next (at + m)) (b, Refused too_short at)) (digits_length o 4 n))
+    rw i (ap (λ (m : ℕ). pick {X = State} (leb (at + m) (length b)) (stored b at (digits o 4 n), Ok (at + m)) (b, Err (too_short, at))) (digits_length o 4 n))
 
 module _ (o : Order) (b : List ℕ) {first last : Step} where
-  pub closes_nothing : {n p : ℕ} → first ≡ Refused n p → Closes o first b last b last
+  pub closes_nothing : {n p : ℕ} → first ≡ Err (n, p) → Closes o first b last b last
   unfolding closed
   closes_nothing i = record { is = rw i }
 
-  pub closes_kept : {at n p : ℕ} → first ≡ Next at → last ≡ Refused n p → Closes o first b last b last
+  pub closes_kept : {at n p : ℕ} → first ≡ Ok at → last ≡ Err (n, p) → Closes o first b last b last
   unfolding closed
   closes_kept i j = record { is = rw (i, j) }
 
-  pub closes_short : (at p n : ℕ) {b' : List ℕ} {r q : ℕ} → first ≡ Next at → last ≡ Next p
-      → Stores 0 (digits o 4 n) b first b' (Refused r q) → Closes o first b last b' (Refused r q)
+  pub closes_short : (at p n : ℕ) {b' : List ℕ} {r q : ℕ} → first ≡ Ok at → last ≡ Ok p
+      → Stores 0 (digits o 4 n) b first b' (Err (r, q)) → Closes o first b last b' (Err (r, q))
   unfolding closed pick
   closes_short at p n {b'} {r} {q} i j x = go (leb (at + 4) (length b)) refl (x.is ∙ count_field o b at n i)
     where
       go : (u : Bool) → leb (at + 4) (length b) ≡ u
-          → ◌≡◌ {A = State} (b', Refused r q) (pick u (stored b at (digits o 4 n), Next (at + 4)) (b, Refused too_short at)) → Closes o first b last b' (Refused r q)
+          → ◌≡◌ {A = State} (b', Err (r, q)) (pick u (stored b at (digits o 4 n), Ok (at + 4)) (b, Err (too_short, at))) → Closes o first b last b' (Err (r, q))
       go true e y =
-          let y' : Refused r q ≡ Next (at + 4) = ap (λ (z : State). z.1) y in
+          let y' : Err (r, q) ≡ Ok (at + 4) = ap (λ (z : State). z.1) y in
           absurd (let z : ◌≡◌ {A = ℕ} 0 1 = cc in omega arith)
       go false e y = record { is = y ∙ rw (i, j, e) }
 
-  pub closes_done : (at p n : ℕ) {b' : List ℕ} {q : ℕ} → first ≡ Next at → last ≡ Next p → n ≡ p - (at + 4)
-      → Stores 0 (digits o 4 n) b first b' (Next q) → Closes o first b last b' (Next p)
+  pub closes_done : (at p n : ℕ) {b' : List ℕ} {q : ℕ} → first ≡ Ok at → last ≡ Ok p → n ≡ p - (at + 4)
+      → Stores 0 (digits o 4 n) b first b' (Ok q) → Closes o first b last b' (Ok p)
   unfolding closed pick
   closes_done at p n {b'} {q} i j k x = go (leb (at + 4) (length b)) refl (x.is ∙ count_field o b at n i)
     where
       go : (u : Bool) → leb (at + 4) (length b) ≡ u
-          → ◌≡◌ {A = State} (b', Next q) (pick u (stored b at (digits o 4 n), Next (at + 4)) (b, Refused too_short at)) → Closes o first b last b' (Next p)
+          → ◌≡◌ {A = State} (b', Ok q) (pick u (stored b at (digits o 4 n), Ok (at + 4)) (b, Err (too_short, at))) → Closes o first b last b' (Ok p)
       go true e y =
           let same : b' ≡ stored b at (digits o 4 n) = ap (λ (z : State). z.0) y in
           record { is = rw (i, j, e, ← k, same) }
       go false e y =
-          let y' : Next q ≡ Refused too_short at = ap (λ (z : State). z.1) y in
+          let y' : Ok q ≡ Err (too_short, at) = ap (λ (z : State). z.1) y in
           absurd (let z : ◌≡◌ {A = ℕ} 0 1 = cc in omega arith)

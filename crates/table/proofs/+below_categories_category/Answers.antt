@@ -22,12 +22,12 @@ categories-loop-i-init t c = (refl, (walking _) _ _ _ _ _ _ _ _ (omega arith))
 pub categories-category-requires : goal.categories-category-requires
 categories-category-requires t c = (omega arith, (omega arith, c.loop-i.invariant.1.few))
 
-pub categories-returns-in-Refused : goal.categories-returns-in-Refused
-categories-returns-in-Refused t c = walks_off _ _ _ _ _ _ _ _ _ c.loop-i.invariant.1 (omega arith) (rw c.in-Refused.is at c.category.ensures)
+pub categories-returns-in-Err : goal.categories-returns-in-Err
+categories-returns-in-Err t c = walks_off _ _ _ _ _ _ _ _ _ c.loop-i.invariant.1 (omega arith) (rw c.in-Err.is at c.category.ensures)
 
 pub categories-loop-i-preserved : goal.categories-loop-i-preserved
 categories-loop-i-preserved t c =
-    (omega arith, walks_on _ _ _ _ _ _ _ _ _ c.loop-i.invariant.1 (omega arith) (rw c.in-On.is at c.category.ensures))
+    (omega arith, walks_on _ _ _ _ _ _ _ _ _ c.loop-i.invariant.1 (omega arith) (rw c.in-Ok.is at c.category.ensures))
 
 pub categories-returns : goal.categories-returns
 categories-returns t c = walks_to _ _ _ _ _ _ _ _ _ c.loop-i.invariant.1 (omega arith)
@@ -41,24 +41,24 @@ category-returns-then-used-ge-MOST_NODES t c =
     let e : a.depth ≡ suc (a.depth - 1) = omega arith in
     rw e (one_too_many _ (a.depth - 1) a.s.now a.dimension a.parent a.at a.used a.nodes.now c.if-used-ge-MOST_NODES.true)
 
-pub category-returns-in-Refused : goal.category-returns-in-Refused
-category-returns-in-Refused t c =
+pub category-returns-in-Err : goal.category-returns-in-Err
+category-returns-in-Err t c =
     let a = c.args in
     let e : a.depth ≡ suc (a.depth - 1) = omega arith in
-    rw e (no_head _ (a.depth - 1) a.s.now a.dimension a.parent a.at a.used a.nodes.now c.if-used-ge-MOST_NODES.false (head_off _ c.head.ensures c.in-Refused.is))
+    rw e (no_head _ (a.depth - 1) a.s.now a.dimension a.parent a.at a.used a.nodes.now c.if-used-ge-MOST_NODES.false (head_off _ c.head.ensures c.in-Err.is))
 
-pub category-returns-in-Refused-below : goal.category-returns-in-Refused-below
-category-returns-in-Refused-below t c =
+pub category-returns-in-Err-below : goal.category-returns-in-Err-below
+category-returns-in-Err-below t c =
     let a = c.args in
     let e : a.depth ≡ suc (a.depth - 1) = omega arith in
     let small : length a.s.now < 2 ^ 32 = omega arith in
     rw e (with_head _ (a.depth - 1) a.s.now a.dimension a.parent a.at a.used a.nodes.now small c.if-used-ge-MOST_NODES.false (rw c.in-Node.is at c.head.ensures) refl
-    (rw c.in-Refused-below.is at c.below.ensures) not_stored)
+    (rw c.in-Err-below.is at c.below.ensures) not_stored)
 
-pub category-returns-in-On : goal.category-returns-in-On
-category-returns-in-On t c =
+pub category-returns-in-Ok : goal.category-returns-in-Ok
+category-returns-in-Ok t c =
     let a = c.args in
     let e : a.depth ≡ suc (a.depth - 1) = omega arith in
     let small : length a.s.now < 2 ^ 32 = omega arith in
     rw e (with_head _ (a.depth - 1) a.s.now a.dimension a.parent a.at a.used a.nodes.now small c.if-used-ge-MOST_NODES.false (rw c.in-Node.is at c.head.ensures) refl
-    (rw c.in-On.is at c.below.ensures) (stored (rw c.length-many.ensures at c.store_node.ensures)))
+    (rw c.in-Ok.is at c.below.ensures) (stored (rw c.length-many.ensures at c.store_node.ensures)))

@@ -1,8 +1,8 @@
 use native.Mathlib.Omega.{arith}
 use Rattle.table.proofs.end_in.Goals as goal
 
-pub returns-in-Next : goal.returns-in-Next
-returns-in-Next c h = c.in-Next.is
+pub returns-in-Ok : goal.returns-in-Ok
+returns-in-Ok c h = c.in-Ok.is
 
-pub returns-in-Refused : goal.returns-in-Refused
-returns-in-Refused c h = absurd (omega arith)
+pub returns-in-Err : goal.returns-in-Err
+returns-in-Err c h = absurd (omega arith)

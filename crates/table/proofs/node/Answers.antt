@@ -1,14 +1,14 @@
 use Rattle.table.specs.Laws.Heads.{node_of}
 use Rattle.table.proofs.node.Goals as goal
 
-pub returns-in-Refused : goal.returns-in-Refused
+pub returns-in-Err : goal.returns-in-Err
 unfolding node_of
-returns-in-Refused c = simp c.in-Refused.is
+returns-in-Err c = simp c.in-Err.is
 
-pub returns-in-Refused-name : goal.returns-in-Refused-name
+pub returns-in-Err-name : goal.returns-in-Err-name
 unfolding node_of
-returns-in-Refused-name c = simp (c.in-Next.is, c.in-Refused-name.is)
+returns-in-Err-name c = simp (c.in-Ok.is, c.in-Err-name.is)
 
-pub returns-in-Next-name : goal.returns-in-Next-name
+pub returns-in-Ok-name : goal.returns-in-Ok-name
 unfolding node_of
-returns-in-Next-name c = simp (c.in-Next.is, c.in-Next-name.is, ← c.length-size.ensures)
+returns-in-Ok-name c = simp (c.in-Ok.is, c.in-Ok-name.is, ← c.length-size.ensures)

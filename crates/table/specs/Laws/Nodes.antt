@@ -21,8 +21,8 @@ use Rattle.grammar.specs.Laws.Layout.Binds.{bind_assoc, bind_pick}
 use Rattle.layout.specs.Words.{word32}
 use Rattle.layout.specs.Laws.Words.{word_same}
 use Rattle.grammar.specs.Value.{Value}
-use Rattle.table.specs.declared.Walk.{Walk}
-use Rattle.table.specs.declared.Walk.TheVariants.{On, Refused}
+use Rattle.table.specs.Walk.{Walk}
+use Rattle.std.specs.Prelude.{Ok, Err}
 use Rattle.table.specs.declared.NodeStart.TheVariants as start
 use Rattle.grammar.specs.Table.{KindOf, CategoryIn}
 use Rattle.grammar.specs.Records.{Head, below_of, sum, nodes, words_all, node_words_of, tree_words, node_record}
@@ -33,8 +33,8 @@ use Rattle.table.specs.Laws.Heads.{HeadRead, head_there}
 
 -- an answer of the code, and the node words with it
 abbrev pub walked : Walk → List ℕ → Out (ℕ × List ℕ)
-walked (On at used) ns = on at (used, ns)
-walked (Refused r p) ns = off r p
+walked (Ok (at, used)) ns = on at (used, ns)
+walked (Err (r, p)) ns = off r p
 
 -- what the categories below a node gave, and then with the node's own words, once it is known how many nodes there are
 pub data Stored (used : ℕ) (own : ℕ → List ℕ) : Out (ℕ × List ℕ) → Out (ℕ × List ℕ) → Type 0 where

@@ -4,8 +4,8 @@ use Rattle.std.proofs.Common.{ap, ◌∙◌, arith, length-append, take_at, leng
 use borrow.Author.Tests.{le-leb, lt-leb}
 use Rattle.std.proofs.Math.ListN.{length, drop}
 use Rattle.sizes.specs.Sizes.{node_words, cell_words}
-use Rattle.layout.specs.declared.Step.{Step}
-use Rattle.layout.specs.declared.Step.TheVariants.{Next}
+use Rattle.layout.specs.Step.{Step}
+use Rattle.std.specs.Prelude.{Ok, Err}
 use Rattle.sizes.specs.Basics.{pick}
 use Rattle.grammar.specs.Layout.{Bytes, Tree, size}
 use Rattle.grammar.specs.Laws.Layout.Read.{no}
@@ -27,7 +27,7 @@ abbrev pub copied : ℕ → List ℕ → List ℕ → List ℕ
 copied n from to = pick (leb n (length from)) (pick (leb n (length to)) (take n from ++ drop n to) to) to
 
 module _ (n : ℕ) (from to : List ℕ) where
-  pub copied_all : n ≤ length from → n ≤ length to → {to' : List ℕ} {r : Step} → PutsWords (take n from) to (Next 0) to' r → to' ≡ copied n from to
+  pub copied_all : n ≤ length from → n ≤ length to → {to' : List ℕ} {r : Step} → PutsWords (take n from) to (Ok 0) to' r → to' ≡ copied n from to
   unfolding pick
   copied_all h l x =
       let room = le-leb n (length to) l in

@@ -1,7 +1,7 @@
 use Rattle.std.proofs.Common.{arith, ap, refl, eq-eqb, ne_eqb}
 use Rattle.grammar.specs.Value as grammar
 use Rattle.grammar.specs.Layout.{passes}
-use Rattle.layout.specs.declared.Step.TheVariants.{Next}
+use Rattle.std.specs.Prelude.{Ok, Err}
 use Rattle.layout.specs.Reads.{skip}
 use Rattle.layout.specs.Steps.{reads}
 use Rattle.layout.specs.Steps.Chain.{then, from_next, from_refused, in_same, times_none, left_more, left_none, left_kept}
@@ -19,19 +19,19 @@ unfolding grammar.ArgumentOf pick passes
 argument-returns t c = search reads
 
 pub arguments-returns-then-n-eq0 : goal.arguments-returns-then-n-eq0
-arguments-returns-then-n-eq0 t c = from_next c.in-Next.is (times_none _ (omega arith))
+arguments-returns-then-n-eq0 t c = from_next c.in-Ok.is (times_none _ (omega arith))
 
 pub arguments-returns-else-n-eq0 : goal.arguments-returns-else-n-eq0
-arguments-returns-else-n-eq0 t c = from_next c.in-Next.is (in_same c.whole.ensures c.arguments_at.ensures)
+arguments-returns-else-n-eq0 t c = from_next c.in-Ok.is (in_same c.whole.ensures c.arguments_at.ensures)
 
-pub arguments-returns-in-Refused : goal.arguments-returns-in-Refused
-arguments-returns-in-Refused t c = from_refused c.in-Refused.is
+pub arguments-returns-in-Err : goal.arguments-returns-in-Err
+arguments-returns-in-Err t c = from_refused c.in-Err.is
 
 pub arguments_at-loop-k-init : goal.arguments_at-loop-k-init
 arguments_at-loop-k-init t c = λ r h. h
 
-pub arguments_at-returns-in-Refused : goal.arguments_at-returns-in-Refused
-arguments_at-returns-in-Refused t c = left_kept c.loop-k.invariant c.in-Refused.is
+pub arguments_at-returns-in-Err : goal.arguments_at-returns-in-Err
+arguments_at-returns-in-Err t c = left_kept c.loop-k.invariant c.in-Err.is
 
 pub arguments_at-loop-k-smaller : goal.arguments_at-loop-k-smaller
 arguments_at-loop-k-smaller t c = less_room (argument_onward _ _) c.in_default.is c.argument-at.ensures
@@ -93,19 +93,19 @@ value_at-returns-then-depth-eq0 t c = too_deep _ _ c.if-depth-eq0.true c.nothing
 
 pub value_at-returns : goal.value_at-returns
 unfolding skip
-value_at-returns t c = after_zeros _ _ c.if-depth-eq0.false (in_same c.whole.ensures c.raw_value.ensures) (ap Next c.past.ensures)
+value_at-returns t c = after_zeros _ _ c.if-depth-eq0.false (in_same c.whole.ensures c.raw_value.ensures) (ap Ok c.past.ensures)
 
-pub value_in-returns-in-Next : goal.value_in-returns-in-Next
-value_in-returns-in-Next t c = from_next c.in-Next.is c.value_at.ensures
+pub value_in-returns-in-Ok : goal.value_in-returns-in-Ok
+value_in-returns-in-Ok t c = from_next c.in-Ok.is c.value_at.ensures
 
-pub value_in-returns-in-Refused : goal.value_in-returns-in-Refused
-value_in-returns-in-Refused t c = from_refused c.in-Refused.is
+pub value_in-returns-in-Err : goal.value_in-returns-in-Err
+value_in-returns-in-Err t c = from_refused c.in-Err.is
 
 pub values-loop-k-init : goal.values-loop-k-init
 values-loop-k-init t c = λ r h. h
 
-pub values-returns-in-Refused : goal.values-returns-in-Refused
-values-returns-in-Refused t c = left_kept c.loop-k.invariant c.in-Refused.is
+pub values-returns-in-Err : goal.values-returns-in-Err
+values-returns-in-Err t c = left_kept c.loop-k.invariant c.in-Err.is
 
 pub values-loop-k-smaller : goal.values-loop-k-smaller
 values-loop-k-smaller t c = less_room (value_onward _ _) c.in_default.is c.value_in-at.ensures

@@ -2,7 +2,7 @@
 -- the bytes that are left fall.
 use Rattle.std.proofs.Common.{◌+◌, ◌*◌}
 use Rattle.grammar.specs.Value as grammar
-use Rattle.layout.specs.declared.Step.TheVariants.{Next}
+use Rattle.std.specs.Prelude.{Ok, Err}
 use Rattle.layout.specs.Steps.Chain.{Left}
 use Rattle.layout.specs.Steps.Onward.{room}
 use Rattle.value.proofs.+argument_arguments_arguments_at_raw_value_template_value_at_value_in_values.Given as goal
@@ -32,7 +32,7 @@ abbrev pub decreases-raw_value : goal.decreases-raw_value
 decreases-raw_value l = 8 * l.depth + 7
 
 abbrev pub invariant-arguments_at-loop-k : goal.invariant-arguments_at-loop-k
-invariant-arguments_at-loop-k l = Left (grammar.Argument l.version l.depth) l.s l.n (Next l.at-2) l.k l.at
+invariant-arguments_at-loop-k l = Left (grammar.Argument l.version l.depth) l.s l.n (Ok l.at-2) l.k l.at
 
 abbrev pub decreases-arguments_at-loop-k : goal.decreases-arguments_at-loop-k
 decreases-arguments_at-loop-k l = room l.s l.at

@@ -1,8 +1,8 @@
 use Rattle.layout.specs.Steps.Chain.{from_next, from_refused}
 use Rattle.value.proofs.cell_value.Goals as goal
 
-pub returns-in-Next : goal.returns-in-Next
-returns-in-Next c = from_next c.in-Next.is c.cell_value_at.ensures
+pub returns-in-Ok : goal.returns-in-Ok
+returns-in-Ok c = from_next c.in-Ok.is c.cell_value_at.ensures
 
-pub returns-in-Refused : goal.returns-in-Refused
-returns-in-Refused c = from_refused c.in-Refused.is
+pub returns-in-Err : goal.returns-in-Err
+returns-in-Err c = from_refused c.in-Err.is

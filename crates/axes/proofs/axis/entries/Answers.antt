@@ -10,12 +10,12 @@ use Rattle.axes.proofs.axis.entries.Goals as goal
 pub loop-j-init : goal.loop-j-init
 loop-j-init c = (storing entry_kind _ _ _ _ _, refl)
 
-pub returns-in-Refused : goal.returns-in-Refused
-returns-in-Refused c = stores_off entry_kind _ _ _ _ _ c.loop-j.invariant.0 (omega arith) (rw c.in-Refused.is at c.entry.ensures)
+pub returns-in-Err : goal.returns-in-Err
+returns-in-Err c = stores_off entry_kind _ _ _ _ _ c.loop-j.invariant.0 (omega arith) (rw c.in-Err.is at c.entry.ensures)
 
 pub loop-j-preserved : goal.loop-j-preserved
 loop-j-preserved c =
-    let k = rw c.in-Next.is at c.entry.ensures in
+    let k = rw c.in-Ok.is at c.entry.ensures in
     (stores_on entry_kind _ _ _ _ _ c.loop-j.invariant.0 (omega arith) (omega (arith, c.loop-j.invariant.1)) k, ap length (kept_on k).keeps.stored ∙ simp length-sets c.loop-j.invariant.1)
 
 pub returns : goal.returns

@@ -14,27 +14,27 @@ unfolding cells_rule cell_rule
 all-requires c =
     let a = c.args in
     let b = bytes_of _ c.type_inv.s in
-    let end = ends_at most_cells (after (cell_kind a.version) ((cell_of a.version) a.places)) a.s.now b a.at ((AllCells a.version) a.at a.words.now) c.count.ensures c.in-Next.is c.peek-n.ensures in
-    (in_limit most_cells (after (cell_kind a.version) ((cell_of a.version) a.places)) a.s.now b a.at ((AllCells a.version) a.at a.words.now) c.count.ensures c.in-Next.is c.peek-n.ensures, c.requires.0, omega (arith, end), room_after cell_record_sizes (omega (arith, end)) c.requires.1)
+    let end = ends_at most_cells (after (cell_kind a.version) ((cell_of a.version) a.places)) a.s.now b a.at ((AllCells a.version) a.at a.words.now) c.count.ensures c.in-Ok.is c.peek-n.ensures in
+    (in_limit most_cells (after (cell_kind a.version) ((cell_of a.version) a.places)) a.s.now b a.at ((AllCells a.version) a.at a.words.now) c.count.ensures c.in-Ok.is c.peek-n.ensures, c.requires.0, omega (arith, end), room_after cell_record_sizes (omega (arith, end)) c.requires.1)
 
-pub returns-in-Refused : goal.returns-in-Refused
+pub returns-in-Err : goal.returns-in-Err
 unfolding cells_rule cell_rule
-returns-in-Refused c =
+returns-in-Err c =
     let a = c.args in
     let b = bytes_of _ c.type_inv.s in
-    no_number most_cells (after (cell_kind a.version) ((cell_of a.version) a.places)) a.s.now b a.at ((AllCells a.version) a.at a.words.now) c.count.ensures c.in-Refused.is
+    no_number most_cells (after (cell_kind a.version) ((cell_of a.version) a.places)) a.s.now b a.at ((AllCells a.version) a.at a.words.now) c.count.ensures c.in-Err.is
 
-pub returns-in-Refused-all : goal.returns-in-Refused-all
+pub returns-in-Err-all : goal.returns-in-Err-all
 unfolding cells_rule cell_rule
-returns-in-Refused-all c =
+returns-in-Err-all c =
     let a = c.args in
     let b = bytes_of _ c.type_inv.s in
-    no_items most_cells (after (cell_kind a.version) ((cell_of a.version) a.places)) a.s.now b a.at ((AllCells a.version) a.at a.words.now) c.count.ensures c.in-Next.is c.peek-n.ensures (kept_off (rw c.in-Refused-all.is at c.all.ensures))
+    no_items most_cells (after (cell_kind a.version) ((cell_of a.version) a.places)) a.s.now b a.at ((AllCells a.version) a.at a.words.now) c.count.ensures c.in-Ok.is c.peek-n.ensures (kept_off (rw c.in-Err-all.is at c.all.ensures))
 
-pub returns-in-Next-all : goal.returns-in-Next-all
+pub returns-in-Ok-all : goal.returns-in-Ok-all
 unfolding cells_rule cell_rule
-returns-in-Next-all c =
+returns-in-Ok-all c =
     let a = c.args in
     let b = bytes_of _ c.type_inv.s in
-    let r = kept_on (rw c.in-Next-all.is at c.all.ensures) in
-    the_items most_cells (after (cell_kind a.version) ((cell_of a.version) a.places)) a.s.now b a.at ((AllCells a.version) a.at a.words.now) c.count.ensures c.in-Next.is c.peek-n.ensures r.tree r.is ((the_cells a.version) (ends_at most_cells (after (cell_kind a.version) ((cell_of a.version) a.places)) a.s.now b a.at ((AllCells a.version) a.at a.words.now) c.count.ensures c.in-Next.is c.peek-n.ensures) r.keeps)
+    let r = kept_on (rw c.in-Ok-all.is at c.all.ensures) in
+    the_items most_cells (after (cell_kind a.version) ((cell_of a.version) a.places)) a.s.now b a.at ((AllCells a.version) a.at a.words.now) c.count.ensures c.in-Ok.is c.peek-n.ensures r.tree r.is ((the_cells a.version) (ends_at most_cells (after (cell_kind a.version) ((cell_of a.version) a.places)) a.s.now b a.at ((AllCells a.version) a.at a.words.now) c.count.ensures c.in-Ok.is c.peek-n.ensures) r.keeps)

@@ -18,16 +18,16 @@ pub returns-then-good : goal.returns-then-good
 unfolding pick passes refusal
 returns-then-good c =
     let a = c.args in
-    fixed_gives (rw c.in-Next.is (number_here big (length a.text.now) (the_number (undigits big a.text.now)) a.s.now c.in-Next.at (omega arith) true (sym c.if-good.true ∙ c.same-good.ensures)))
+    fixed_gives (rw c.in-Ok.is (number_here big (length a.text.now) (the_number (undigits big a.text.now)) a.s.now c.in-Ok.at (omega arith) true (sym c.if-good.true ∙ c.same-good.ensures)))
 
 pub returns-else-good : goal.returns-else-good
 unfolding pick passes refusal
 returns-else-good c =
     let a = c.args in
-    fixed_gives (rw c.in-Next.is (number_here big (length a.text.now) (the_number (undigits big a.text.now)) a.s.now c.in-Next.at (omega arith) false (sym c.if-good.false ∙ c.same-good.ensures)))
+    fixed_gives (rw c.in-Ok.is (number_here big (length a.text.now) (the_number (undigits big a.text.now)) a.s.now c.in-Ok.at (omega arith) false (sym c.if-good.false ∙ c.same-good.ensures)))
 
 pub returns-else-text-left : goal.returns-else-text-left
 unfolding pick passes refusal
 returns-else-text-left c =
     let a = c.args in
-    fixed_gives (rw c.in-Next.is (number_short big (length a.text.now) (the_number (undigits big a.text.now)) a.s.now c.in-Next.at (omega arith)))
+    fixed_gives (rw c.in-Ok.is (number_short big (length a.text.now) (the_number (undigits big a.text.now)) a.s.now c.in-Ok.at (omega arith)))

@@ -1,7 +1,7 @@
 use Rattle.fields.proofs.read.name_at.Goals as goal
 
-pub returns-in-Of : goal.returns-in-Of
-returns-in-Of c = rw (c.in-Of.is, c.bytes.ensures)
+pub returns-in-Ok : goal.returns-in-Ok
+returns-in-Ok c = rw (c.in-Ok.is, c.bytes.ensures)
 
-pub returns-in-Refused : goal.returns-in-Refused
-returns-in-Refused c = rw c.in-Refused.is
+pub returns-in-Err : goal.returns-in-Err
+returns-in-Err c = rw c.in-Err.is

@@ -1,14 +1,14 @@
 use Rattle.layout.specs.Reads as spec
 use Rattle.regions.proofs.region.close_open.Goals as goal
 
-pub returns-in-Next : goal.returns-in-Next
+pub returns-in-Ok : goal.returns-in-Ok
 unfolding spec.close
-returns-in-Next c = simp (c.in-Of.is, c.in-Next.is)
+returns-in-Ok c = simp (c.in-Ok.is, c.in-Ok.is)
 
-pub returns-in-Refused-i : goal.returns-in-Refused-i
+pub returns-in-Err-i : goal.returns-in-Err-i
 unfolding spec.close
-returns-in-Refused-i c = simp (c.in-Of.is, c.in-Refused-i.is, ← c.place.ensures)
+returns-in-Err-i c = simp (c.in-Ok.is, c.in-Err-i.is, ← c.place.ensures)
 
-pub returns-in-Refused : goal.returns-in-Refused
+pub returns-in-Err : goal.returns-in-Err
 unfolding spec.close
-returns-in-Refused c = simp c.in-Refused.is
+returns-in-Err c = simp c.in-Err.is

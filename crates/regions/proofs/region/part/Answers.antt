@@ -20,19 +20,19 @@ overflow_add-result-then-fits-2 c = omega (arith, leb-true)
 pub returns-then-fits : goal.returns-then-fits
 unfolding spec.part pick
 returns-then-fits c =
-    let p = rw (c.in-Next.is, ← c.width-w.ensures) at c.peek-n.ensures in
-    simp (c.in-Next.is, part_at, ← c.width-w.ensures, ← p, ← c.left-room.ensures, c.if-head.true-raw, c.if-fits.true-raw)
+    let p = rw (c.in-Ok.is, ← c.width-w.ensures) at c.peek-n.ensures in
+    simp (c.in-Ok.is, part_at, ← c.width-w.ensures, ← p, ← c.left-room.ensures, c.if-head.true-raw, c.if-fits.true-raw)
 
 pub returns-then-head : goal.returns-then-head
 unfolding spec.part pick
 returns-then-head c =
-    let p = rw (c.in-Next.is, ← c.width-w.ensures) at c.peek-n.ensures in
-    simp (c.in-Next.is, part_at, ← c.width-w.ensures, ← p, ← c.left-room.ensures, c.if-head.true-raw, c.if-fits.false-raw)
+    let p = rw (c.in-Ok.is, ← c.width-w.ensures) at c.peek-n.ensures in
+    simp (c.in-Ok.is, part_at, ← c.width-w.ensures, ← p, ← c.left-room.ensures, c.if-head.true-raw, c.if-fits.false-raw)
 
 pub returns-else-head : goal.returns-else-head
 unfolding spec.part pick
-returns-else-head c = simp (c.in-Next.is, part_at, ← c.width-w.ensures, ← c.left-room.ensures, c.if-head.false-raw)
+returns-else-head c = simp (c.in-Ok.is, part_at, ← c.width-w.ensures, ← c.left-room.ensures, c.if-head.false-raw)
 
-pub returns-in-Refused : goal.returns-in-Refused
+pub returns-in-Err : goal.returns-in-Err
 unfolding spec.part pick
-returns-in-Refused c = simp c.in-Refused.is
+returns-in-Err c = simp c.in-Err.is

@@ -6,12 +6,12 @@ use Rattle.regions.proofs.region.past.Goals as goal
 
 pub returns-then-zero : goal.returns-then-zero
 unfolding spec.past suits pick
-returns-then-zero c = simp (c.in-Of.is, sym c.bytes.ensures, sym c.has_null-zero.ensures, c.if-zero.true, c.between.ensures)
+returns-then-zero c = simp (c.in-Ok.is, sym c.bytes.ensures, sym c.has_null-zero.ensures, c.if-zero.true, c.between.ensures)
 
 pub returns-else-zero : goal.returns-else-zero
 unfolding spec.past suits pick
-returns-else-zero c = simp (c.in-Of.is, sym c.bytes.ensures, sym c.has_null-zero.ensures, c.if-zero.false)
+returns-else-zero c = simp (c.in-Ok.is, sym c.bytes.ensures, sym c.has_null-zero.ensures, c.if-zero.false)
 
-pub returns-in-Refused : goal.returns-in-Refused
+pub returns-in-Err : goal.returns-in-Err
 unfolding spec.past suits pick
-returns-in-Refused c = simp c.in-Refused.is
+returns-in-Err c = simp c.in-Err.is

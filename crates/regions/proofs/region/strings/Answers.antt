@@ -1,8 +1,8 @@
 use Rattle.layout.specs.Steps.Chain.{left_more, left_none, left_kept}
 use Rattle.regions.proofs.region.strings.Goals as goal
 
-pub returns-in-Refused : goal.returns-in-Refused
-returns-in-Refused c = left_kept c.loop-k.invariant c.in-Refused.is
+pub returns-in-Err : goal.returns-in-Err
+returns-in-Err c = left_kept c.loop-k.invariant c.in-Err.is
 
 pub loop-k-preserved : goal.loop-k-preserved
 loop-k-preserved c = left_more c.loop-k.invariant c.loop-k-test.true c.string-at.ensures

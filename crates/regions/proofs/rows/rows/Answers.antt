@@ -6,23 +6,23 @@ use Rattle.regions.proofs.rows.rows.Goals as goal
 pub overflow_mul-result : goal.overflow_mul-result
 unfolding spec.rows
 overflow_mul-result c =
-    let k = rw c.in-Next.is at c.fitting-k.ensures in
+    let k = rw c.in-Ok.is at c.fitting-k.ensures in
     let a = c.args in
-    omega (arith, rw (← k) at (fitting_room a.size a.n a.s.now c.in-Next.at))
+    omega (arith, rw (← k) at (fitting_room a.size a.n a.s.now c.in-Ok.at))
 
 pub overflow_add-result : goal.overflow_add-result
 unfolding spec.rows
 overflow_add-result c =
-    let k = rw c.in-Next.is at c.fitting-k.ensures in
+    let k = rw c.in-Ok.is at c.fitting-k.ensures in
     let a = c.args in
-    omega (arith, rw (← k) at (fitting_room a.size a.n a.s.now c.in-Next.at))
+    omega (arith, rw (← k) at (fitting_room a.size a.n a.s.now c.in-Ok.at))
 
-pub returns-in-Next : goal.returns-in-Next
+pub returns-in-Ok : goal.returns-in-Ok
 unfolding spec.rows
-returns-in-Next c =
-    let k = rw c.in-Next.is at c.fitting-k.ensures in
-    simp (c.in-Next.is, ← k)
+returns-in-Ok c =
+    let k = rw c.in-Ok.is at c.fitting-k.ensures in
+    simp (c.in-Ok.is, ← k)
 
-pub returns-in-Refused : goal.returns-in-Refused
+pub returns-in-Err : goal.returns-in-Err
 unfolding spec.rows
-returns-in-Refused c = simp c.in-Refused.is
+returns-in-Err c = simp c.in-Err.is

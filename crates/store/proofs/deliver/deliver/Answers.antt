@@ -9,10 +9,10 @@ pub returns-then-fits : goal.returns-then-fits
 returns-then-fits c =
     let n = c.at_most-n in
     let l : length (take n.result c.args.buf.now) ≡ n.result = sym (part_long c.args.buf.now (omega (arith, n.ensures))) in
-    delivers_done _ _ c.in-Next.is n.ensures c.if-fits.true-raw (rw (c.copy_from_slice.ensures.after, take-length, l))
+    delivers_done _ _ c.in-Ok.is n.ensures c.if-fits.true-raw (rw (c.copy_from_slice.ensures.after, take-length, l))
 
 pub returns-else-fits : goal.returns-else-fits
-returns-else-fits c = delivers_short _ _ c.in-Next.is c.at_most-n.ensures c.if-fits.false-raw
+returns-else-fits c = delivers_short _ _ c.in-Ok.is c.at_most-n.ensures c.if-fits.false-raw
 
-pub returns-in-Refused : goal.returns-in-Refused
-returns-in-Refused c = delivers_nothing _ _ c.in-Refused.is
+pub returns-in-Err : goal.returns-in-Err
+returns-in-Err c = delivers_nothing _ _ c.in-Err.is

@@ -12,15 +12,15 @@ returns-in_default c = stores_kept _ _ _ c.in_default.is
 pub returns-then-text-buf : goal.returns-then-text-buf
 returns-then-text-buf c =
     let a = c.args in
-    let at = c.in-Next.at in
-    stores_done a.text.now a.buf.now a.c c.if-good.true-raw c.in-Next.is (omega arith)
+    let at = c.in-Ok.at in
+    stores_done a.text.now a.buf.now a.c c.if-good.true-raw c.in-Ok.is (omega arith)
     (put_all a.buf.now at a.text.now c.copy_from_slice.new.self (omega arith) c.copy_from_slice.ensures.after)
 
 pub returns-else-text-buf : goal.returns-else-text-buf
-returns-else-text-buf c = stores_short c.args.text.now c.args.buf.now c.args.c c.if-good.true-raw c.in-Next.is (omega arith)
+returns-else-text-buf c = stores_short c.args.text.now c.args.buf.now c.args.c c.if-good.true-raw c.in-Ok.is (omega arith)
 
 pub returns-else-at-buf : goal.returns-else-at-buf
-returns-else-at-buf c = stores_short c.args.text.now c.args.buf.now c.args.c c.if-good.true-raw c.in-Next.is (omega arith)
+returns-else-at-buf c = stores_short c.args.text.now c.args.buf.now c.args.c c.if-good.true-raw c.in-Ok.is (omega arith)
 
 pub returns-else-good : goal.returns-else-good
-returns-else-good c = stores_refused _ _ _ c.if-good.false-raw c.in-Next.is
+returns-else-good c = stores_refused _ _ _ c.if-good.false-raw c.in-Ok.is

@@ -24,8 +24,8 @@ pub returns-then-room : goal.returns-then-room
 returns-then-room c =
     let a = c.args in
     let zero = eqb-true a.c 0 c.if-good.true-raw in
-    rw (zero, c.in-Next.is) (stores_both c.in-Next.at refl
-    (full (order a.high) a.w a.text.now a.buf.now c.in-Next.at c.width.result c.width.ensures c.fits-room.ensures c.if-room.true)
+    rw (zero, c.in-Ok.is) (stores_both c.in-Ok.at refl
+    (full (order a.high) a.w a.text.now a.buf.now c.in-Ok.at c.width.result c.width.ensures c.fits-room.ensures c.if-room.true)
     c.number-next.ensures c.raw.ensures)
 
 pub returns-in_default : goal.returns-in_default
@@ -37,8 +37,8 @@ shape_of-buf c = long_field (returns-then-room c)
 pub returns-else-room : goal.returns-else-room
 returns-else-room c =
     let a = c.args in
-    stores_short _ _ _ c.if-good.true-raw c.in-Next.is
-    (too_long (order a.high) a.w a.text.now a.buf.now c.in-Next.at c.width.result c.width.ensures c.fits-room.ensures c.if-room.false)
+    stores_short _ _ _ c.if-good.true-raw c.in-Ok.is
+    (too_long (order a.high) a.w a.text.now a.buf.now c.in-Ok.at c.width.result c.width.ensures c.fits-room.ensures c.if-room.false)
 
 pub returns-else-good : goal.returns-else-good
-returns-else-good c = stores_refused _ _ _ c.if-good.false-raw c.in-Next.is
+returns-else-good c = stores_refused _ _ _ c.if-good.false-raw c.in-Ok.is

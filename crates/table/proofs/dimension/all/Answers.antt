@@ -12,11 +12,11 @@ dimension-requires c =
     let p = c.requires in
     (omega arith, p.1, c.loop-i.invariant.1.few, rw c.loop-i.invariant.0 (room_after node_record_sizes (omega (arith, c.loop-i.invariant.1.bytes)) p.2))
 
-pub returns-in-Refused : goal.returns-in-Refused
-returns-in-Refused c = passes_off _ _ _ _ _ _ c.loop-i.invariant.1 (omega arith) (rw c.in-Refused.is at c.dimension.ensures)
+pub returns-in-Err : goal.returns-in-Err
+returns-in-Err c = passes_off _ _ _ _ _ _ c.loop-i.invariant.1 (omega arith) (rw c.in-Err.is at c.dimension.ensures)
 
 pub loop-i-preserved : goal.loop-i-preserved
-loop-i-preserved c = (omega arith, passes_on _ _ _ _ _ _ c.loop-i.invariant.1 (omega arith) (rw c.in-On.is at c.dimension.ensures))
+loop-i-preserved c = (omega arith, passes_on _ _ _ _ _ _ c.loop-i.invariant.1 (omega arith) (rw c.in-Ok.is at c.dimension.ensures))
 
 pub returns : goal.returns
 returns c = passes_to _ _ _ _ _ _ c.loop-i.invariant.1 (omega arith)

@@ -1,4 +1,4 @@
 use Rattle.table.proofs.dimension.name_length.Goals as goal
 
-pub returns-in-Next : goal.returns-in-Next
-returns-in-Next c = simp c.in-Next.is c.length.ensures
+pub returns-in-Ok : goal.returns-in-Ok
+returns-in-Ok c = simp c.in-Ok.is c.length.ensures

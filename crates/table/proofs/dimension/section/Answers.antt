@@ -13,27 +13,27 @@ unfolding dimensions_rule
 all-requires c =
     let a = c.args in
     let b = bytes_of _ c.type_inv.s in
-    let end = ends_at most_dimensions (next_dim a.version) a.s.now b a.at ((AllDims a.version) a.at a.nodes.now a.dims.now) c.count.ensures c.in-Next.is c.peek-n.ensures in
-    (in_limit most_dimensions (next_dim a.version) a.s.now b a.at ((AllDims a.version) a.at a.nodes.now a.dims.now) c.count.ensures c.in-Next.is c.peek-n.ensures, c.requires.0, room_after node_record_sizes (omega (arith, end)) c.requires.1)
+    let end = ends_at most_dimensions (next_dim a.version) a.s.now b a.at ((AllDims a.version) a.at a.nodes.now a.dims.now) c.count.ensures c.in-Ok.is c.peek-n.ensures in
+    (in_limit most_dimensions (next_dim a.version) a.s.now b a.at ((AllDims a.version) a.at a.nodes.now a.dims.now) c.count.ensures c.in-Ok.is c.peek-n.ensures, c.requires.0, room_after node_record_sizes (omega (arith, end)) c.requires.1)
 
-pub returns-in-Refused : goal.returns-in-Refused
+pub returns-in-Err : goal.returns-in-Err
 unfolding dimensions_rule
-returns-in-Refused c =
+returns-in-Err c =
     let a = c.args in
-    no_number most_dimensions (next_dim a.version) a.s.now (bytes_of _ c.type_inv.s) a.at ((AllDims a.version) a.at a.nodes.now a.dims.now) c.count.ensures c.in-Refused.is
+    no_number most_dimensions (next_dim a.version) a.s.now (bytes_of _ c.type_inv.s) a.at ((AllDims a.version) a.at a.nodes.now a.dims.now) c.count.ensures c.in-Err.is
 
-pub returns-in-Refused-all : goal.returns-in-Refused-all
+pub returns-in-Err-all : goal.returns-in-Err-all
 unfolding dimensions_rule
-returns-in-Refused-all c =
+returns-in-Err-all c =
     let a = c.args in
-    no_items most_dimensions (next_dim a.version) a.s.now (bytes_of _ c.type_inv.s) a.at ((AllDims a.version) a.at a.nodes.now a.dims.now) c.count.ensures c.in-Next.is c.peek-n.ensures
-    (kept_off (rw c.in-Refused-all.is at c.all.ensures))
+    no_items most_dimensions (next_dim a.version) a.s.now (bytes_of _ c.type_inv.s) a.at ((AllDims a.version) a.at a.nodes.now a.dims.now) c.count.ensures c.in-Ok.is c.peek-n.ensures
+    (kept_off (rw c.in-Err-all.is at c.all.ensures))
 
-pub returns-in-On : goal.returns-in-On
+pub returns-in-Ok : goal.returns-in-Ok
 unfolding dimensions_rule
-returns-in-On c =
+returns-in-Ok c =
     let a = c.args in
     let b = bytes_of _ c.type_inv.s in
-    let r = kept_on (rw c.in-On.is at c.all.ensures) in
-    the_items most_dimensions (next_dim a.version) a.s.now b a.at ((AllDims a.version) a.at a.nodes.now a.dims.now) c.count.ensures c.in-Next.is c.peek-n.ensures r.tree r.is
-    ((the_dims a.version) (ends_at most_dimensions (next_dim a.version) a.s.now b a.at ((AllDims a.version) a.at a.nodes.now a.dims.now) c.count.ensures c.in-Next.is c.peek-n.ensures) r.keeps)
+    let r = kept_on (rw c.in-Ok.is at c.all.ensures) in
+    the_items most_dimensions (next_dim a.version) a.s.now b a.at ((AllDims a.version) a.at a.nodes.now a.dims.now) c.count.ensures c.in-Ok.is c.peek-n.ensures r.tree r.is
+    ((the_dims a.version) (ends_at most_dimensions (next_dim a.version) a.s.now b a.at ((AllDims a.version) a.at a.nodes.now a.dims.now) c.count.ensures c.in-Ok.is c.peek-n.ensures) r.keeps)
