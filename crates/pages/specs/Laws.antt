@@ -1,6 +1,6 @@
 -- What a text is converted to by the number of its page.
-use Rattle.std.specs.Prelude.{◌≡◌, List, ℕ, ◌+◌, ◌-◌, ◌≤◌, ◌<◌, ◌⊎◌}
-use Rattle.std.proofs.Common.{inl, inr, arith}
+use Rattle.std.specs.Prelude.{◌≡◌, List, ℕ, ◌-◌, ◌≤◌, ◌<◌}
+use Rattle.std.proofs.Common.{arith}
 use borrow.Author.Tests.{lt-ltb, le-ltb}
 use Rattle.sizes.specs.Basics.{pick}
 use Rattle.convert.specs.Pages.{first_page, page_count}
@@ -29,10 +29,3 @@ page_high page l h = record { is = rw (le-ltb page first_page l) (omega arith); 
 pub numbered : (page : ℕ) → first_page ≤ page → page - first_page < page_count → Numbered page (page - first_page)
 unfolding number_of pick
 numbered page l h = record { is = rw (le-ltb page first_page l) (omega arith); known = λ _ f room u. page_known f page room u l h; unknown = λ m. absurd (omega arith) }
-
-pub known_page : (page k : ℕ) → page ≡ first_page + k → k < page_count → (k < page_count) × Numbered page k
-known_page page k e h = let z : page - first_page ≡ k = omega arith in (h, rw z at (numbered page (omega arith) (omega arith)))
-
-pub other_page : (page : ℕ) → page < first_page ⊎ first_page + page_count ≤ page → Numbered page page_count
-other_page page (inl l) = page_low page l
-other_page page (inr h) = page_high page (omega arith) (omega arith)

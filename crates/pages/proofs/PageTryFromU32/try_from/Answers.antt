@@ -2,7 +2,7 @@ use native.Mathlib.Omega.{arith}
 use mathlib.Core.Path.{refl}
 use Rattle.std.proofs.Common.{inl, inr, ⊎_elim}
 use Rattle.convert.proofs.Laws.Pages.{side}
-use Rattle.pages.specs.Laws.{known_page, other_page}
+use Rattle.pages.proofs.Known.{known_page, other_page}
 use Rattle.pages.proofs.PageTryFromU32.try_from.Goals as goal
 
 pub returns-in-1250 : goal.returns-in-1250
