@@ -15,6 +15,9 @@ use crate::way::{Taken, Way};
 use ascii::{ASCII, run_end};
 use pages::Page;
 
+// the first byte of each character of three bytes that stands in a page
+const LEAD: u8 = 226;
+
 #[derive(Clone, Copy)]
 pub struct FromUtf8 {
     page: Page,
@@ -85,7 +88,7 @@ impl FromUtf8 {
         requires { (224 ≤ a) × (a < 240) }
         ensures { IsBelow pages.no_byte (pages.byte (index self.now.page) (utf8_spec.row_three a b d)) result }
     {
-        if a == 226 && b / 8 == 16 && d / 64 == 2 {
+        if a == LEAD && b / 8 == 16 && d / 64 == 2 {
             return or_none(self.look_up((b - 96) as usize, (d - 128) as usize));
         }
         None
