@@ -32,9 +32,9 @@ category-returns-then-level-eq0 t c =
     elim c.then-level-eq0.branch [
       | category-then-level-eq0-via-then-level-eq0 w ↦ rw w.if-level-eq0.true (too_deep _ 0 _ _ _ _ _ _)
       | category-then-level-eq0-via-else-level-eq0+then-used-ge-MOST_NODES w ↦
-        let a = c.args in
-        let e : a.level.depth ≡ suc (a.level.depth - 1) = omega (arith, w.if-level-eq0.false) in
-        rw e (one_too_many _ (a.level.depth - 1) a.member.bytes.now a.level.dimension a.level.parent a.at a.used a.nodes.now w.if-used-ge-MOST_NODES.true)
+          let a = c.args in
+          let e : a.level.depth ≡ suc (a.level.depth - 1) = omega (arith, w.if-level-eq0.false) in
+          rw e (one_too_many _ (a.level.depth - 1) a.member.bytes.now a.level.dimension a.level.parent a.at a.used a.nodes.now w.if-used-ge-MOST_NODES.true)
     ]
 
 pub category-returns-in_err-start : goal.category-returns-in_err-start

@@ -6,9 +6,6 @@ use Rattle.table.specs.Laws.Heads.{no_name}
 use Rattle.table.specs.Laws.OwnPart.{own_part, own_there}
 use Rattle.table.proofs.head.Goals as goal
 
-pub value-requires : goal.value-requires
-value-requires c = ?
-
 pub returns-in_err-name : goal.returns-in_err-name
 returns-in_err-name c =
     let p = err_from_is_err_and c.from_residual.result c.from_residual.ensures.1 in

@@ -7,9 +7,6 @@ use Rattle.table.specs.Laws.InMember.{in_member}
 use Rattle.table.specs.Laws.Dims.{no_start, no_categories, close_dim}
 use Rattle.table.proofs.dimension.dimension.Goals as goal
 
-pub value-requires : goal.value-requires
-value-requires c = ?
-
 pub returns-in_err-name : goal.returns-in_err-name
 returns-in_err-name c =
     let m = c.args.member in
