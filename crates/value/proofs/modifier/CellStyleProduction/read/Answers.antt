@@ -1,6 +1,6 @@
 use Rattle.grammar.specs.Value.{CellStyle}
 use Rattle.layout.specs.Steps.{reads}
-use Rattle.value.proofs.modifier.cell_style.Goals as goal
+use Rattle.value.proofs.modifier.CellStyleProduction.read.Goals as goal
 
 pub returns : goal.returns
 unfolding CellStyle

@@ -1,6 +1,6 @@
 use Rattle.grammar.specs.Value.{FontStyle}
 use Rattle.layout.specs.Steps.{reads}
-use Rattle.value.proofs.modifier.font_style.Goals as goal
+use Rattle.value.proofs.modifier.FontStyleProduction.read.Goals as goal
 
 pub returns : goal.returns
 unfolding FontStyle
