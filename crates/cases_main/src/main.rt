@@ -21,7 +21,7 @@ fn number(rt: &impl Print, n: u64) -> io::Result<()> {
 // Element i of n, as the number that its bytes spell, the lowest first.
 fn element(rt: &impl Print, s: &[u8], i: usize, n: usize) -> io::Result<()> {
     if i < n {
-        number(rt, peek(s, Step::Next(at_most(i, 7) * 8), LITTLE, 8))?;
+        number(rt, peek(s, Ok(at_most(i, 7) * 8), LITTLE, 8))?;
     }
     Ok(())
 }
@@ -144,11 +144,11 @@ fn stream(
 
 // The stream that starts at a place, and where the next starts.
 fn one(rt: &impl Print, s: &[u8], at: usize) -> io::Result<usize> {
-    let kinds = part(s, Step::Next(at), LITTLE, 1);
-    let Span::Of(_, after) = kinds else {
+    let kinds = part(s, Ok(at), LITTLE, 1);
+    let Ok((_, after)) = kinds else {
         return Ok(s.len());
     };
-    let st = Step::Next(after);
+    let st = Ok(after);
     let bias = peek(s, st, LITTLE, 2);
     let st = any(s, st, 2);
     let cut = peek(s, st, LITTLE, 1);
@@ -158,8 +158,8 @@ fn one(rt: &impl Print, s: &[u8], at: usize) -> io::Result<usize> {
     let data = part(s, st, LITTLE, 2);
     stream(rt, bytes(s, kinds), bias, cut, room, bytes(s, data))?;
     match data {
-        Span::Of(_, end) => Ok(end),
-        Span::Refused(_, _) => Ok(s.len()),
+        Ok((_, end)) => Ok(end),
+        Err(_) => Ok(s.len()),
     }
 }
 

@@ -42,7 +42,7 @@ pub fn start_words(kinds: &[u8], bias: u32, state: &mut [u32], answer: &mut [u32
         let a = s.answer;
         let first = s.state;
         keep(state, a.refusal == 0, first);
-        put(answer, Step::Next(0), &[a.refusal, a.place]);
+        put(answer, Ok(0), &[a.refusal, a.place]);
         SHORT_ANSWER
     } else {
         0
@@ -62,7 +62,7 @@ pub fn feed_words(state: &mut [u32], input: &[u8], output: &mut [u8], answer: &m
         keep(state, a.refusal != BAD_STATE, next);
         put(
             answer,
-            Step::Next(0),
+            Ok(0),
             &[
                 a.refusal,
                 a.place,
@@ -84,7 +84,7 @@ pub fn end_words(state: &[u32], answer: &mut [u32]) -> usize
     if fits {
         let s = load(state);
         let a = finish(s);
-        put(answer, Step::Next(0), &[a.refusal, a.place]);
+        put(answer, Ok(0), &[a.refusal, a.place]);
         SHORT_ANSWER
     } else {
         0

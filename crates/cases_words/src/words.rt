@@ -1,7 +1,7 @@
 // A state from words, and the words of a state.
 ghost use Rattle.std.specs.Prelude.{◌≡◌, true, ◌++◌, min, ◌+◌, ◌≤◌, ◌<◌, length, drop, get_or, leb};
 ghost use Rattle.sizes.specs.Basics.{pick};
-ghost use Rattle.layout.specs.declared.Step.TheVariants.{Next};
+ghost use Rattle.std.specs.Prelude.{Ok, Err};
 ghost use Rattle.store.specs.Puts.{PutsWords};
 ghost use Rattle.cases.specs.Steps.{firsts};
 ghost use Rattle.cases_words.specs.StateWords as spec;
@@ -99,13 +99,13 @@ fn widened(kinds: &[u8; 256]) -> [u32; 256]
 
 // The words of a state, at the front of an area.
 fn save(out: &mut [u32], s: State) -> Step
-    ensures { PutsWords (spec.state_words_of s) out.old (Next 0) out.new result }
+    ensures { PutsWords (spec.state_words_of s) out.old (Ok 0) out.new result }
 {
     let c = s.cursor;
     let kinds = s.kinds;
     let st = put(
         out,
-        Step::Next(0),
+        Ok(0),
         &[
             (s.count % 4294967296) as u32,
             s.bias,

@@ -2,8 +2,8 @@
 use Rattle.std.specs.Prelude.{Bool, true, List, [], ◌∷◌, ℕ, ◌+◌, eqb}
 use Rattle.std.proofs.Math.Bool.{false}
 use Rattle.sizes.specs.Sizes.{below_value}
-use Rattle.layout.specs.declared.Step.{Step}
-use Rattle.layout.specs.declared.Step.TheVariants.{Next, Refused}
+use Rattle.layout.specs.Step.{Step}
+use Rattle.std.specs.Prelude.{Ok, Err}
 use Rattle.sizes.specs.Basics.{pick}
 use Rattle.grammar.specs.Layout.{Layout, ◌▸◌, Tree, size}
 use Rattle.grammar.specs.Conventions.{choose}
@@ -48,8 +48,8 @@ template_form = 7
 
 -- a position; 0 after a refusal
 abbrev pub position_of : Step → ℕ
-position_of (Next at) = at
-position_of (Refused r p) = 0
+position_of (Ok at) = at
+position_of (Err (r, p)) = 0
 
 -- what is said of the fields of a tree, at its place
 abbrev pub said : (g : Layout) → (Fields g → RawValue) → Tree g → ℕ → RawValue

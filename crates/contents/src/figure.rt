@@ -45,8 +45,8 @@ fn figure_of(got: Got) -> Figure
     let next = got.next;
     let x = got.value;
     match next {
-        Step::Next(_) => with_form(x.form, x.bits),
-        Step::Refused(_, _) => no_figure(),
+        Ok(_) => with_form(x.form, x.bits),
+        Err(_) => no_figure(),
     }
 }
 
@@ -58,7 +58,7 @@ fn figure_at(s: &[u8], version: u64) -> Figure
     if n != 0 {
         return no_figure();
     }
-    let start = skip(s, Step::Next(0), 0, cell_zeros(version));
+    let start = skip(s, Ok(0), 0, cell_zeros(version));
     let x = peek(s, start, LITTLE, 1);
     let at = any(s, start, 1);
     let number = x == 1;

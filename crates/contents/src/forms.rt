@@ -176,8 +176,8 @@ pub fn position(st: Step) -> usize
     ensures { result ≡ spec.position_of st }
 {
     match st {
-        Step::Next(at) => at,
-        Step::Refused(_, _) => 0,
+        Ok(at) => at,
+        Err(_) => 0,
     }
 }
 

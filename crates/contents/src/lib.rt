@@ -94,11 +94,11 @@ pub fn read_value(s: &[u8], version: u64) -> Contents
     if n != 0 {
         return refused(n, 0);
     }
-    let start = skip(s, Step::Next(0), 0, cell_zeros(version));
+    let start = skip(s, Ok(0), 0, cell_zeros(version));
     let got = raw_value(s, start, version);
     let next = got.next;
     match next {
-        Step::Next(length) => {
+        Ok(length) => {
             let raw = got.value;
             Contents {
                 refusal: 0,
@@ -108,7 +108,7 @@ pub fn read_value(s: &[u8], version: u64) -> Contents
                 raw,
             }
         }
-        Step::Refused(n, p) => refused(n, p),
+        Err(refusal) => refused(n, p),
     }
 }
 
@@ -156,9 +156,9 @@ pub fn read_argument(s: &[u8], version: u64) -> Argument
     if n != 0 {
         return refused_argument(n, 0);
     }
-    let x = peek(s, Step::Next(0), LITTLE, 4);
-    match argument(s, Step::Next(0), BELOW_VALUE, version) {
-        Step::Next(length) => argument_of(length, x as u32),
-        Step::Refused(n, p) => refused_argument(n, p),
+    let x = peek(s, Ok(0), LITTLE, 4);
+    match argument(s, Ok(0), BELOW_VALUE, version) {
+        Ok(length) => argument_of(length, x as u32),
+        Err(refusal) => refused_argument(n, p),
     }
 }

@@ -1,7 +1,7 @@
 // A number with no modifier and no byte 00 before it, which most cells are: 01 58, its format and its double. It is known by its first two
 // bytes, and its fields have fixed places.
 ghost use Rattle.std.specs.Prelude.{◌≡◌};
-ghost use Rattle.layout.specs.declared.Step.TheVariants.{Next};
+ghost use Rattle.std.specs.Prelude.{Ok, Err};
 ghost use Rattle.grammar.specs.Layout.{little};
 ghost use Rattle.layout.specs.Reads.{peek};
 ghost use Rattle.contents.specs.Laws.Plain as spec;
@@ -20,9 +20,9 @@ pub fn is_plain(s: &[u8], version: u64) -> bool
     if long {
         let read = unread(s, version) == 0;
         if read {
-            let number = peek(s, Step::Next(0), LITTLE, 1) == 1;
+            let number = peek(s, Ok(0), LITTLE, 1) == 1;
             if number {
-                peek(s, Step::Next(1), LITTLE, 1) == 0x58
+                peek(s, Ok(1), LITTLE, 1) == 0x58
             } else {
                 false
             }
@@ -36,13 +36,13 @@ pub fn is_plain(s: &[u8], version: u64) -> bool
 
 // The fields of one.
 pub fn plain_format(s: &[u8]) -> u32
-    ensures { result ≡ peek little 4 s.now (Next 2) }
+    ensures { result ≡ peek little 4 s.now (Ok 2) }
 {
-    peek(s, Step::Next(2), LITTLE, 4) as u32
+    peek(s, Ok(2), LITTLE, 4) as u32
 }
 
 pub fn plain_bits(s: &[u8]) -> u64
-    ensures { result ≡ peek little 8 s.now (Next 6) }
+    ensures { result ≡ peek little 8 s.now (Ok 6) }
 {
-    peek(s, Step::Next(6), LITTLE, 8)
+    peek(s, Ok(6), LITTLE, 8)
 }

@@ -7,11 +7,11 @@ use std::io;
 // The place, or the refusal and the end of the line; and whether to go on.
 fn told(rt: &impl Print, st: Step) -> io::Result<bool> {
     match st {
-        Step::Next(at) => {
+        Ok(at) => {
             print!(rt; " {at}")?;
             Ok(true)
         }
-        Step::Refused(number, place) => {
+        Err(refusal) => {
             rt.write_all(b" ")?;
             let mut out = [0u8; LINE_BYTES];
             let k = report::refusal(number, place, &mut out);
@@ -46,7 +46,7 @@ fn later(rt: &impl Print, s: &[u8], st: Step, version: u64) -> io::Result<()> {
 }
 
 pub(crate) fn line(rt: &impl Print, s: &[u8]) -> io::Result<()> {
-    let st = sections::header::start(s, Step::Next(0));
+    let st = sections::header::start(s, Ok(0));
     let version = peek(s, st, LITTLE, 4);
     let st = sections::header::rest(s, sections::header::version(s, st));
     if !told(rt, st)? {

@@ -4,14 +4,14 @@ use Rattle.sizes.specs.Sizes.{most_dimensions, most_cells, most_places, dimensio
 use Rattle.grammar.specs.Layout.{little}
 use Rattle.grammar.specs.RecordWords.{word, sizes}
 use Rattle.grammar.specs.Index.{product}
-use Rattle.layout.specs.declared.Step.TheVariants.{Next}
+use Rattle.std.specs.Prelude.{Ok, Err}
 use Rattle.layout.specs.Reads.{peek}
 use Rattle.answer.specs.declared.Answer.{Answer}
 use Rattle.grid.specs.declared.Grid.{Grid}
 
 -- the version, after 01 00
 abbrev pub version_of : List ℕ → ℕ
-version_of bs = peek little 4 bs (Next 2)
+version_of bs = peek little 4 bs (Ok 2)
 
 -- the places of the dimensions from dimension i on, as far as one too large
 abbrev pub places_of : List ℕ → ℕ → ℕ → ℕ

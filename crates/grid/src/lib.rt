@@ -50,7 +50,7 @@ pub fn grid_of(member: &[u8], a: Answer, dimension: u32) -> Grid
     let i = dimension as usize;
     let next = i + 1;
     Grid {
-        version: peek(member, Step::Next(2), LITTLE, 4),
+        version: peek(member, Ok(2), LITTLE, 4),
         block: places_from(dims, d, i),
         step: places_from(dims, d, next),
         cells: at_most(a.cells as usize, MOST_CELLS),

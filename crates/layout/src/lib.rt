@@ -6,19 +6,13 @@ pub mod number; // numbers and their tests
 pub mod run; // a run of one byte
 pub mod slice; // a part of a slice
 
-// What reading a symbol gives: the next position, or the refusal's number and place.
-#[derive(Clone, Copy)]
-pub enum Step {
-    Next(usize),
-    Refused(u32, usize),
-}
+use refusals::Refusal;
 
-// Where a counted part lies, from its first byte to past its last; or the refusal.
-#[derive(Clone, Copy)]
-pub enum Span {
-    Of(usize, usize),
-    Refused(u32, usize),
-}
+// What reading a symbol gives: the next position, or a refusal.
+pub type Step = Result<usize, Refusal>;
+
+// Where a counted part lies, from its first byte to past its last; or a refusal.
+pub type Span = Result<(usize, usize), Refusal>;
 
 // The order of a number's bytes, as the readers take it: lowest first, or highest first.
 pub const LITTLE: bool = false;

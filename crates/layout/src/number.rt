@@ -3,23 +3,26 @@ ghost use Rattle.std.specs.Prelude.{◌≡◌, [], ◌∷◌, ◌≤◌, ◌-◌
 ghost use Rattle.sizes.specs.Basics.{pick, among};
 ghost use Rattle.grammar.specs.Layout.{little, big, any_number, the_number, a_version, a_bool, at_most, one_of, one_of_but, undigits};
 ghost use Rattle.grammar.specs.Conventions as grammar;
+ghost use Rattle.refusals.specs.Numbers.{number as number_of, by_number};
+ghost use Rattle.refusals.specs.Verdicts.{code};
 ghost use Rattle.layout.specs.Reads as spec;
 ghost use Rattle.layout.specs.Reads.{Reads, order, verdict};
 
 use crate::Step;
+use refusals::{Reason, Refusal, Verdict};
 
 // From a to e; 0 where e lies before a.
 pub fn between(a: usize, e: usize) -> usize
     ensures { result ≡ e - a }
 {
-    if a <= e { e - a } else { 0 }
+    e.saturating_sub(a)
 }
 
 // x, as far as limit.
 pub fn at_most(x: usize, limit: usize) -> usize
     ensures { result ≡ min x limit }
 {
-    if x <= limit { x } else { limit }
+    x.min(limit)
 }
 
 // How many bytes there are from a position on.
@@ -49,10 +52,8 @@ fn high_first(s: &[u8], at: usize, w: usize) -> u64
     ensures { result ≡ undigits big (take w (drop at s.now)) }
 {
     let mut v: u64 = 0;
-    let mut i = 0;
-    while i < w {
+    for i in 0..w {
         v = v * 256 + s[at + i] as u64;
-        i += 1;
     }
     v
 }
@@ -66,9 +67,9 @@ pub fn width(w: usize) -> usize
 
 fn number(s: &[u8], st: Step, high: bool, w: usize) -> u64
     requires { w ≤ 8 }
-    ensures { result ≡ spec.peek (order high) w s.now st }
+    ensures { result ≡ spec.peek (order high) w s.now (by_number st) }
 {
-    let Step::Next(at) = st else {
+    let Ok(at) = st else {
         return 0;
     };
     let fits = w <= left(s, at);
@@ -85,90 +86,84 @@ fn number(s: &[u8], st: Step, high: bool, w: usize) -> u64
 
 // The number of w bytes that comes next; 0 where there is none.
 pub fn peek(s: &[u8], st: Step, high: bool, w: usize) -> u64
-    ensures { result ≡ spec.peek (order high) (min w 8) s.now st }
+    ensures { result ≡ spec.peek (order high) (min w 8) s.now (by_number st) }
 {
     number(s, st, high, width(w))
 }
 
-// Past w bytes, which get the refusal c unless it is 0. Each arm returns: where their values meet first, the compiler computes the next
+// Past w bytes, which get the refusal of their verdict. Each arm returns: where their values meet first, the compiler computes the next
 // position from the tests without a branch, and a field is not read before the tests of those before it are done.
-pub fn field(s: &[u8], st: Step, w: usize, c: u32) -> Step
-    ensures { result ≡ spec.field w c s.now st }
+pub fn field(s: &[u8], st: Step, w: usize, verdict: Verdict) -> Step
+    ensures { by_number result ≡ spec.field w (code verdict) s.now (by_number st) }
 {
-    let Step::Next(at) = st else {
-        return st;
-    };
+    let at = st?;
     let inside = w <= left(s, at);
     if inside {
-        let good = c == 0;
-        if good {
-            return Step::Next(at + w);
-        }
-        return Step::Refused(c, at);
+        return match verdict {
+            Ok(()) => Ok(at + w),
+            Err(reason) => Err(Refusal { reason, place: at }),
+        };
     }
-    Step::Refused(2, at)
+    Err(Refusal {
+        reason: Reason::DoesNotFit,
+        place: at,
+    })
 }
 
 // ---- verdicts
 
-fn only(v: u64, n: u64) -> u32
-    ensures { result ≡ verdict (the_number n) v }
+// Fine where a test is passed; else for that reason.
+pub fn unless(passed: bool, reason: Reason) -> Verdict
+    ensures { code result ≡ pick passed 0 (number_of reason) }
 {
-    let same = v == n;
-    if same { 0 } else { 3 }
+    if passed { Ok(()) } else { Err(reason) }
 }
 
-fn flag(v: u64) -> u32
-    ensures { result ≡ verdict a_bool v }
+fn only(v: u64, n: u64) -> Verdict
+    ensures { code result ≡ verdict (the_number n) v }
 {
-    let small = v <= 1;
-    if small { 0 } else { 5 }
+    unless(v == n, Reason::FixedDiffers)
 }
 
-pub fn limit(v: u64, n: u64) -> u32
-    ensures { result ≡ verdict (at_most n) v }
+fn flag(v: u64) -> Verdict
+    ensures { code result ≡ verdict a_bool v }
 {
-    let small = v <= n;
-    if small { 0 } else { 7 }
+    unless(v <= 1, Reason::NotBool)
 }
 
-// 0 for one of two numbers, and the refusal for any other.
-pub fn unless_either(v: u64, a: u64, b: u64, refusal: u32) -> u32
-    ensures { result ≡ pick (among v (a ∷ b ∷ [])) 0 refusal }
+pub fn limit(v: u64, n: u64) -> Verdict
+    ensures { code result ≡ verdict (at_most n) v }
 {
-    let first = v == a;
-    let second = v == b;
-    if first {
-        0
-    } else if second {
-        0
-    } else {
-        refusal
-    }
+    unless(v <= n, Reason::Limit)
 }
 
-fn known(v: u64, a: u64, b: u64) -> u32
-    ensures { result ≡ verdict (a_version (a ∷ b ∷ [])) v }
+// Fine for one of two numbers, and that reason for any other.
+pub fn unless_either(v: u64, a: u64, b: u64, reason: Reason) -> Verdict
+    ensures { code result ≡ pick (among v (a ∷ b ∷ [])) 0 (number_of reason) }
 {
-    unless_either(v, a, b, 4)
+    unless(v == a || v == b, reason)
 }
 
-fn either(v: u64, a: u64, b: u64) -> u32
-    ensures { result ≡ verdict (one_of (a ∷ b ∷ [])) v }
+fn known(v: u64, a: u64, b: u64) -> Verdict
+    ensures { code result ≡ verdict (a_version (a ∷ b ∷ [])) v }
 {
-    unless_either(v, a, b, 3)
+    unless_either(v, a, b, Reason::Version)
+}
+
+fn either(v: u64, a: u64, b: u64) -> Verdict
+    ensures { code result ≡ verdict (one_of (a ∷ b ∷ [])) v }
+{
+    unless_either(v, a, b, Reason::FixedDiffers)
 }
 
 // The verdict on one of two numbers, of which the first is left out in other versions.
-fn either_but(v: u64, a: u64, b: u64, without: bool) -> u32
-    ensures { result ≡ verdict (one_of_but (a ∷ b ∷ []) (pick without (a ∷ []) [])) v }
+fn either_but(v: u64, a: u64, b: u64, without: bool) -> Verdict
+    ensures { code result ≡ verdict (one_of_but (a ∷ b ∷ []) (pick without (a ∷ []) [])) v }
 {
-    let first = v == a;
-    if first {
-        return if without { 4 } else { 0 };
+    if v == a {
+        return unless(!without, Reason::Version);
     }
-    let second = v == b;
-    if second { 0 } else { 3 }
+    unless(v == b, Reason::FixedDiffers)
 }
 
 // ---- fields
@@ -178,7 +173,7 @@ pub fn any(s: &[u8], st: Step, w: usize) -> Step
     ensures low { Reads (grammar.field little w any_number) s.now st result }
     ensures high { Reads (grammar.field big w any_number) s.now st result }
 {
-    field(s, st, w, 0)
+    field(s, st, w, Ok(()))
 }
 
 // The number n in w bytes.

@@ -1,6 +1,7 @@
 // A run of one byte.
 ghost use Rattle.std.specs.Prelude.{◌≡◌, ◌+◌, drop};
 ghost use Rattle.grammar.specs.Laws.Layout.Read.{lead};
+ghost use Rattle.refusals.specs.Numbers.{by_number};
 ghost use Rattle.layout.specs.Reads as spec;
 
 use crate::Step;
@@ -26,10 +27,8 @@ pub fn past(s: &[u8], at: usize, b: u8, n: usize) -> usize
 
 // The same after a step.
 pub fn skip(s: &[u8], st: Step, b: u8, n: usize) -> Step
-    ensures { result ≡ spec.skip b n s.now st }
+    ensures { by_number result ≡ spec.skip b n s.now (by_number st) }
 {
-    match st {
-        Step::Next(at) => Step::Next(past(s, at, b, n)),
-        Step::Refused(r, p) => Step::Refused(r, p),
-    }
+    let at = st?;
+    Ok(past(s, at, b, n))
 }

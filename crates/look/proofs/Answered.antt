@@ -5,27 +5,27 @@ use Prim.Native.Nat.{ℕ, ◌≤◌, ◌<◌}
 use native.Mathlib.Omega.{arith}
 use lib.ListN.{length, drop_of_length-le}
 use lib.Seq.{drop-cons}
-use Rattle.layout.specs.declared.Step.{Step}
-use Rattle.layout.specs.declared.Step.TheVariants.{Next, Refused}
+use Rattle.layout.specs.Step.{Step}
+use Rattle.std.specs.Prelude.{Ok, Err}
 use Rattle.grammar.specs.Layout.{Tree, Bytes}
 use Rattle.grammar.specs.Laws.Layout.Read.{Got, got, no, read}
-use Rattle.layout.specs.Reads.{forget, step, chain, Reads}
+use Rattle.layout.specs.Reads.{forget, step, chain, ReadsTo}
 use Rattle.store.specs.Fields.{placed}
-use Rattle.fields.specs.Gives.{Shows}
+use Rattle.fields.specs.Gives.{ShowsTo}
 use Rattle.look.specs.declared.Look.{Look}
 use Rattle.look.specs.Look.{TableLook}
 use Rattle.look.specs.Values as values
 use Rattle.look.specs.Answers.{look_of, accepted, refused, expected}
 
-pub when_refused : {s : List ℕ} {r : Step} {n p : ℕ} → Reads TableLook s (Next 0) r → r ≡ Refused n p → refused n p ≡ expected (read TableLook s 0)
+pub when_refused : {s : List ℕ} {r : Step} {n p : ℕ} → ReadsTo TableLook s (Ok 0) r → r ≡ Err (n, p) → refused n p ≡ expected (read TableLook s 0)
 unfolding step chain expected
 when_refused {s} {r} {n} {p} h e = go (read TableLook s 0) (sym h.is ∙ e)
   where
-    go : (x : Got (Tree TableLook)) → forget x ≡ Refused n p → refused n p ≡ expected x
+    go : (x : Got (Tree TableLook)) → forget x ≡ Err (n, p) → refused n p ≡ expected x
     go (got t rest q) i = absurd (let z : ◌≡◌ {A = ℕ} 0 1 = cc in omega arith)
     go (no m q) i = let a : n ≡ m = cc in let b : p ≡ q = cc in rw (a, b)
 
-module _ {s : List ℕ} {r : Step} (x : Look) (g : Shows TableLook (λ t at. look_of (placed TableLook t at)) s (Next 0) r (values.fields x)) (bs : Bytes s) {p : ℕ} (e : r ≡ Next p) where
+module _ {s : List ℕ} {r : Step} (x : Look) (g : ShowsTo TableLook (λ t at. look_of (placed TableLook t at)) s (Ok 0) r (values.fields x)) (bs : Bytes s) {p : ℕ} (e : r ≡ Ok p) where
   pub when_left : p < length s → refused 11 p ≡ expected (read TableLook s 0)
   unfolding expected
   when_left h =

@@ -8,8 +8,8 @@ use Rattle.look.specs.declared.Separator.TheVariants.{NotDrawn, Drawn}
 use Rattle.look.specs.declared.Frame.{Frame}
 use Rattle.look.specs.declared.Continuation.TheVariants.{Default}
 use Rattle.look.specs.declared.V2Styles.{V2Styles}
-use Rattle.look.specs.declared.Answer.{Answer}
-use Rattle.look.specs.declared.Answer.TheVariants.{Accepted, Refused}
+use Rattle.look.specs.Read.{Answer}
+use Rattle.std.specs.Prelude.{Ok, Err}
 use Rattle.look.specs.Look as grammar
 use Rattle.look.specs.Look.{TableLook, TableLook02}
 use Rattle.look.specs.Values as values
@@ -54,8 +54,8 @@ pub data Outcome : Type 0 where
 
 -- what an answer of the code says
 abbrev pub outcome : Answer → Outcome
-outcome (Accepted x) = accepted (values.fields x)
-outcome (Refused n p) = refused n p
+outcome (Ok x) = accepted (values.fields x)
+outcome (Err (n, p)) = refused n p
 
 -- what a reading says: "front to back, then 11"
 unfoldable pub expected : Got (Tree TableLook) → Outcome

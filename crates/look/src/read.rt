@@ -184,17 +184,17 @@ fn table_look(s: &[u8], st: Step) -> GotLook
 pub fn read_look(file: &[u8]) -> Answer
     ensures { (outcome result ≡ expected (read grammar.TableLook file.now 0)) × Bytes file.now }
 {
-    let got = table_look(file, Step::Next(0));
+    let got = table_look(file, Ok(0));
     let look = got.value;
     let next = got.next;
     match next {
-        Step::Next(p) => {
+        Ok(p) => {
             if p < file.len() {
-                Answer::Refused(11, p)
+                Err(Refusal { reason: Reason::BytesLeft, place: p })
             } else {
-                Answer::Accepted(look)
+                Ok(look)
             }
         }
-        Step::Refused(n, p) => Answer::Refused(n, p),
+        Err(refusal) => Err(refusal),
     }
 }

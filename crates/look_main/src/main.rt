@@ -18,15 +18,15 @@ fn refused(rt: &impl Print, n: u32, place: usize) -> io::Result<()> {
 fn rewrite(rt: &impl Print, file: &[u8]) -> io::Result<()> {
     let answer = look::read::read_look(file);
     match answer {
-        Answer::Accepted(look) => {
+        Ok(look) => {
             let mut out = [0u8; LONGEST_LOOK];
             let written = look_write::write_look(look, file, &mut out);
             match written {
-                Written::Length(n) => rt.write_all(bytes(&out, Span::Of(0, n))),
-                Written::Refused(n, p) => refused(rt, n, p),
+                Ok(n) => rt.write_all(bytes(&out, Ok((0, n)))),
+                Err(refusal) => refused(rt, n, p),
             }
         }
-        Answer::Refused(n, p) => refused(rt, n, p),
+        Err(refusal) => refused(rt, n, p),
     }
 }
 

@@ -3,7 +3,7 @@ use mathlib.Core.Path.{◌≡◌, sym}
 use mathlib.Core.Bool.{Bool, true, false, false≢true}
 use mathlib.Core.List.{List}
 use Prim.Native.Nat.{ℕ}
-use Rattle.layout.specs.declared.Step.{Step}
+use Rattle.layout.specs.Step.{Step}
 use Rattle.layout.specs.Steps.Chain.{empty_of}
 use Rattle.look_rules.specs.StyleRule.{V2StylesRule, V2StylesIfRule}
 use Rattle.look_rules.specs.Checks.{Checks}

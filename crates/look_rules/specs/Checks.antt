@@ -1,7 +1,7 @@
 -- What the contract of a walk by a rule says.
 use Rattle.std.specs.Prelude.{◌≡◌, Bool, List, ℕ, drop}
-use Rattle.layout.specs.declared.Step.{Step}
-use Rattle.layout.specs.declared.Step.TheVariants.{Refused}
+use Rattle.layout.specs.Step.{Step}
+use Rattle.std.specs.Prelude.{Ok, Err}
 use Rattle.sizes.specs.Basics.{pick}
 use Rattle.grammar.specs.Layout.{Layout, Bytes}
 use Rattle.grammar.specs.Rule.{Rule}
@@ -15,4 +15,4 @@ pub record Checks {g : Layout} (u : Rule g) (s : List ℕ) (st r : Step) : Type 
 -- r, which was read after st; or the refusal n there, where the test says so
 unfoldable pub told : Step → Step → Bool → ℕ → Step
 unfolding pick chain
-told st r good n = pick good r (chain st (λ at. chain r (λ _. Refused n at)))
+told st r good n = pick good r (chain st (λ at. chain r (λ _. Err (n, at))))

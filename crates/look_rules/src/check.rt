@@ -61,5 +61,5 @@ fn table_look(s: &[u8], st: Step) -> Step
 pub fn check_styles(file: &[u8]) -> Step
     ensures { (result ≡ forget (check style_rule file.now 0)) × Bytes file.now }
 {
-    table_look(file, Step::Next(0))
+    table_look(file, Ok(0))
 }

@@ -18,10 +18,10 @@ pub fn told(st: Step, next: Step, good: bool, n: u32) -> Step
         return next;
     }
     match st {
-        Step::Next(at) => match next {
-            Step::Next(_) => Step::Refused(n, at),
-            Step::Refused(m, p) => Step::Refused(m, p),
+        Ok(at) => match next {
+            Ok(_) => Err(TODO(n, at)),
+            Err(refusal) => Err(refusal),
         },
-        Step::Refused(first, p) => Step::Refused(first, p),
+        Err(refusal) => Err(refusal),
     }
 }

@@ -5,22 +5,20 @@ use Prim.Native.Nat.{ℕ, ◌≤◌}
 use native.Mathlib.Nat.{zero-add}
 use native.Mathlib.Omega.{arith}
 use lib.ListN.{length}
-use Rattle.layout.specs.declared.Step.{Step}
-use Rattle.layout.specs.declared.Step.TheVariants.{Next, Refused}
+use Rattle.layout.specs.Step.{Step}
+use Rattle.std.specs.Prelude.{Ok, Err}
 use Rattle.grammar.specs.Layout.{Bytes}
 use Rattle.grammar.specs.Laws.Layout.Read.{read}
 use Rattle.grammar.specs.Laws.Layout.Check as reads
 use Rattle.layout.specs.Reads.{forget, chain}
-use Rattle.store.specs.declared.Written.{Written}
-use Rattle.store.specs.declared.Written.TheVariants as written
+use Rattle.store.specs.Written.{Written}
 use Rattle.store.specs.Check.{place_of, check}
 use Rattle.store.specs.Fields.{bytes_in}
-use Rattle.store.specs.Puts.{Puts}
-use Rattle.store.specs.Deliver.{output, answer, Delivers}
+use Rattle.store.specs.Puts.{PutsTo}
+use Rattle.store.specs.Deliver.{output, answer, DeliversTo}
 use Rattle.store.specs.Laws.Deliver.{delivered_answer, delivered_output}
 use Rattle.look.specs.declared.Look.{Look}
-use Rattle.look.specs.declared.Answer.{Answer}
-use Rattle.look.specs.declared.Answer.TheVariants as read_answer
+use Rattle.look.specs.Read.{Answer}
 use Rattle.look.specs.Look.{TableLook}
 use Rattle.look.specs.Answers.{outcome, expected}
 use Rattle.look_write.specs.Laws.Theorems.{of_file}
@@ -36,7 +34,7 @@ use Rattle.look_sections.specs.Writing.{sections, sectioning, Stored, Wrote}
 use Rattle.look_sections.specs.Laws.Names.{all_named, names_short}
 
 pub stored : (x : Styles) (v : Written) {s b b' out out' : List ℕ} {r : Step} → Each Short x.areas → length b ≡ longest_sections
-    → Puts Sections s (fields x) b (Next 0) b' r → Delivers b' r out (answer v) out' → Stored x s out v out'
+    → PutsTo Sections s (fields x) b (Ok 0) b' r → DeliversTo b' r out (answer v) out' → Stored x s out v out'
 stored x v {s} {b} short long put gives =
     let f = fields x in
     let room : place_of (check Sections s f 0) ≤ length b = rw long (omega (arith, sections_most s x short 0)) in
@@ -48,7 +46,7 @@ stored x v {s} {b} short long put gives =
 
 module _ (s : List ℕ) (bs : Bytes s) (out : List ℕ) {a : Answer} (e : outcome a ≡ expected (read TableLook s 0)) where
   -- the look's own refusal
-  pub not_read : {n p : ℕ} → a ≡ read_answer.Refused n p → Wrote s out (written.Refused n p) out
+  pub not_read : {n p : ℕ} → a ≡ Err (n, p) → Wrote s out (Err (n, p)) out
   unfolding sectioning output
   not_read i = record {
     look = a;
@@ -59,9 +57,9 @@ module _ (s : List ℕ) (bs : Bytes s) (out : List ℕ) {a : Answer} (e : outcom
     bytes = bs;
   }
 
-  module _ {y : Look} (i : a ≡ read_answer.Accepted y) {c : Step} (j : c ≡ forget (reads.check style_rule s 0)) where
+  module _ {y : Look} (i : a ≡ Ok y) {c : Step} (j : c ≡ forget (reads.check style_rule s 0)) where
     -- one of the rule
-    pub not_styled : {n p : ℕ} → c ≡ Refused n p → Wrote s out (written.Refused n p) out
+    pub not_styled : {n p : ℕ} → c ≡ Err (n, p) → Wrote s out (Err (n, p)) out
     unfolding sectioning chain output
     not_styled k = record {
       look = a;
@@ -72,7 +70,7 @@ module _ (s : List ℕ) (bs : Bytes s) (out : List ℕ) {a : Answer} (e : outcom
       bytes = bs;
     }
 
-    module _ {p : ℕ} (k : c ≡ Next p) where
+    module _ {p : ℕ} (k : c ≡ Ok p) where
       names : Each (Named s) (styles y).areas
       names = all_named s bs y (rw i at e) (kept_next bs (of_file s bs y (rw i at e)) (sym j ∙ k))
 
@@ -82,7 +80,7 @@ module _ (s : List ℕ) (bs : Bytes s) (out : List ℕ) {a : Answer} (e : outcom
       pub styled : {v : Written} {out' : List ℕ} → Stored (styles y) s out v out' → Wrote s out v out'
       unfolding sectioning sections chain
       styled {v} {out'} w =
-          let l : check Sections s (fields (styles y)) 0 ≡ Next (length (bytes_in Sections s (fields (styles y)))) = sections_written s bs (styles y) w.fit names 0 ∙ ap Next (zero-add _) in
+          let l : check Sections s (fields (styles y)) 0 ≡ Ok (length (bytes_in Sections s (fields (styles y)))) = sections_written s bs (styles y) w.fit names 0 ∙ ap Ok (zero-add _) in
           record {
             look = a;
             is_read = e;

@@ -1,19 +1,18 @@
 -- What writing the sections of a look answers, and what the output then holds: document 02, T-12.
 use Rattle.std.specs.Prelude.{◌≡◌, List, [], ℕ, length}
-use Rattle.layout.specs.declared.Step.{Step}
-use Rattle.layout.specs.declared.Step.TheVariants.{Next, Refused}
+use Rattle.layout.specs.Step.{Step}
+use Rattle.std.specs.Prelude.{Ok, Err}
 use Rattle.grammar.specs.Layout.{Bytes}
 use Rattle.grammar.specs.Laws.Layout.Read.{read}
 use Rattle.grammar.specs.Laws.Layout.Check.{check}
 use Rattle.layout.specs.Reads.{forget, chain}
-use Rattle.store.specs.declared.Written.{Written}
+use Rattle.store.specs.Written.{Written}
 use Rattle.store.specs.Fields.{bytes_in}
 use Rattle.store.specs.Fit.{Fit}
 use Rattle.store.specs.Check as writes
 use Rattle.store.specs.Deliver.{ending, output, answer}
 use Rattle.look.specs.declared.Look.{Look}
-use Rattle.look.specs.declared.Answer.{Answer}
-use Rattle.look.specs.declared.Answer.TheVariants as read_answer
+use Rattle.look.specs.Read.{Answer}
 use Rattle.look.specs.Look.{TableLook}
 use Rattle.look.specs.Answers.{outcome, expected}
 use Rattle.look_rules.specs.StyleRule.{style_rule}
@@ -27,12 +26,12 @@ sections x s = bytes_in Sections s (fields (styles x))
 
 -- the length, or the refusal: of an accepted look those of the rule "in file order; 15 last"
 unfoldable pub sectioning : Answer → List ℕ → ℕ → Step
-sectioning (read_answer.Refused n p) s room = Refused n p
-sectioning (read_answer.Accepted x) s room = chain (forget (check style_rule s 0)) (λ _. ending room (length (sections x s)))
+sectioning (Err (n, p)) s room = Err (n, p)
+sectioning (Ok x) s room = chain (forget (check style_rule s 0)) (λ _. ending room (length (sections x s)))
 
 abbrev pub sectioned : Answer → List ℕ → List ℕ
-sectioned (read_answer.Accepted x) s = sections x s
-sectioned (read_answer.Refused n p) s = []
+sectioned (Ok x) s = sections x s
+sectioned (Err (n, p)) s = []
 
 -- the sections of styles x, whose names lie in s, were written into the output, or refused
 pub record Stored (x : Styles) (s out : List ℕ) (r : Written) (out' : List ℕ) : Type 0 where
@@ -48,5 +47,5 @@ pub record Wrote (s out : List ℕ) (r : Written) (out' : List ℕ) : Type 0 whe
   pub answers : answer r ≡ sectioning look s (length out)
   pub holds : out' ≡ output (sectioning look s (length out)) (sectioned look s) out
   -- each number of what was written fits its bytes, as its type says
-  pub fit : (x : Look) → look ≡ read_answer.Accepted x → (n : ℕ) → answer r ≡ Next n → Fit Sections s (fields (styles x))
+  pub fit : (x : Look) → look ≡ Ok x → (n : ℕ) → answer r ≡ Ok n → Fit Sections s (fields (styles x))
   pub bytes : Bytes s

@@ -19,7 +19,7 @@ fn write_sections(x: Styles, names: &[u8], out: &mut [u8]) -> Written
     ensures { spec.Stored x names.now out.old result out.new }
 {
     let mut buf = [0u8; LONGEST_SECTIONS];
-    let st = sections(&mut buf, Step::Next(0), names, x);
+    let st = sections(&mut buf, Ok(0), names, x);
     deliver(&buf, st, out)
 }
 
@@ -28,10 +28,10 @@ pub fn look_sections(file: &[u8], out: &mut [u8]) -> Written
     ensures { spec.Wrote file.now out.old result out.new }
 {
     match read_look(file) {
-        Answer::Refused(n, p) => Written::Refused(n, p),
-        Answer::Accepted(look) => match check_styles(file) {
-            Step::Refused(n, p) => Written::Refused(n, p),
-            Step::Next(_) => write_sections(styles_of(look), file, out),
+        Err(refusal) => Err(refusal),
+        Ok(look) => match check_styles(file) {
+            Err(refusal) => Err(refusal),
+            Ok(_) => write_sections(styles_of(look), file, out),
         },
     }
 }

@@ -92,12 +92,12 @@ pub fn look_answer(file: &[u8], area: &mut [u32]) -> usize
     let room = LOOK_ANSWER_WORDS <= area.len();
     if room {
         match read_look(file) {
-            Answer::Accepted(look) => {
-                let st = put(area, Step::Next(0), &[0, 0]);
+            Ok(look) => {
+                let st = put(area, Ok(0), &[0, 0]);
                 whole(area, st, look);
             }
-            Answer::Refused(n, p) => {
-                let st = put(area, Step::Next(0), &[n, (p % 4294967296) as u32]);
+            Err(refusal) => {
+                let st = put(area, Ok(0), &[n, (p % 4294967296) as u32]);
                 put(area, st, &[0u32; LOOK_WORDS]);
             }
         }

@@ -1,12 +1,12 @@
 -- What writing a look answers, and what the output then holds: document 01, "The looks" and "Refusal numbers"; document 02, T-10.
 use Rattle.std.specs.Prelude.{◌≡◌, List, ℕ, length}
-use Rattle.layout.specs.declared.Step.{Step}
+use Rattle.layout.specs.Step.{Step}
 use Rattle.grammar.specs.Layout.{spell, Bytes}
 use Rattle.layout.specs.Reads.{chain}
 use Rattle.store.specs.Fields.{resolve}
 use Rattle.store.specs.Check.{check}
 use Rattle.store.specs.Fit.{Fit}
-use Rattle.store.specs.declared.Written.{Written}
+use Rattle.store.specs.Written.{Written}
 use Rattle.store.specs.Deliver.{ending, output, answer}
 use Rattle.look.specs.declared.Look.{Look}
 use Rattle.look.specs.Look.{TableLook02}

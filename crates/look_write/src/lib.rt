@@ -15,6 +15,6 @@ pub fn write_look(look: Look, names: &[u8], out: &mut [u8]) -> Written
     ensures { spec.Wrote look names.now out.old result out.new }
 {
     let mut buf = [0u8; LONGEST_LOOK];
-    let st = table_look(&mut buf, Step::Next(0), names, look);
+    let st = table_look(&mut buf, Ok(0), names, look);
     deliver(&buf, st, out)
 }

@@ -29,8 +29,8 @@ fn refused(rt: &impl Print, n: u32, p: usize) -> io::Result<()> {
 
 fn answer(rt: &impl Print, w: Written) -> io::Result<()> {
     match w {
-        Written::Length(n) => number(rt, n as u64),
-        Written::Refused(n, p) => refused(rt, n, p),
+        Ok(n) => number(rt, n as u64),
+        Err(refusal) => refused(rt, n, p),
     }
 }
 
@@ -98,8 +98,8 @@ fn rewritten(look: Look, file: &[u8]) -> bool {
     let mut out = [0u8; LONGEST_LOOK];
     let written = look_write::write_look(look, file, &mut out);
     match written {
-        Written::Length(n) => bytes(&out, Span::Of(0, n)) == file,
-        Written::Refused(_, _) => false,
+        Ok(n) => bytes(&out, Ok((0, n))) == file,
+        Err(_) => false,
     }
 }
 
@@ -107,14 +107,14 @@ fn rewritten(look: Look, file: &[u8]) -> bool {
 fn again(rt: &impl Print, file: &[u8]) -> io::Result<()> {
     let read = look::read::read_look(file);
     match read {
-        Answer::Accepted(look) => {
+        Ok(look) => {
             if rewritten(look, file) {
                 text(rt, b"the same")
             } else {
                 text(rt, b"differently")
             }
         }
-        Answer::Refused(n, p) => refused(rt, n, p),
+        Err(refusal) => refused(rt, n, p),
     }
 }
 
@@ -123,11 +123,11 @@ fn as_version_02(rt: &impl Print, look: Look, file: &[u8]) -> io::Result<()> {
     let mut out = [0u8; LONGEST_LOOK];
     let written = look_write::write_look(look, file, &mut out);
     match written {
-        Written::Length(n) => {
+        Ok(n) => {
             print!(rt; "as version 02, {n} bytes, and that ")?;
-            again(rt, bytes(&out, Span::Of(0, n)))
+            again(rt, bytes(&out, Ok((0, n))))
         }
-        Written::Refused(n, p) => refused(rt, n, p),
+        Err(refusal) => refused(rt, n, p),
     }
 }
 
@@ -158,8 +158,8 @@ fn accepted(rt: &impl Print, look: Look, file: &[u8]) -> io::Result<()> {
 fn report(rt: &impl Print, file: &[u8]) -> io::Result<()> {
     let read = look::read::read_look(file);
     match read {
-        Answer::Accepted(look) => accepted(rt, look, file)?,
-        Answer::Refused(n, p) => refused(rt, n, p)?,
+        Ok(look) => accepted(rt, look, file)?,
+        Err(refusal) => refused(rt, n, p)?,
     }
     text(rt, b"\n")
 }

@@ -1,15 +1,17 @@
 // The whole member.
 #![tactic(auto)]
 
-ghost use Rattle.std.specs.Prelude.{◌≡◌, ◌++◌, ◌≤◌, ◌-◌, length, take, drop};
-ghost use Rattle.sizes.specs.Sizes.{member_bytes, node_area, cell_area};
+ghost use Rattle.std.specs.Prelude.{◌≡◌, ◌≤◌, ◌-◌, length, drop};
+ghost use Rattle.sizes.specs.Sizes.{member_bytes};
 ghost use Rattle.grammar.specs.Part.{part_of};
+ghost use Rattle.refusals.specs.Numbers.{by_number, number};
+ghost use Rattle.refusals.specs.Verdicts.{code};
 ghost use Rattle.layout.specs.Keeps.{Keeps};
 ghost use Rattle.grammar.specs.Laws.Layout.Check.{check};
 ghost use Rattle.grammar.specs.Rules.{cells_rule};
 ghost use Rattle.table.specs.Laws.Within.{needed};
-ghost use Rattle.table.specs.Laws.Dims.{node_record_sizes};
 ghost use Rattle.cells.specs.Laws.Cells.{AllCells, cells_out, cell_record_sizes};
+ghost use Rattle.answer.specs.Answer as answer_spec;
 ghost use Rattle.answer.specs.Answer.{Delivered};
 ghost use Rattle.member.specs.Laws.IntoLists.{into_lists, Stored, LongEnough};
 ghost use Rattle.answer.specs.Demand3.{Demand3};
@@ -18,40 +20,28 @@ ghost use Rattle.opening.specs.Laws.Opening.{Opened};
 ghost use Rattle.member.specs.Laws.Whole as whole;
 
 use answer::{Answer, refused};
-use axes::{AxisCounts, axes};
-use cells::{LEAST_CELL, cells as cells_section, most_cell_words};
+use axes::{AxesRead, axes};
+use cells::{cells as cells_section, most_cell_words};
 use index::product_of;
-use layout::Step;
 use layout::number::left;
 use layout::slice::part as part_of;
 use lists::with_lists;
-use opening::{Head, ending, opening};
-use sizes::{
-    CELL_AREA, CELL_WORDS, DIMENSION_AREA, MEMBER_BYTES, MOST_DIMENSIONS, MOST_PLACES, NODE_AREA,
-    NODE_WORDS,
-};
-use table::{LEAST_CATEGORY, Section, Walk, dimensions, most_node_words};
+use opening::{ending, opening};
+use refusals::{Reason, Refusal, Verdict};
+use sizes::{CELL_WORDS, DIMENSION_AREA, MEMBER_BYTES, MOST_PLACES, NODE_WORDS};
+use table::{Walk, dimensions, most_node_words};
 
-// What comes after the dimensions: the axes, or the refusal; how many cells there are; and the dimension numbers on the axes.
-#[derive(Clone, Copy)]
-struct Tail {
-    pub axes: AxisCounts,
-    pub cells: usize,
-    pub order: [u32; MOST_DIMENSIONS],
-}
+// What comes after the dimensions: the axes, and how many cells there are; or the refusal.
+type Tail = Result<(AxesRead, usize), Refusal>;
 
 // The cells of a table of so many places, and the end.
 fn cells_and_end(s: &[u8], at: usize, places: u32, words: &mut [u32], version: u64) -> Walk
     requires { (length s.now ≤ member_bytes) × (needed cell_record_sizes (length s.now - at) ≤ length words.old) }
-    ensures { Keeps s.now (AllCells version at words.old) (ended (check (cells_rule version places) (drop at s.now) at)) (cells_out result words.new) }
+    ensures { Keeps s.now (AllCells version at words.old) (ended (check (cells_rule version places) (drop at s.now) at)) (cells_out (by_number result) words.new) }
 {
-    match cells_section(s, at, places, words, version) {
-        Walk::Refused(r, p) => Walk::Refused(r, p),
-        Walk::On(q, m) => match ending(s, q) {
-            Step::Refused(r, p) => Walk::Refused(r, p),
-            Step::Next(_) => Walk::On(q, m),
-        },
-    }
+    let (end, n) = cells_section(s, at, places, words, version)?;
+    ending(s, end)?;
+    Ok((end, n))
 }
 
 // After the dimensions, of which there are d: the product, the axes and the cells.
@@ -64,46 +54,18 @@ fn after_dims(
     version: u64,
 ) -> Tail
     requires { (length s.now ≤ member_bytes) × (needed cell_record_sizes (length s.now - at) ≤ length words.old) }
-    ensures { whole.TailRead version s.now at d dims.now words.old result words.new }
+    ensures { whole.TailRead version s.now at d dims.now words.old (by_number result) words.new }
 {
     let places = product_of(dims, d);
-    let small = places <= MOST_PLACES;
-    if small {
-        let a = axes(s, at, d);
-        let order = a.order;
-        let counts = a.counts;
-        match counts {
-            AxisCounts::Refused(r, p) => Tail {
-                axes: AxisCounts::Refused(r, p),
-                cells: 0,
-                order,
-            },
-            AxisCounts::Of(layers, rows, columns, next) => match cells_and_end(
-                s,
-                next,
-                places as u32,
-                words,
-                version,
-            ) {
-                Walk::Refused(r, p) => Tail {
-                    axes: AxisCounts::Refused(r, p),
-                    cells: 0,
-                    order,
-                },
-                Walk::On(q, m) => Tail {
-                    axes: AxisCounts::Of(layers, rows, columns, q),
-                    cells: m,
-                    order,
-                },
-            },
-        }
-    } else {
-        Tail {
-            axes: AxisCounts::Refused(7, at),
-            cells: 0,
-            order: [0u32; MOST_DIMENSIONS],
-        }
+    if MOST_PLACES < places {
+        return Err(Refusal {
+            reason: Reason::Limit,
+            place: at,
+        });
     }
+    let axes = axes(s, at, d)?;
+    let (_, n) = cells_and_end(s, axes.end, places as u32, words, version)?;
+    Ok((axes, n))
 }
 
 // That part of the member; the empty part if it doesn't lie inside.
@@ -113,34 +75,37 @@ pub fn part(member: &[u8], place: usize, length: usize) -> &[u8]
     part_of(member, place, length)
 }
 
-// The first words of two lists into the lent areas, where these are large enough: 0; or the refusal, and nothing is copied.
+// The records into the lent areas, where these are large enough; or the refusal, and nothing is copied.
 fn deliver(
-    node_list: &[u32],
-    node_words: usize,
-    cell_list: &[u32],
-    cell_words: usize,
+    node_records: &[u32],
+    cell_records: &[u32],
     nodes: &mut [u32],
     cells: &mut [u32],
-) -> u32
-    requires { (node_words ≤ length node_list.now) × (cell_words ≤ length cell_list.now) }
-    ensures { whole.Filled node_words cell_words node_list.now cell_list.now nodes.old cells.old result nodes.new cells.new }
+) -> Verdict
+    ensures { whole.Filled node_records.now cell_records.now nodes.old cells.old (code result) nodes.new cells.new }
 {
-    let wide = node_words <= nodes.len();
-    if wide {
-        let long = cell_words <= cells.len();
-        if long {
-            nodes[..node_words].copy_from_slice(&node_list[..node_words]);
-            cells[..cell_words].copy_from_slice(&cell_list[..cell_words]);
-            0
-        } else {
-            13
-        }
-    } else {
-        12
+    let node_words = node_records.len();
+    let cell_words = cell_records.len();
+    if nodes.len() < node_words {
+        return Err(Reason::NodeArea);
     }
+    if cells.len() < cell_words {
+        return Err(Reason::CellArea);
+    }
+    nodes[..node_words].copy_from_slice(node_records);
+    cells[..cell_words].copy_from_slice(cell_records);
+    Ok(())
 }
 
-// Reads a member of that version, from its dimensions on, into two lists that are long enough for its records.
+// What is answered where reading a member gave a refusal.
+fn not_read(refusal: Refusal) -> Answer
+    ensures { result ≡ answer_spec.refusal (number refusal.reason) refusal.place 0 0 }
+{
+    refused(refusal.reason.number(), refusal.place, 0, 0)
+}
+
+// Reads a member of that version, from its dimensions on, into two lists that are long enough for its records. The answer is made here, and
+// no Result with one is handed on: each would have a place of its own on the stack of a small member.
 fn read_body(
     member: &[u8],
     version: u64,
@@ -153,27 +118,32 @@ fn read_body(
 {
     let mut dims = [0u32; DIMENSION_AREA];
     match dimensions(member, at, node_list, &mut dims, version) {
-        Section::Refused(r, p) => refused(r, p, 0, 0),
-        Section::Of(next, d, used) => {
-            let tail = after_dims(member, next, d, &dims, cell_list, version);
-            let order = tail.order;
-            let axes = tail.axes;
-            match axes {
-                AxisCounts::Refused(r, p) => refused(r, p, 0, 0),
-                AxisCounts::Of(layers, rows, columns, _) => Answer {
+        Err(refusal) => not_read(refusal),
+        Ok(section) => match after_dims(
+            member,
+            section.end,
+            section.dimensions,
+            &dims,
+            cell_list,
+            version,
+        ) {
+            Err(refusal) => not_read(refusal),
+            Ok((axes, n)) => {
+                let order = axes.order;
+                Answer {
                     refusal: 0,
                     place: 0,
-                    dims: (d % 4294967296) as u32,
-                    nodes: (used % 4294967296) as u32,
-                    cells: (tail.cells % 4294967296) as u32,
+                    dims: (section.dimensions % 4294967296) as u32,
+                    nodes: (section.nodes % 4294967296) as u32,
+                    cells: (n % 4294967296) as u32,
                     dimensions: dims,
-                    layers,
-                    rows,
-                    columns,
+                    layers: axes.layers,
+                    rows: axes.rows,
+                    columns: axes.columns,
                     order,
-                },
+                }
             }
-        }
+        },
     }
 }
 
@@ -183,8 +153,8 @@ fn read_ready(member: &[u8], node_list: &mut [u32], cell_list: &mut [u32]) -> An
     ensures { Stored node_list.old cell_list.old (checked member.now) result node_list.new cell_list.new }
 {
     match opening(member) {
-        Head::Refused(r, p) => refused(r, p, 0, 0),
-        Head::Of(version, at) => read_body(member, version, at, node_list, cell_list),
+        Err(refusal) => not_read(refusal),
+        Ok((version, at)) => read_body(member, version, at, node_list, cell_list),
     }
 }
 
@@ -197,12 +167,10 @@ pub fn read_into(member: &[u8], node_list: &mut [u32], cell_list: &mut [u32]) ->
     if MEMBER_BYTES < member.len() {
         return refused(1, 0, 0, 0);
     }
-    let node_words = most_node_words(member.len());
-    if node_list.len() < node_words {
+    if node_list.len() < most_node_words(member.len()) {
         return refused(12, 0, 0, 0);
     }
-    let cell_words = most_cell_words(member.len());
-    if cell_list.len() < cell_words {
+    if cell_list.len() < most_cell_words(member.len()) {
         return refused(13, 0, 0, 0);
     }
     read_ready(member, node_list, cell_list)
@@ -225,9 +193,13 @@ fn read_with_lists(
     let mut a = read_body(member, version, at, node_list, cell_list);
     let node_words = NODE_WORDS * a.nodes as usize;
     let cell_words = CELL_WORDS * a.cells as usize;
-    let n = deliver(node_list, node_words, cell_list, cell_words, nodes, cells);
-    if n != 0 {
-        a = refused(n, 0, a.nodes, a.cells);
+    if let Err(reason) = deliver(
+        &node_list[..node_words],
+        &cell_list[..cell_words],
+        nodes,
+        cells,
+    ) {
+        a = refused(reason.number(), 0, a.nodes, a.cells);
     }
     a
 }
@@ -238,8 +210,8 @@ pub fn read_member(member: &[u8], nodes: &mut [u32], cells: &mut [u32]) -> Answe
     ensures demands { Demand3 member.now nodes.old cells.old result nodes.new cells.new }
 {
     match opening(member) {
-        Head::Refused(r, p) => refused(r, p, 0, 0),
-        Head::Of(version, at) => with_lists(
+        Err(refusal) => not_read(refusal),
+        Ok((version, at)) => with_lists(
             left(member, at),
             &mut |node_list, cell_list|
                 requires { LongEnough member.now at (length node_list.old) (length cell_list.old) × Opened member.now version at }

@@ -3,7 +3,7 @@
 
 ghost use Rattle.std.specs.Prelude.{◌≡◌, ◌++◌, ◌+◌, length};
 ghost use Rattle.sizes.specs.Sizes.{most_dimensions, dimension_area, answer_words};
-ghost use Rattle.layout.specs.declared.Step.TheVariants.{Next};
+ghost use Rattle.std.specs.Prelude.{Ok, Err};
 ghost use Rattle.store.specs.Puts.{PutsWords};
 ghost use Rattle.layout.specs.Words.{word32};
 ghost use Rattle.member_words.specs.MemberWords as spec;
@@ -30,14 +30,14 @@ fn arrays(
 
 // The words of what reading a member answers; the place as a word.
 pub fn member_words(out: &mut [u32], a: Answer) -> Step
-    ensures puts_words { PutsWords (spec.answer_words_of (word32 a.place) a) out.old (Next 0) out.new result }
+    ensures puts_words { PutsWords (spec.answer_words_of (word32 a.place) a) out.old (Ok 0) out.new result }
     ensures a_len { length (spec.answer_words_of (word32 a.place) a) ≡ answer_words }
 {
     let dimensions = a.dimensions;
     let order = a.order;
     let st = put(
         out,
-        Step::Next(0),
+        Ok(0),
         &[
             a.refusal,
             (a.place % 4294967296) as u32,

@@ -57,7 +57,7 @@ pub fn members_answer(
         let words = MEMBERS_ANSWER_WORDS + ANSWER_WORDS * (list.len() / 2);
         let room = words <= answers.len();
         if room {
-            put(answers, Step::Next(0), &[0, 0]);
+            put(answers, Ok(0), &[0, 0]);
             read_all(
                 buffer,
                 list,
@@ -72,7 +72,7 @@ pub fn members_answer(
     } else {
         let room = MEMBERS_ANSWER_WORDS <= answers.len();
         if room {
-            put(answers, Step::Next(0), &[refusal, 0]);
+            put(answers, Ok(0), &[refusal, 0]);
             MEMBERS_ANSWER_WORDS
         } else {
             0

@@ -1,7 +1,7 @@
 // The position of a cell and the index of a position, as words at the front of a lent area.
 #![tactic(auto)]
 
-ghost use Rattle.layout.specs.declared.Step.TheVariants.{Next};
+ghost use Rattle.std.specs.Prelude.{Ok, Err};
 ghost use Rattle.store.specs.Puts.{PutsWords};
 ghost use Rattle.position_words.specs.Positions as spec;
 
@@ -11,19 +11,19 @@ use sizes::{INDEX_ANSWER_WORDS, POSITION_ANSWER_WORDS};
 use store::words::put;
 
 fn position_words(out: &mut [u32], x: Position) -> Step
-    ensures { PutsWords (spec.position_words x) out.old (Next 0) out.new result }
+    ensures { PutsWords (spec.position_words x) out.old (Ok 0) out.new result }
 {
     put(
         out,
-        Step::Next(0),
+        Ok(0),
         &[x.refusal, 0, x.layer, x.row, x.column],
     )
 }
 
 fn index_words(out: &mut [u32], x: CellIndex) -> Step
-    ensures { PutsWords (spec.index_words x) out.old (Next 0) out.new result }
+    ensures { PutsWords (spec.index_words x) out.old (Ok 0) out.new result }
 {
-    put(out, Step::Next(0), &[x.refusal, 0, x.index])
+    put(out, Ok(0), &[x.refusal, 0, x.index])
 }
 
 // The position of the cell with that index: see `digarumbi_position` of `api`.

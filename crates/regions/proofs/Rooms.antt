@@ -8,11 +8,11 @@ use native.Mathlib.Omega.{arith}
 use lib.ListN.{length}
 use lib.Dec.{eqb}
 use borrow.Author.Tests.{eqb-true}
-use Rattle.layout.specs.declared.Step.TheVariants.{Next}
+use Rattle.std.specs.Prelude.{Ok}
 use Rattle.sizes.specs.Basics.{pick}
 use Rattle.layout.specs.Reads.{fitting}
 
-pub fitting_room : (size n : ℕ) (s : List ℕ) (at : ℕ) → fitting size n s (Next at) * size ≤ length s - at
+pub fitting_room : (size n : ℕ) (s : List ℕ) (at : ℕ) → fitting size n s (Ok at) * size ≤ length s - at
 unfolding fitting pick
 fitting_room size n s at = go (eqb size 0) refl
   where

@@ -22,5 +22,5 @@ pub fn borders(s: &[u8], st: Step) -> Step
     ensures { Reads grammar.Borders s.now st result }
 {
     let p = part(s, st, LITTLE, 4);
-    close(p, content(bytes(s, p), Step::Next(0)))
+    close(p, content(bytes(s, p), Ok(0)))
 }

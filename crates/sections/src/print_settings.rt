@@ -24,5 +24,5 @@ pub fn print_settings(s: &[u8], st: Step) -> Step
     ensures { Reads grammar.PrintSettings s.now st result }
 {
     let p = part(s, st, LITTLE, 4);
-    close(p, content(bytes(s, p), Step::Next(0)))
+    close(p, content(bytes(s, p), Ok(0)))
 }

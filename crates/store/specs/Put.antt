@@ -4,8 +4,8 @@
 -- nothing more is written.
 use Rattle.std.proofs.Math.Option.{none, some}
 use Rattle.std.specs.Prelude.{List, [], ◌∷◌, ◌++◌, ℕ, ◌+◌, ◌-◌, ◌^◌, length, take, drop, replicate, eqb, leb, ltb}
-use Rattle.layout.specs.declared.Step.{Step}
-use Rattle.layout.specs.declared.Step.TheVariants.{Next, Refused}
+use Rattle.layout.specs.Step.{Step}
+use Rattle.std.specs.Prelude.{Ok, Err}
 use Rattle.sizes.specs.Basics.{pick}
 use Rattle.grammar.specs.Layout.{Order, Content, suits, Fill, exact, optional, open_ended, Layout, empty, number, string, ◌▸◌, times, leading, region, nothing, digits}
 use Rattle.grammar.specs.Numbers.{too_short, zero_byte, differs, limit_passed}
@@ -25,13 +25,13 @@ stored b at xs = take at b ++ (xs ++ drop (at + length xs) b)
 -- xs at a position, where they fit
 unfoldable pub fitted : List ℕ → List ℕ → ℕ → State
 unfolding pick stored
-fitted xs b at = pick (leb (at + length xs) (length b)) (stored b at xs, Next (at + length xs)) (b, Refused too_short at)
+fitted xs b at = pick (leb (at + length xs) (length b)) (stored b at xs, Ok (at + length xs)) (b, Err (too_short, at))
 
 -- a field xs that gets the refusal c, unless that is 0
 unfoldable pub put_field : ℕ → List ℕ → List ℕ → Step → State
 unfolding pick fitted
-put_field c xs b (Next at) = pick (eqb c 0) (fitted xs b at) (b, Refused c at)
-put_field c xs b (Refused n p) = (b, Refused n p)
+put_field c xs b (Ok at) = pick (eqb c 0) (fitted xs b at) (b, Err (c, at))
+put_field c xs b (Err (n, p)) = (b, Err (n, p))
 
 -- ---- strings
 
@@ -66,15 +66,15 @@ run_verdict n k = pick (leb k n) 0 differs
 -- past the count
 unfoldable pub opened : List ℕ → Step → State
 unfolding pick
-opened b (Next at) = pick (leb (at + 4) (length b)) (b, Next (at + 4)) (b, Refused too_short at)
-opened b (Refused n p) = (b, Refused n p)
+opened b (Ok at) = pick (leb (at + 4) (length b)) (b, Ok (at + 4)) (b, Err (too_short, at))
+opened b (Err (n, p)) = (b, Err (n, p))
 
 -- the count of a region that starts at the first step and whose content ends at the second
 unfoldable pub closed : Order → Step → List ℕ → Step → State
 unfolding pick stored
-closed o (Next at) b (Next p) = pick (leb (at + 4) (length b)) (stored b at (digits o 4 (p - (at + 4))), Next p) (b, Refused too_short at)
-closed o (Next at) b (Refused n p) = (b, Refused n p)
-closed o (Refused n p) b st = (b, st)
+closed o (Ok at) b (Ok p) = pick (leb (at + 4) (length b)) (stored b at (digits o 4 (p - (at + 4))), Ok p) (b, Err (too_short, at))
+closed o (Ok at) b (Err (n, p)) = (b, Err (n, p))
+closed o (Err (n, p)) b st = (b, st)
 
 -- ---- by a layout
 

@@ -1,6 +1,6 @@
 // The answers as words at the front of a lent area.
 ghost use Rattle.std.specs.Prelude.{◌≡◌, length};
-ghost use Rattle.layout.specs.declared.Step.TheVariants.{Next};
+ghost use Rattle.std.specs.Prelude.{Ok, Err};
 ghost use Rattle.store.specs.Puts.{PutsWords};
 ghost use Rattle.total.specs.Words as spec;
 ghost use Rattle.total.specs.Calls.{TotalRead, TotalsRead};
@@ -14,22 +14,22 @@ use store::words::put;
 
 fn answer_words(out: &mut [u32], x: LeafTotal) -> Step
     requires { Numbers x }
-    ensures { PutsWords (spec.answer_words_of x) out.old (Next 0) out.new result }
+    ensures { PutsWords (spec.answer_words_of x) out.old (Ok 0) out.new result }
 {
     let st = put(
         out,
-        Step::Next(0),
+        Ok(0),
         &[x.refusal, (x.place % 4294967296) as u32, x.nodes, x.cells],
     );
     sum_words(out, st, x)
 }
 
 fn dimension_words(out: &mut [u32], x: DimensionTotals) -> Step
-    ensures { PutsWords (spec.dimension_words_of x) out.old (Next 0) out.new result }
+    ensures { PutsWords (spec.dimension_words_of x) out.old (Ok 0) out.new result }
 {
     put(
         out,
-        Step::Next(0),
+        Ok(0),
         &[
             x.refusal,
             (x.place % 4294967296) as u32,

@@ -1,7 +1,7 @@
 // What a Value and an Argument say, as words at the front of a lent area.
 #![tactic(auto)]
 
-ghost use Rattle.layout.specs.declared.Step.TheVariants.{Next};
+ghost use Rattle.std.specs.Prelude.{Ok, Err};
 ghost use Rattle.store.specs.Puts.{PutsWords};
 ghost use Rattle.contents.specs.Laws.Plain.{plain_value};
 ghost use Rattle.value_words.specs.Values as spec;
@@ -47,12 +47,12 @@ fn raw_words(out: &mut [u32], st: Step, x: RawValue) -> Step
 }
 
 fn value_words(out: &mut [u32], x: Contents) -> Step
-    ensures { PutsWords (spec.value_words x) out.old (Next 0) out.new result }
+    ensures { PutsWords (spec.value_words x) out.old (Ok 0) out.new result }
 {
     let raw = x.raw;
     let st = put(
         out,
-        Step::Next(0),
+        Ok(0),
         &[
             x.refusal,
             (x.place % 4294967296) as u32,
@@ -65,13 +65,13 @@ fn value_words(out: &mut [u32], x: Contents) -> Step
 
 // The same of a plain number.
 fn plain_words(out: &mut [u32], value: &[u8]) -> Step
-    ensures { PutsWords (spec.value_words (plain_value value.now)) out.old (Next 0) out.new result }
+    ensures { PutsWords (spec.value_words (plain_value value.now)) out.old (Ok 0) out.new result }
 {
     let bits = plain_bits(value);
     let format = plain_format(value);
     put(
         out,
-        Step::Next(0),
+        Ok(0),
         &[
             0,
             0,
@@ -100,11 +100,11 @@ fn plain_words(out: &mut [u32], value: &[u8]) -> Step
 }
 
 fn argument_words(out: &mut [u32], x: Argument) -> Step
-    ensures { PutsWords (spec.argument_words x) out.old (Next 0) out.new result }
+    ensures { PutsWords (spec.argument_words x) out.old (Ok 0) out.new result }
 {
     put(
         out,
-        Step::Next(0),
+        Ok(0),
         &[
             x.refusal,
             (x.place % 4294967296) as u32,

@@ -79,7 +79,7 @@ fn line(rt: &impl Print, s: &[u8], version: u64, kind: u64) -> io::Result<()> {
 
 // The one that starts at a place, and where the next starts.
 fn one(rt: &impl Print, s: &[u8], at: usize) -> io::Result<usize> {
-    let st = Step::Next(at);
+    let st = Ok(at);
     let version = peek(s, st, LITTLE, 1);
     let st = any(s, st, 1);
     let kind = peek(s, st, LITTLE, 1);
@@ -87,8 +87,8 @@ fn one(rt: &impl Print, s: &[u8], at: usize) -> io::Result<usize> {
     let p = part(s, st, LITTLE, 2);
     line(rt, bytes(s, p), version, kind)?;
     match p {
-        Span::Of(_, end) => Ok(end),
-        Span::Refused(_, _) => Ok(s.len()),
+        Ok((_, end)) => Ok(end),
+        Err(_) => Ok(s.len()),
     }
 }
 

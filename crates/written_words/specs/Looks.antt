@@ -1,14 +1,13 @@
 -- A look that is read and written again, as 32-bit words in a lent area.
 use Rattle.std.specs.Prelude.{◌≡◌, List, [], ◌∷◌, ℕ, length, leb}
 use Rattle.sizes.specs.Sizes.{write_answer_words}
-use Rattle.layout.specs.declared.Step.{Step}
-use Rattle.layout.specs.declared.Step.TheVariants.{Next, Refused}
+use Rattle.layout.specs.Step.{Step}
+use Rattle.std.specs.Prelude.{Ok, Err}
 use Rattle.sizes.specs.Basics.{pick}
 use Rattle.grammar.specs.Layout.{Bytes}
 use Rattle.grammar.specs.Laws.Layout.Read.{read}
 use Rattle.store.specs.Puts.{AtFront}
-use Rattle.look.specs.declared.Answer.{Answer as LookAnswer}
-use Rattle.look.specs.declared.Answer.TheVariants as look
+use Rattle.look.specs.Read.{Answer as LookAnswer}
 use Rattle.look.specs.Look.{TableLook}
 use Rattle.look.specs.Answers.{outcome as lookOutcome, expected}
 use Rattle.store.specs.Deliver.{output}
@@ -16,18 +15,18 @@ use Rattle.look_write.specs.Writing.{file, writing}
 
 -- what reading a file and writing the look again gives: the length, or a refusal of the reader or the writer
 abbrev pub rewriting : LookAnswer → List ℕ → ℕ → Step
-rewriting (look.Accepted x) s room = writing x s room
-rewriting (look.Refused n p) s room = Refused n p
+rewriting (Ok x) s room = writing x s room
+rewriting (Err (n, p)) s room = Err (n, p)
 
 -- the bytes that are written
 abbrev pub rewritten : LookAnswer → List ℕ → List ℕ
-rewritten (look.Accepted x) s = file x s
-rewritten (look.Refused n p) s = []
+rewritten (Ok x) s = file x s
+rewritten (Err (n, p)) s = []
 
 -- three words: the refusal, 0 if there is none, its place, and the length; place and length are at most `longest_look`
 abbrev pub step_words : Step → List ℕ
-step_words (Next n) = 0 ∷ 0 ∷ n ∷ []
-step_words (Refused n p) = n ∷ p ∷ 0 ∷ []
+step_words (Ok n) = 0 ∷ 0 ∷ n ∷ []
+step_words (Err (n, p)) = n ∷ p ∷ 0 ∷ []
 
 -- a call of `digarumbi_rewrite_look`, which gave n
 pub record Rewritten (s out answer : List ℕ) (n : ℕ) (out' answer' : List ℕ) : Type 0 where

@@ -1,7 +1,7 @@
 -- The sections of a look that were written, as 32-bit words in a lent area.
 use Rattle.std.specs.Prelude.{◌≡◌, true, false, List, ℕ, length, leb}
 use Rattle.sizes.specs.Sizes.{write_answer_words}
-use Rattle.store.specs.declared.Written.{Written}
+use Rattle.store.specs.Written.{Written}
 use Rattle.store.specs.Puts.{AtFront}
 use Rattle.store.specs.Deliver as store
 use Rattle.look_sections.specs.Writing.{Wrote}

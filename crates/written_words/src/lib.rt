@@ -4,7 +4,7 @@
 pub mod text; // text in old code pages
 
 ghost use Rattle.std.specs.Prelude.{[], ◌∷◌};
-ghost use Rattle.layout.specs.declared.Step.TheVariants.{Next};
+ghost use Rattle.std.specs.Prelude.{Ok, Err};
 ghost use Rattle.layout.specs.Words.{word32};
 ghost use Rattle.store.specs.Puts.{PutsWords};
 ghost use Rattle.written_words.specs.Looks.{Rewritten};
@@ -21,11 +21,11 @@ use store::words::put;
 
 // Three words: the refusal, or 0, its place, and the length.
 fn step_words(out: &mut [u32], refusal: u32, place: usize, length: usize) -> Step
-    ensures { PutsWords (refusal ∷ word32 place ∷ word32 length ∷ []) out.old (Next 0) out.new result }
+    ensures { PutsWords (refusal ∷ word32 place ∷ word32 length ∷ []) out.old (Ok 0) out.new result }
 {
     put(
         out,
-        Step::Next(0),
+        Ok(0),
         &[
             refusal,
             (place % 4294967296) as u32,
@@ -42,14 +42,14 @@ pub fn rewrite_answer(file: &[u8], out: &mut [u8], answer: &mut [u32]) -> usize
     let room = WRITE_ANSWER_WORDS <= answer.len();
     if room {
         match got {
-            Answer::Refused(n, p) => {
+            Err(refusal) => {
                 step_words(answer, n, p, 0);
             }
-            Answer::Accepted(look) => match write_look(look, file, out) {
-                Written::Refused(n, p) => {
+            Ok(look) => match write_look(look, file, out) {
+                Err(refusal) => {
                     step_words(answer, n, p, 0);
                 }
-                Written::Length(n) => {
+                Ok(n) => {
                     step_words(answer, 0, 0, n);
                 }
             },
@@ -67,10 +67,10 @@ pub fn sections_answer(file: &[u8], out: &mut [u8], answer: &mut [u32]) -> usize
     let asked = WRITE_ANSWER_WORDS <= answer.len();
     if asked {
         match look_sections(file, out) {
-            Written::Refused(n, p) => {
+            Err(refusal) => {
                 step_words(answer, n, p, 0);
             }
-            Written::Length(length) => {
+            Ok(length) => {
                 step_words(answer, 0, 0, length);
             }
         }

@@ -11,15 +11,15 @@ use Rattle.std.proofs.Math.Seq.{sets}
 use Rattle.std.proofs.Math.Dec.{eqb}
 use borrow.Author.Tests.{eqb-true}
 use Rattle.sizes.specs.Sizes.{most_dimensions}
-use Rattle.layout.specs.declared.Step.{Step}
-use Rattle.layout.specs.declared.Step.TheVariants.{Next, Refused}
+use Rattle.layout.specs.Step.{Step}
+use Rattle.std.specs.Prelude.{Result, Ok, Err}
 use Rattle.sizes.specs.Basics.{pick}
 use Rattle.grammar.specs.Layout.{little, any_number, passes, Layout, ◌▸◌, times, Tree, spell, Bytes, size}
 use Rattle.grammar.specs.Conventions.{int32}
 use Rattle.grammar.specs.Rule.{Rule, plain, items, tested, onto}
 use Rattle.grammar.specs.Laws.Layout.Read.{Got, got, no, bind, read}
 use Rattle.grammar.specs.Laws.Layout.Check.{check_times, judge, check}
-use Rattle.layout.specs.Reads.{Reads, peek}
+use Rattle.layout.specs.Reads.{ReadsTo, peek}
 use Rattle.layout.specs.Keeps.{Out, on, off, Keeps, keeps_on, keeps_off, Each}
 use Rattle.grammar.specs.Laws.Layout.{digits_length}
 use Rattle.layout.specs.Steps.Chain.{◌◂◌}
@@ -33,8 +33,7 @@ use Rattle.grammar.specs.Once.{fresh}
 use Rattle.grammar.specs.Table.{Axes}
 use Rattle.grammar.specs.Records.{entry_index, rows_words, axis_layers, axis_rows, axis_columns, axis_entries}
 use Rattle.grammar.specs.Rules.{entry_rule, three_rule, counts_rule}
-use Rattle.axes.specs.declared.AxisCounts.{AxisCounts}
-use Rattle.axes.specs.declared.AxisCounts.TheVariants as counts
+use Rattle.axes.specs.declared.AxesRead.{AxesRead}
 use Rattle.axes.specs.Laws.Rows.{Kind, Row, Rows, all_rows, after}
 
 -- ---- an entry
@@ -47,15 +46,15 @@ entry_kind = record { width = 1; size = size int32; number = entry_index; others
 abbrev pub entry_of : ℕ → List ℕ → Rule int32
 entry_of d seen = tested (plain int32) 9 (λ t. pick (fresh d seen t.0) none (some 0))
 
-module _ (s : List ℕ) (b : Bytes s) (at d j : ℕ) (ws : List ℕ) {st : Step} (r : Reads int32 s (Next at) st) where
+module _ (s : List ℕ) (b : Bytes s) (at d j : ℕ) (ws : List ℕ) {st : Step} (r : ReadsTo int32 s (Ok at) st) where
   abbrev Entry : Out (ℕ × List ℕ) → Type 0
   Entry = Keeps s (Row entry_kind at (j, ws)) (check (entry_of d (firsts 1 ws j)) (drop at s) at)
 
-  pub no_entry : {n p : ℕ} → st ≡ Refused n p → Entry (off n p)
+  pub no_entry : {n p : ℕ} → st ≡ Err (n, p) → Entry (off n p)
   unfolding check bind
   no_entry e = rw (read_off r e) keeps_off
 
-  module _ {p x : ℕ} (e : st ≡ Next p) (pk : x ≡ peek little 4 s (Next at)) where
+  module _ {p x : ℕ} (e : st ≡ Ok p) (pk : x ≡ peek little 4 s (Ok at)) where
     num : ReadNumber 4 any_number s at p x
     num = read_number_lem b r e pk
 
@@ -84,14 +83,9 @@ pub record Order : Type 0 where
   pub order : List ℕ
 
 -- an answer of the code
-abbrev pub axes_out : AxisCounts → List ℕ → Out Order
-axes_out (counts.Of l r c p) os = on p record { layers = l; rows = r; columns = c; order = os }
-axes_out (counts.Refused r p) os = off r p
-
--- after a refusal the order is cleared
-abbrev pub Cleared : AxisCounts → List ℕ → Type 0
-Cleared (counts.Of l r c p) os = Unit {0}
-Cleared (counts.Refused r p) os = os ≡ replicate most_dimensions 0
+abbrev pub axes_out : Result AxesRead (ℕ × ℕ) → Out Order
+axes_out (Ok a) = on a.end record { layers = a.layers; rows = a.rows; columns = a.columns; order = a.order }
+axes_out (Err (r, p)) = off r p
 
 pub record AllAxes (t : Tree Axes) (p : ℕ) (y : Order) : Type 0 where
   pub layers : y.layers ≡ axis_layers t
@@ -190,15 +184,15 @@ size_three : (h : Tree Three) → size Three h ≡ 12
 unfolding size spell
 size_three h = simp (length-append, digits_length) (omega arith)
 
-module _ (s : List ℕ) (b : Bytes s) (at d : ℕ) {one two st : Step} (r₁ : Reads int32 s (Next at) one) (r₂ : Reads int32 s one two) (r₃ : Reads int32 s two st) where
+module _ (s : List ℕ) (b : Bytes s) (at d : ℕ) {one two st : Step} (r₁ : ReadsTo int32 s (Ok at) one) (r₂ : ReadsTo int32 s one two) (r₃ : ReadsTo int32 s two st) where
   abbrev Read_axes : Out Order → Type 0
   Read_axes = Keeps s AllAxes (check (counts_rule d) (drop at s) at)
 
-  pub no_counts : {n p : ℕ} → st ≡ Refused n p → Read_axes (off n p)
+  pub no_counts : {n p : ℕ} → st ≡ Err (n, p) → Read_axes (off n p)
   unfolding bind
   no_counts e = rw (check_counts d (drop at s) at, read_off (r₃ ◂ (r₂ ◂ r₁)) e) keeps_off
 
-  module _ {f l r c : ℕ} (e : st ≡ Next f) (pl : l ≡ peek little 4 s (Next at)) (pr : r ≡ peek little 4 s one) (pc : c ≡ peek little 4 s two) where
+  module _ {f l r c : ℕ} (e : st ≡ Ok f) (pl : l ≡ peek little 4 s (Ok at)) (pr : r ≡ peek little 4 s one) (pc : c ≡ peek little 4 s two) where
     three : Read Three s at f
     three = read_on b (r₃ ◂ (r₂ ◂ r₁)) e
 

@@ -3,8 +3,8 @@
 use Rattle.std.specs.Prelude.{◌≡◌, refl, List, [], ◌∷◌, map, ℕ, zero, suc, ◌+◌, ◌*◌, ◌≤◌, ◌<◌, length, drop, set, get_or}
 use Rattle.std.proofs.Common.{sym, ap, ◌∙◌, subst, mul-suc, add-one, arith, length-set, get_or-set_same, get_or-set_other}
 use Rattle.std.proofs.lemmas.List.Edits.{sets}
-use Rattle.layout.specs.declared.Step.{Step}
-use Rattle.layout.specs.declared.Step.TheVariants.{Next, Refused}
+use Rattle.layout.specs.Step.{Step}
+use Rattle.std.specs.Prelude.{Ok, Err}
 use Rattle.grammar.specs.Layout.{Layout, Tree}
 use Rattle.grammar.specs.Rule.{Rule, items}
 use Rattle.grammar.specs.Laws.Layout.Check.{check}
@@ -16,8 +16,8 @@ use Rattle.grammar.specs.Laws.Table.Words.{sets_append}
 
 -- an answer of the code, once there are j, and the words with it
 abbrev pub row_of : ℕ → Step → List ℕ → Out (ℕ × List ℕ)
-row_of j (Next p) ws = on p (j, ws)
-row_of j (Refused r p) ws = off r p
+row_of j (Ok p) ws = on p (j, ws)
+row_of j (Err (r, p)) ws = off r p
 
 -- ---- first words
 

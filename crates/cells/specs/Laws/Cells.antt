@@ -9,15 +9,15 @@ use Rattle.std.proofs.Math.ListN.{length}
 use Rattle.std.proofs.lemmas.List.Edits.{sets}
 use Rattle.std.proofs.Math.Seq.{length-sets}
 use Rattle.sizes.specs.Sizes.{member_bytes, most_cells, cell_words}
-use Rattle.layout.specs.declared.Step.{Step}
-use Rattle.layout.specs.declared.Step.TheVariants.{Next, Refused}
+use Rattle.layout.specs.Step.{Step}
+use Rattle.std.specs.Prelude.{Ok, Err}
 use Rattle.sizes.specs.Basics.{among, pick}
 use Rattle.grammar.specs.Layout.{any_number, little, Tree, spell, Bytes, size}
 use Rattle.grammar.specs.Conventions.{int64}
 use Rattle.grammar.specs.Rule.{Rule, plain, ◌▸▸◌, items, tested}
 use Rattle.grammar.specs.Laws.Layout.Read.{bind}
 use Rattle.grammar.specs.Laws.Layout.Check.{judge, check}
-use Rattle.layout.specs.Reads.{Reads, peek}
+use Rattle.layout.specs.Reads.{ReadsTo, peek}
 use Rattle.grammar.specs.Laws.Layout.{digits_length}
 use Rattle.layout.specs.Keeps.{Out, on, off, Keeps, keeps_on, keeps_off, Each}
 use Rattle.layout.specs.Steps.Spelt.{Read, read_on, read_off, stays_inside, read_number_lem, ReadNumber}
@@ -27,14 +27,12 @@ use Rattle.grammar.specs.Value.{CellValue}
 use Rattle.grammar.specs.RecordWords.{word, firsts}
 use Rattle.grammar.specs.Once.{fresh}
 use Rattle.grammar.specs.Laws.Once.{is_fresh}
-use Rattle.table.specs.declared.Walk.{Walk}
-use Rattle.table.specs.declared.Walk.TheVariants as walk
+use Rattle.table.specs.Walk.{Walk}
 use Rattle.grammar.specs.Table.{Cell, Cells}
 use Rattle.grammar.specs.Records.{cell_index, cell_words_of, rows_words, cell_value, cells_of, cell_record}
 use Rattle.grammar.specs.Laws.Table.LeastBytes.{cell_bytes, least_cell}
 use Rattle.table.specs.Laws.Within.{RecordSizes, needed, Room}
-use Rattle.cells.specs.declared.CellRead.{CellRead}
-use Rattle.cells.specs.declared.CellRead.TheVariants.{Whole, BadIndex, BadValue}
+use Rattle.cells.specs.CellRead.{CellRead, Whole, BadIndex, BadValue}
 use Rattle.axes.specs.Laws.Rows.{Kind, Row, Rows, all_rows, row_of, after, before, first_set, second_set}
 
 -- the cell records
@@ -54,8 +52,8 @@ cell_room s at n h = record { enough = λ u few k. omega arith }
 
 -- an answer of the code, and the words with it
 abbrev pub cells_out : Walk → List ℕ → Out (ℕ × List ℕ)
-cells_out (walk.On p n) ws = on p (n, ws)
-cells_out (walk.Refused r p) ws = off r p
+cells_out (Ok (p, n)) ws = on p (n, ws)
+cells_out (Err (r, p)) ws = off r p
 
 module _ (version : ℕ) where
   -- ---- a cell
@@ -81,8 +79,8 @@ module _ (version : ℕ) where
 
   -- the record of cell j, whose index is x and whose Value is read from p on
   pub data Recorded (s : List ℕ) (p j x : ℕ) (ws : List ℕ) : CellRead → List ℕ → Type 0 where
-    recorded : {q : ℕ} {vs : List ℕ} → Reads (CellValue version) s (Next p) (Next q) → vs ≡ sets ws (cell_words * j) (cell_record (word32 x) (word32 p) (word32 (q - p))) → Recorded s p j x ws (Whole q) vs
-    not_recorded : {n q : ℕ} {vs : List ℕ} → Reads (CellValue version) s (Next p) (Refused n q) → vs ≡ sets ws (cell_words * j) (cell_record (word32 x) (word32 p) 0) → Recorded s p j x ws (BadValue n q) vs
+    recorded : {q : ℕ} {vs : List ℕ} → ReadsTo (CellValue version) s (Ok p) (Ok q) → vs ≡ sets ws (cell_words * j) (cell_record (word32 x) (word32 p) (word32 (q - p))) → Recorded s p j x ws (Whole q) vs
+    not_recorded : {n q : ℕ} {vs : List ℕ} → ReadsTo (CellValue version) s (Ok p) (Err (n, q)) → vs ≡ sets ws (cell_words * j) (cell_record (word32 x) (word32 p) 0) → Recorded s p j x ws (BadValue n q) vs
 
   -- Cell j has the index x, below the number of places, and its words are in vs. It is kept or refused as `o` says where none before it has
   -- that index, and refused for the index where one has.
@@ -105,15 +103,15 @@ module _ (version : ℕ) where
   unfolding size spell
   size_cell t = simp (length-append, digits_length) (omega arith)
 
-  module _ (s : List ℕ) (b : Bytes s) (short : length s ≤ member_bytes) (at places j : ℕ) (small : places < 2 ^ 32) (ws : List ℕ) {st : Step} (r : Reads int64 s (Next at) st) where
+  module _ (s : List ℕ) (b : Bytes s) (short : length s ≤ member_bytes) (at places j : ℕ) (small : places < 2 ^ 32) (ws : List ℕ) {st : Step} (r : ReadsTo int64 s (Ok at) st) where
     abbrev One : Out (ℕ × List ℕ) → Type 0
     One = OneCell s at places j ws
 
-    pub no_index : {n p : ℕ} → st ≡ Refused n p → CellDone s at places j ws (BadIndex n p) ws
+    pub no_index : {n p : ℕ} → st ≡ Err (n, p) → CellDone s at places j ws (BadIndex n p) ws
     unfolding check bind
     no_index {n} {p} e = bad_index {n = n} {p = p} (rw (read_off r e) keeps_off)
 
-    module _ {p x : ℕ} (e : st ≡ Next p) (pk : x ≡ peek little 8 s (Next at)) where
+    module _ {p x : ℕ} (e : st ≡ Ok p) (pk : x ≡ peek little 8 s (Ok at)) where
       num : ReadNumber 8 any_number s at p x
       num = read_number_lem b r e pk
 

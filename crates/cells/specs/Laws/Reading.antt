@@ -3,14 +3,14 @@
 use Rattle.std.specs.Prelude.{◌≡◌, refl, List, ℕ, ◌+◌, ◌-◌, ◌*◌, ◌≤◌, ◌<◌, length}
 use Rattle.std.proofs.Common.{sym, ◌∙◌, arith, below_more}
 use Rattle.sizes.specs.Sizes.{cell_words}
-use Rattle.layout.specs.declared.Step.{Step}
-use Rattle.layout.specs.declared.Step.TheVariants.{Next, Refused}
+use Rattle.layout.specs.Step.{Step}
+use Rattle.std.specs.Prelude.{Ok, Err}
 use Rattle.layout.specs.Keeps.{Out, on, off}
 use Rattle.grammar.specs.RecordWords.{word}
 use Rattle.grammar.specs.Repeat.{strided, Before, FirstRepeat}
 use Rattle.repeats.specs.Laws.Repeats.{AllNew, before_among, none_among}
 use Rattle.grammar.specs.Laws.Table.LeastBytes.{least_cell}
-use Rattle.cells.specs.declared.CellRead.TheVariants.{Whole, BadIndex, BadValue}
+use Rattle.cells.specs.CellRead.{Whole, BadIndex, BadValue}
 use Rattle.axes.specs.Laws.Rows.{Storing, storing, stores_on, stores_off, stores_to}
 use Rattle.cells.specs.Laws.Cells.{cell_kind, cell_of, OneCell, Stored, CellDone, bad_index, bad_value, whole, AllRead}
 
@@ -29,12 +29,12 @@ Placed ws m = (k : ℕ) → k < m → 8 ≤ value_at ws k
 -- what the test of the first m cells gives
 pub data Tested (ws : List ℕ) (m : ℕ) (end : Step) : Step → Type 0 where
   all_once : AllNew (index_of ws) m → Tested ws m end end
-  repeated : (k : ℕ) → k < m → AllNew (index_of ws) k → Before (index_of ws) k (index_of ws k) → Tested ws m end (Refused 10 (value_at ws k - 8))
+  repeated : (k : ℕ) → k < m → AllNew (index_of ws) k → Before (index_of ws) k (index_of ws k) → Tested ws m end (Err (10, value_at ws k - 8))
 
 pub tested_once : {ws : List ℕ} {m at : ℕ} {end : Step} → FirstRepeat (index_of ws) m at → m ≤ at → Tested ws m end end
 tested_once f h = all_once (λ j l. f.new j (omega arith))
 
-pub tested_repeat : {ws : List ℕ} {m at : ℕ} {end : Step} → FirstRepeat (index_of ws) m at → at < m → Tested ws m end (Refused 10 (value_at ws at - 8))
+pub tested_repeat : {ws : List ℕ} {m at : ℕ} {end : Step} → FirstRepeat (index_of ws) m at → at < m → Tested ws m end (Err (10, value_at ws at - 8))
 tested_repeat {at = at} f h = repeated at h f.new (f.there h)
 
 module _ (version : ℕ) where
@@ -43,7 +43,7 @@ module _ (version : ℕ) where
   module _ (places : ℕ) (s : List ℕ) (n at : ℕ) (ws : List ℕ) where
     -- each of the first m cells of vs that repeats an earlier one, where none before it does, is where the whole reading is refused
     abbrev pub Repeats : ℕ → List ℕ → Type 0
-    Repeats m vs = (k : ℕ) → k < m → AllNew (index_of vs) k → Before (index_of vs) k (index_of vs k) → AllRead version s at places n ws (Refused 10 (value_at vs k - 8)) vs
+    Repeats m vs = (k : ℕ) → k < m → AllNew (index_of vs) k → Before (index_of vs) k (index_of vs k) → AllRead version s at places n ws (Err (10, value_at vs k - 8)) vs
 
     -- after j cells, which end at at' and whose words are in vs
     pub record Reading (j at' : ℕ) (vs : List ℕ) : Type 0 where
@@ -59,7 +59,7 @@ module _ (version : ℕ) where
 
     module _ {j at' : ℕ} {vs : List ℕ} (v : Reading j at' vs) where
       module _ (h : j < n) where
-        refused : {m p : ℕ} → OneCell version s at' places j vs (off m p) → AllNew (index_of vs) j → AllRead version s at places n ws (Refused m p) vs
+        refused : {m p : ℕ} → OneCell version s at' places j vs (off m p) → AllNew (index_of vs) j → AllRead version s at places n ws (Err (m, p)) vs
         refused o a = stores_off (cell_kind version) (cell_of version places) s n at ws (v.stores a) h o
 
         -- cell j has an index, x
@@ -73,7 +73,7 @@ module _ (version : ℕ) where
           is_new : AllNew (index_of us) (j + 1) → OneCell version s at' places j vs o
           is_new a = d.new (none_among cell_words vs j x (λ b. a j (omega arith) (b.0, b.1, alike b.0 b.1 ∙ b.2 ∙ sym d.index)))
 
-          is_old : AllNew (index_of us) j → Before (index_of us) j (index_of us j) → AllRead version s at places n ws (Refused 10 at') us
+          is_old : AllNew (index_of us) j → Before (index_of us) j (index_of us j) → AllRead version s at places n ws (Err (10, at')) us
           is_old a b =
               refused (d.old (before_among cell_words vs j x (b.0, b.1, sym (alike b.0 b.1) ∙ b.2 ∙ d.index))) (news j (omega arith) a)
 
@@ -83,7 +83,7 @@ module _ (version : ℕ) where
 
           one_repeat : Repeats (j + 1) us
           one_repeat =
-              below_more (λ k. AllNew (index_of us) k → Before (index_of us) k (index_of us k) → AllRead version s at places n ws (Refused 10 (value_at us k - 8)) us) j
+              below_more (λ k. AllNew (index_of us) k → Before (index_of us) k (index_of us k) → AllRead version s at places n ws (Err (10, value_at us k - 8)) us) j
               (λ k l a b.
               rw (d.same (cell_words * k + 1) (omega arith))
               (v.repeats k l (news k (omega arith) a) (b.0, b.1, sym (alike b.0 (omega (arith, b.1))) ∙ b.2 ∙ alike k l)))
@@ -115,11 +115,11 @@ module _ (version : ℕ) where
       goes_on (whole d l) = one_more v h d refl l
 
       -- Bad index: reading stops, and the indexes before it are tested
-      pub at_index : {m p : ℕ} {us : List ℕ} → CellDone version s at' places j vs (BadIndex m p) us → Testable j (Refused m p) us
+      pub at_index : {m p : ℕ} {us : List ℕ} → CellDone version s at' places j vs (BadIndex m p) us → Testable j (Err (m, p)) us
       at_index (bad_index o) = record { same_length = v.same_length; placed = v.placed; repeats = v.repeats; once = refused v h o }
 
       -- Bad Value: reading stops, and the index of this cell is tested too
-      pub at_value : {m p : ℕ} {us : List ℕ} → CellDone version s at' places j vs (BadValue m p) us → Testable (j + 1) (Refused m p) us
+      pub at_value : {m p : ℕ} {us : List ℕ} → CellDone version s at' places j vs (BadValue m p) us → Testable (j + 1) (Err (m, p)) us
       at_value (bad_value d) =
           record {
             same_length = d.same_length ∙ v.same_length;
@@ -129,7 +129,7 @@ module _ (version : ℕ) where
           }
 
     -- End: all cells were read, and all are tested
-    pub at_end : {j at' : ℕ} {vs : List ℕ} → Reading j at' vs → n ≤ j → Testable n (Next at') vs
+    pub at_end : {j at' : ℕ} {vs : List ℕ} → Reading j at' vs → n ≤ j → Testable n (Ok at') vs
     at_end v h =
         record {
           same_length = v.same_length;

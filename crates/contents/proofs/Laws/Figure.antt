@@ -4,15 +4,15 @@ use Rattle.std.proofs.Math.Path.{refl, ap}
 use Rattle.std.proofs.Common.{sym, ◌∙◌, ne_eqb}
 use Rattle.std.proofs.lemmas.Bool.{false≢true}
 use Rattle.sizes.specs.Sizes.{below_value}
-use Rattle.layout.specs.declared.Step.{Step}
-use Rattle.layout.specs.declared.Step.TheVariants.{Next, Refused}
+use Rattle.layout.specs.Step.{Step}
+use Rattle.std.specs.Prelude.{Ok, Err}
 use Rattle.sizes.specs.Basics.{among, pick}
 use Rattle.grammar.specs.Layout.{little, Layout, Tree, Bytes}
 use Rattle.grammar.specs.Conventions.{choose}
 use Rattle.grammar.specs.Laws.Layout as laws
 use Rattle.grammar.specs.Laws.Layout.Read.{Got, got, no, read}
 use Rattle.layout.specs.Reads.{chain, step, peek, skip}
-use Rattle.fields.specs.Gives.{Shows}
+use Rattle.fields.specs.Gives.{ShowsTo}
 use Rattle.fields.specs.Laws.Shows.{number_shows}
 use Rattle.store.specs.Fields.{Fields, placed}
 use Rattle.layout.specs.Steps.Runs.{begins}
@@ -61,23 +61,23 @@ module _ (version : ℕ) {s : List ℕ} (bs : Bytes s) where
 
   -- one that is read
   pub figure_read : {q r : Step} {n : ℕ} {y : RawValue} {z : Figure} → unread version s ≡ 0 → n ≡ cell_zeros version
-      → Shows (Raw version) (said (Raw version) (raw_says version (ValueIn version below_value))) s q r y → q ≡ skip 0 n s (Next 0)
+      → ShowsTo (Raw version) (said (Raw version) (raw_says version (ValueIn version below_value))) s q r y → q ≡ skip 0 n s (Ok 0)
       → z ≡ outcome (λ p x. figure x) (λ n p. no_figure) r y → z ≡ figure (value_answer version s).raw
   unfolding figure_with among pick
   figure_read {q} {r} {n} {y} known e h f i =
       i ∙ same r ∙ ap (λ (x : Contents). figure x.raw) (answer_is bs (value_answers version known bs e h f refl))
     where
       same : (r : Step) → outcome (λ p x. figure x) (λ n p. no_figure) r y ≡ figure (outcome (value_of version) refused r (position_of q, y)).raw
-      same (Next p) = refl
-      same (Refused n p) = refl
+      same (Ok p) = refl
+      same (Err (n, p)) = refl
 
   -- one of another form, which need not be read
-  pub figure_other : {q : Step} {n x : ℕ} {z : Figure} → unread version s ≡ 0 → n ≡ cell_zeros version → q ≡ skip 0 n s (Next 0) → x ≡ peek little 1 s q → eqb x 1 ≡ false → eqb x 2 ≡ false
+  pub figure_other : {q : Step} {n x : ℕ} {z : Figure} → unread version s ≡ 0 → n ≡ cell_zeros version → q ≡ skip 0 n s (Ok 0) → x ≡ peek little 1 s q → eqb x 1 ≡ false → eqb x 2 ≡ false
       → z ≡ no_figure → z ≡ figure (value_answer version s).raw
   unfolding CellValue RawValueOf begins contents raw_says placed answer_of pick figure_with among
   figure_other {q} {n} {x} known e f g a b i = i ∙ go (eqb (unread version s) 0) (read (CellValue version) s 0) refl
     where
-      first : Shows (CellValue version) (after_run 0 (cell_zeros version) (Raw version) (λ t at. t.0)) s (Next 0) (chain q (step (Raw version) s)) (position_of q, x)
+      first : ShowsTo (CellValue version) (after_run 0 (cell_zeros version) (Raw version) (λ t at. t.0)) s (Ok 0) (chain q (step (Raw version) s)) (position_of q, x)
       first = leading_shows refl (number_shows (record { is = refl }) g) (rw e at f)
 
       go : (c : Bool) (y : Got (Tree (CellValue version))) → read (CellValue version) s 0 ≡ y
@@ -89,6 +89,6 @@ module _ (version : ℕ) {s : List ℕ} (bs : Bytes s) where
           let k : t.1.0 ≡ x = ap (λ (w : ℕ × ℕ). w.1) (derived_in_front bs first t r (record { valid = sp.0; split = sp.1 })).1 in
           sym (other_form version (ValueIn version below_value) t.1.0 (rw k a) (rw k b) (placed (CellValue version) t 0).1.1)
 
-  pub figure_plain : {bits : ℕ} → plain version s ≡ true → bits ≡ peek little 8 s (Next 6) → record { form = 1; bits = bits } ≡ figure (value_answer version s).raw
+  pub figure_plain : {bits : ℕ} → plain version s ≡ true → bits ≡ peek little 8 s (Ok 6) → record { form = 1; bits = bits } ≡ figure (value_answer version s).raw
   unfolding figure_with among pick
   figure_plain e i = rw i (ap (λ (x : Contents). figure x.raw) (answer_is bs (plain_answers version bs e)))

@@ -5,14 +5,14 @@ use Rattle.std.proofs.Common.{sym, arith, length-drop, eqb-true, ne_eqb, leb-tru
 use Rattle.std.proofs.Math.Bool.{false}
 use Rattle.std.proofs.lemmas.Bool.{false≢true}
 use Rattle.sizes.specs.Sizes.{below_value}
-use Rattle.layout.specs.declared.Step.TheVariants.{Next}
+use Rattle.std.specs.Prelude.{Ok, Err}
 use Rattle.sizes.specs.Basics.{among, pick}
 use Rattle.grammar.specs.Layout.{little, one_of_but, passes, Layout, empty, undigits, Bytes}
 use Rattle.grammar.specs.Laws.Layout.Read.{read_number, lead}
-use Rattle.layout.specs.Reads.{Reads, peek, field, skip}
+use Rattle.layout.specs.Reads.{ReadsTo, peek, field, skip}
 use Rattle.layout.specs.Steps.Chain.{empty_of}
 use Rattle.layout.specs.Steps.Numbers.{free_of, arm_of}
-use Rattle.fields.specs.Gives.{Shows}
+use Rattle.fields.specs.Gives.{ShowsTo}
 use Rattle.fields.specs.Laws.Shows.{◌&◌, shows_nothing, shows_of}
 use Rattle.fields.specs.Laws.Gives.{to_shows, number_gives}
 use Rattle.store.specs.Fields.{placed}
@@ -27,21 +27,21 @@ use Rattle.contents.specs.Laws.Plain.{plain, plain_raw, plain_value}
 record Plain (version : ℕ) (s : List ℕ) : Type 0 where
   long : 14 ≤ length s
   known : unread version s ≡ 0
-  first : 1 ≡ peek little 1 s (Next 0)
-  second : 0x58 ≡ peek little 1 s (Next 1)
+  first : 1 ≡ peek little 1 s (Ok 0)
+  second : 0x58 ≡ peek little 1 s (Ok 1)
 
 is_plain : (version : ℕ) (s : List ℕ) → plain version s ≡ true → Plain version s
 unfolding plain pick
 is_plain version s e =
-    go (leb 14 (length s)) refl (eqb (unread version s) 0) refl (eqb (peek little 1 s (Next 0)) 1) refl (eqb (peek little 1 s (Next 1)) 0x58) refl e
+    go (leb 14 (length s)) refl (eqb (unread version s) 0) refl (eqb (peek little 1 s (Ok 0)) 1) refl (eqb (peek little 1 s (Ok 1)) 0x58) refl e
   where
-    go : (a : Bool) → leb 14 (length s) ≡ a → (b : Bool) → eqb (unread version s) 0 ≡ b → (c : Bool) → eqb (peek little 1 s (Next 0)) 1 ≡ c
-        → (d : Bool) → eqb (peek little 1 s (Next 1)) 0x58 ≡ d → pick a (pick b (pick c d false) false) false ≡ true → Plain version s
+    go : (a : Bool) → leb 14 (length s) ≡ a → (b : Bool) → eqb (unread version s) 0 ≡ b → (c : Bool) → eqb (peek little 1 s (Ok 0)) 1 ≡ c
+        → (d : Bool) → eqb (peek little 1 s (Ok 1)) 0x58 ≡ d → pick a (pick b (pick c d false) false) false ≡ true → Plain version s
     go true i true j true k true l h = record {
       long = leb-true 14 (length s) i;
       known = eqb-true (unread version s) 0 j;
-      first = sym (eqb-true (peek little 1 s (Next 0)) 1 k);
-      second = sym (eqb-true (peek little 1 s (Next 1)) 0x58 l);
+      first = sym (eqb-true (peek little 1 s (Ok 0)) 1 k);
+      second = sym (eqb-true (peek little 1 s (Ok 1)) 0x58 l);
     }
     go true i true j true k false l h = absurd (false≢true h)
     go true i true j false k d l h = absurd (false≢true h)
@@ -50,12 +50,12 @@ is_plain version s e =
 
 -- ---- what is read
 
-field_next : (w at : ℕ) (s : List ℕ) → at + w ≤ length s → Next (at + w) ≡ field w 0 s (Next at)
+field_next : (w at : ℕ) (s : List ℕ) → at + w ≤ length s → Ok (at + w) ≡ field w 0 s (Ok at)
 unfolding field read_number pick
 field_next w at s h = rw (le-leb w (length (drop at s)) (omega (arith, length-drop at s)))
 
 -- no byte 00 stands before it
-no_zeros : (n : ℕ) (s : List ℕ) → 1 ≤ length s → 1 ≡ peek little 1 s (Next 0) → Next 0 ≡ skip 0 n s (Next 0)
+no_zeros : (n : ℕ) (s : List ℕ) → 1 ≤ length s → 1 ≡ peek little 1 s (Ok 0) → Ok 0 ≡ skip 0 n s (Ok 0)
 unfolding skip lead peek read_number pick undigits
 no_zeros n [] l e = absurd (omega arith)
 no_zeros zero (x ∷ xs) l e = refl
@@ -69,13 +69,13 @@ short_passes true = refl
 short_passes false = refl
 
 module _ (version : ℕ) {s : List ℕ} (p : Plain version s) where
-  no_modifier : Reads (ValueMod version) s (Next 1) (Next 2)
+  no_modifier : ReadsTo (ValueMod version) s (Ok 1) (Ok 2)
   unfolding ValueMod pick
   no_modifier =
       arm_of {test = one_of_but (0x31 ∷ 0x58 ∷ []) (left_out version)} {k = λ n. pick (eqb n 0x31) Modifiers empty} {n = 0x58} refl (short_passes (without_long_form version)) empty_of p.second
       (free_of (field_next 1 1 s (omega (arith, p.long))))
 
-  plain_shows : (v : Layout) → Shows (RawValueOf version v) (said (RawValueOf version v) (raw_says version v)) s (Next 0) (Next 14) (plain_raw s)
+  plain_shows : (v : Layout) → ShowsTo (RawValueOf version v) (said (RawValueOf version v) (raw_says version v)) s (Ok 0) (Ok 14) (plain_raw s)
   unfolding Form01 says_01 placed chosen either pick among
   plain_shows v =
       form_shows version v {n = 1} refl refl refl

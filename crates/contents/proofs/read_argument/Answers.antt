@@ -11,12 +11,12 @@ returns-then-n-ne0 c = answers_unread c.unread-n.ensures c.if-n-ne0.true c.refus
 pub overflow_cast-x : goal.overflow_cast-x
 overflow_cast-x c = record { fits = peek_fits little 4 _ c.type_inv.s _ c.peek-x.ensures }
 
-pub returns-in-Next : goal.returns-in-Next
-returns-in-Next c =
+pub returns-in-Ok : goal.returns-in-Ok
+returns-in-Ok c =
     argument_answers _ (sym c.unread-n.ensures ∙ c.if-n-ne0.false) (bytes_of _ c.type_inv.s) c.argument.ensures c.peek-x.ensures
-    (rw c.in-Next.is c.argument_of.ensures)
+    (rw c.in-Ok.is c.argument_of.ensures)
 
-pub returns-in-Refused : goal.returns-in-Refused
-returns-in-Refused c =
+pub returns-in-Err : goal.returns-in-Err
+returns-in-Err c =
     argument_answers _ (sym c.unread-n.ensures ∙ c.if-n-ne0.false) (bytes_of _ c.type_inv.s) c.argument.ensures c.peek-x.ensures
-    (rw c.in-Refused.is c.refused_argument-in-Refused.ensures)
+    (rw c.in-Err.is c.refused_argument-in-Err.ensures)

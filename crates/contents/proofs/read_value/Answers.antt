@@ -6,12 +6,12 @@ use Rattle.contents.proofs.read_value.Goals as goal
 pub returns-then-n-ne0 : goal.returns-then-n-ne0
 returns-then-n-ne0 c = answers_unread c.unread-n.ensures c.if-n-ne0.true c.refused.ensures
 
-pub returns-in-Next : goal.returns-in-Next
-returns-in-Next c =
+pub returns-in-Ok : goal.returns-in-Ok
+returns-in-Ok c =
     value_answers _ (sym c.unread-n.ensures ∙ c.if-n-ne0.false) (bytes_of _ c.type_inv.s) c.cell_zeros.ensures c.raw_value-got.ensures
-    c.skip-start.ensures (rw (c.in-Next.is, c.position.ensures))
+    c.skip-start.ensures (rw (c.in-Ok.is, c.position.ensures))
 
-pub returns-in-Refused : goal.returns-in-Refused
-returns-in-Refused c =
+pub returns-in-Err : goal.returns-in-Err
+returns-in-Err c =
     value_answers _ (sym c.unread-n.ensures ∙ c.if-n-ne0.false) (bytes_of _ c.type_inv.s) c.cell_zeros.ensures c.raw_value-got.ensures
-    c.skip-start.ensures (rw c.in-Refused.is c.refused-in-Refused.ensures)
+    c.skip-start.ensures (rw c.in-Err.is c.refused-in-Err.ensures)

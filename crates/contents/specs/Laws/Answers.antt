@@ -3,18 +3,18 @@ use Rattle.std.specs.Prelude.{◌≡◌, Bool, true, false, List, ℕ, ◌+◌, 
 use Rattle.std.proofs.Math.Path.{refl, ap}
 use Rattle.std.proofs.Common.{sym, ◌∙◌, zero-add, arith, drop-drop, eqb-true}
 use Rattle.std.proofs.lemmas.Bool.{eqb-false}
-use Rattle.layout.specs.declared.Step.{Step}
-use Rattle.layout.specs.declared.Step.TheVariants.{Next, Refused}
+use Rattle.layout.specs.Step.{Step}
+use Rattle.std.specs.Prelude.{Ok, Err}
 use Rattle.sizes.specs.Sizes.{below_value}
 use Rattle.sizes.specs.Basics.{pick}
 use Rattle.grammar.specs.Layout.{little, Layout, leading, Tree, size, Bytes}
 use Rattle.grammar.specs.Fails.{Spells, Fails}
 use Rattle.grammar.specs.Laws.Layout.Read.{Got, got, no, bind, lead, read_leading, read, differs}
-use Rattle.layout.specs.Reads.{forget, step, chain, Reads, peek, skip}
+use Rattle.layout.specs.Reads.{forget, step, chain, ReadsTo, peek, skip}
 use Rattle.grammar.specs.Laws.Layout as laws
 use Rattle.grammar.proofs.Laws.Layout as exactly
 use Rattle.layout.specs.Steps.Runs.{begins, leading_of}
-use Rattle.fields.specs.Gives.{Found, Shows}
+use Rattle.fields.specs.Gives.{Found, ShowsTo}
 use Rattle.fields.specs.Laws.Shows.{Read, tree_of, number_shows}
 use Rattle.store.specs.Fields.{placed}
 use Rattle.grammar.specs.Value.{cell_zeros, CellValue, RawValueOf, ValueIn}
@@ -50,15 +50,15 @@ module _ {A : Type 0} {b n : ℕ} {a : Layout} {f : Tree a → ℕ → A} where
         is = rw y.is;
       }
 
-  pub leading_shows : {s : List ℕ} {st q r : Step} {x : A} → begins a ≡ true → Shows a f s q r x → q ≡ skip b n s st
-      → Shows (leading b n a) (after_run b n a f) s st r (position_of q, x)
+  pub leading_shows : {s : List ℕ} {st q r : Step} {x : A} → begins a ≡ true → ShowsTo a f s q r x → q ≡ skip b n s st
+      → ShowsTo (leading b n a) (after_run b n a f) s st r (position_of q, x)
   unfolding skip
   leading_shows {s} {st} {q} {r} h y e =
       let reads = leading_of h y.reads e in
       record {
         reads = reads;
         found = λ bs at p i j.
-            let start : q ≡ Next (at + lead b n (drop at s)) = e ∙ rw i in
+            let start : q ≡ Ok (at + lead b n (drop at s)) = e ∙ rw i in
             rw start (found_leading (tree_of reads i j) (y.found bs (at + lead b n (drop at s)) p start j));
       }
 
@@ -66,8 +66,8 @@ module _ {A : Type 0} {b n : ℕ} {a : Layout} {f : Tree a → ℕ → A} where
 
 -- what is made of a reading: K of its length and of what was said, or the refusal
 abbrev pub outcome : {A B : Type 0} → (ℕ → B → A) → (ℕ → ℕ → A) → Step → B → A
-outcome K refused (Next p) y = K p y
-outcome K refused (Refused n p) y = refused n p
+outcome K refused (Ok p) y = K p y
+outcome K refused (Err (n, p)) y = refused n p
 
 pub answers_unread : {A : Type 0} {version : ℕ} {g : Layout} {says : Tree g → A} {refused : ℕ → ℕ → A} {s : List ℕ} {x : A} {n : ℕ} → n ≡ unread version s → (n ≡ 0 → ⊥)
     → x ≡ refused n 0 → Answers version g says refused s x
@@ -78,26 +78,26 @@ answers_unread e z h = record {
 }
 
 -- what was read is the derivation in front
-pub derived_in_front : {B : Type 0} {g : Layout} {f : Tree g → ℕ → B} {s : List ℕ} {r : Step} {y : B} → Bytes s → Shows g f s (Next 0) r y
-    → (t : Tree g) (rest : List ℕ) → Spells g s t rest → (r ≡ Next (size g t)) × (f t 0 ≡ y)
+pub derived_in_front : {B : Type 0} {g : Layout} {f : Tree g → ℕ → B} {s : List ℕ} {r : Step} {y : B} → Bytes s → ShowsTo g f s (Ok 0) r y
+    → (t : Tree g) (rest : List ℕ) → Spells g s t rest → (r ≡ Ok (size g t)) × (f t 0 ≡ y)
 unfolding step chain size
 derived_in_front {g = g} {f = f} {s} {r} bs h t rest sp =
     let e : read g s 0 ≡ got t rest (size g t) = rw sp.split (rw zero-add at (laws.complete g t sp.valid rest 0)) in
-    let n : r ≡ Next (size g t) = h.reads.is ∙ ap forget e in
+    let n : r ≡ Ok (size g t) = h.reads.is ∙ ap forget e in
     let z = h.found bs 0 (size g t) refl n in
     let i : got z.tree (drop (size g t) s) (size g t) ≡ got t rest (size g t) = sym z.reads ∙ e in
     let t≡ : z.tree ≡ t = cc in
     (n, rw t≡ at z.is)
 
 -- or where they fail
-failed : {g : Layout} {s : List ℕ} {r : Step} → Bytes s → Reads g s (Next 0) r → (n p : ℕ) → Fails g s 0 n p → r ≡ Refused n p
+failed : {g : Layout} {s : List ℕ} {r : Step} → Bytes s → ReadsTo g s (Ok 0) r → (n p : ℕ) → Fails g s 0 n p → r ≡ Err (n, p)
 unfolding step chain
 failed {g} {s} bs h n p e =
     let i : read g s 0 ≡ no n p = (exactly.fails_exactly g s bs 0 n p).1 e in
     h.is ∙ ap forget i
 
 pub answers_read : {A B : Type 0} {version : ℕ} {g : Layout} {f : Tree g → ℕ → B} {says : Tree g → A} {refused : ℕ → ℕ → A} {s : List ℕ} {r : Step} {y : B} {x : A} (K : ℕ → B → A)
-    → unread version s ≡ 0 → Bytes s → Shows g f s (Next 0) r y → ((t : Tree g) → K (size g t) (f t 0) ≡ says t) → x ≡ outcome K refused r y → Answers version g says refused s x
+    → unread version s ≡ 0 → Bytes s → ShowsTo g f s (Ok 0) r y → ((t : Tree g) → K (size g t) (f t 0) ≡ says t) → x ≡ outcome K refused r y → Answers version g says refused s x
 answers_read K known bs h same is = record {
   not_read = λ n i z. absurd (z (sym i ∙ known));
   derived = λ _ t rest sp. let d = derived_in_front bs h t rest sp in is ∙ rw (d.0, ← d.1) (same t);
@@ -111,14 +111,14 @@ module _ (version : ℕ) where
   value_of p y = record { refusal = 0; place = 0; length = p; zeros = y.0; raw = y.1 }
 
   pub value_answers : {s : List ℕ} {q r : Step} {n : ℕ} {y : RawValue} {x : Contents} → unread version s ≡ 0 → Bytes s → n ≡ cell_zeros version
-      → Shows (Raw version) (said (Raw version) (raw_says version (ValueIn version below_value))) s q r y → q ≡ skip 0 n s (Next 0) → x ≡ outcome value_of refused r (position_of q, y)
+      → ShowsTo (Raw version) (said (Raw version) (raw_says version (ValueIn version below_value))) s q r y → q ≡ skip 0 n s (Ok 0) → x ≡ outcome value_of refused r (position_of q, y)
       → ValueAnswers version s x
   unfolding CellValue RawValueOf begins contents placed
   value_answers known bs e h f is =
       answers_read value_of known bs (leading_shows refl h (rw e at f))
       (λ t. ap (λ (z : ℕ). value_of (size (CellValue version) t) (z, said (Raw version) (raw_says version (ValueIn version below_value)) t.1 (0 + t.0))) (zero-add t.0)) is
 
-  pub argument_answers : {s : List ℕ} {r : Step} {v : ℕ} {x : Argument} → unread version s ≡ 0 → Bytes s → Reads (grammar.Argument version below_value) s (Next 0) r → v ≡ peek little 4 s (Next 0)
+  pub argument_answers : {s : List ℕ} {r : Step} {v : ℕ} {x : Argument} → unread version s ≡ 0 → Bytes s → ReadsTo (grammar.Argument version below_value) s (Ok 0) r → v ≡ peek little 4 s (Ok 0)
       → x ≡ outcome argument_of refused_argument_answer r v → ArgumentAnswers version s x
   unfolding grammar.ArgumentOf argument_contents
   argument_answers known bs h e is = answers_read argument_of known bs (number_shows h e) (λ t. refl) is

@@ -2,8 +2,8 @@
 use Rattle.std.specs.Prelude.{◌≡◌, refl, List, ℕ, ◌^◌, ◌<◌, drop, get_or}
 use Rattle.std.specs.Int.{w8}
 use Rattle.std.proofs.Common.{Fits}
-use Rattle.layout.specs.declared.Step.{Step}
-use Rattle.layout.specs.declared.Step.TheVariants.{Next, Refused}
+use Rattle.layout.specs.Step.{Step}
+use Rattle.std.specs.Prelude.{Ok, Err}
 use Rattle.grammar.specs.Layout.{Order, any_number, empty, number, Bytes}
 use Rattle.grammar.specs.Laws.Layout.Read.{Got, got, no, read_number}
 use Rattle.grammar.specs.Laws.Layout as laws
@@ -15,8 +15,8 @@ use Rattle.grammar.specs.Laws.Layout.Spelt.{whole}
 -- a number that was read has its bytes
 pub peek_lt : (o : Order) (w : ℕ) (s : List ℕ) → Bytes s → (st : Step) → peek o w s st < 256 ^ w
 unfolding peek
-peek_lt o w s bs (Refused n p) = pow_pos w
-peek_lt o w s bs (Next at) = go (read_number o w (drop at s) at) refl
+peek_lt o w s bs (Err (n, p)) = pow_pos w
+peek_lt o w s bs (Ok at) = go (read_number o w (drop at s) at) refl
   where
     go : (x : Got ℕ) → read_number o w (drop at s) at ≡ x → number_of x < 256 ^ w
     go (got n r p) e = (laws.sound (number o w any_number (λ _. empty)) (drop at s) (drop_bytes at bs) at (n, tt) r p (whole o w (drop at s) at n r p e)).0.0

@@ -1,13 +1,13 @@
 -- One symbol after the other, a refusal that stays, and repetition.
 use Rattle.std.specs.Prelude.{◌≡◌, refl, Bool, true, false, List, ◌∷◌, ℕ, zero, suc, ◌-◌, ◌≤◌, ◌<◌, drop}
 use Rattle.std.proofs.Common.{ap, sym, ◌∙◌, subst, lt_irrefl, sub-one, arith}
-use Rattle.layout.specs.declared.Step.{Step}
-use Rattle.layout.specs.declared.Step.TheVariants.{Next, Refused}
+use Rattle.layout.specs.Step.{Step}
+use Rattle.std.specs.Prelude.{Ok, Err}
 use Rattle.sizes.specs.Basics.{pick}
 use Rattle.grammar.specs.Layout.{Layout, empty, ◌▸◌, times, nothing}
 use Rattle.grammar.specs.Laws.Layout.Read.{Got, got, no, bind, read_times, read}
 use Rattle.grammar.specs.Laws.Layout.Places.{Within, w_got, w_no, within, tail}
-use Rattle.layout.specs.Reads.{forget, step, chain, Reads, refused}
+use Rattle.layout.specs.Reads.{forget, step, chain, ReadsTo, refused}
 
 -- the tree does not matter
 pub forget_map : {A B : Type 0} (g : A → B) (x : Got A) → forget (bind x (λ t s at. got (g t) s at)) ≡ forget x
@@ -48,91 +48,91 @@ step_times a n s at =
 
 chain_chain : (st : Step) (f g : ℕ → Step) → chain (chain st f) g ≡ chain st (λ at. chain (f at) g)
 unfolding chain
-chain_chain (Next at) f g = refl
-chain_chain (Refused r p) f g = refl
+chain_chain (Ok at) f g = refl
+chain_chain (Err (r, p)) f g = refl
 
 chain_ext : (st : Step) {f g : ℕ → Step} → ((at : ℕ) → f at ≡ g at) → chain st f ≡ chain st g
 unfolding chain
-chain_ext (Next at) h = h at
-chain_ext (Refused r p) h = refl
+chain_ext (Ok at) h = h at
+chain_ext (Err (r, p)) h = refl
 
-pub chain_next : (st : Step) → chain st (λ at. Next at) ≡ st
+pub chain_next : (st : Step) → chain st (λ at. Ok at) ≡ st
 unfolding chain
-chain_next (Next at) = refl
-chain_next (Refused r p) = refl
+chain_next (Ok at) = refl
+chain_next (Err (r, p)) = refl
 
 -- a step that is a refusal
 pub data Refuses : Step → Type 0 where
-  refuses : {r p : ℕ} → Refuses (Refused r p)
+  refuses : {r p : ℕ} → Refuses (Err (r, p))
 
 -- it stays
 pub chain_refuses : {x : Step} (k : ℕ → Step) → Refuses x → chain x k ≡ x
 unfolding chain
 chain_refuses k refuses = refl
 
--- a law of `step` as a law of `Reads`: if g is a and then b, at every position
+-- a law of `step` as a law of `ReadsTo`: if g is a and then b, at every position
 split : {g a b : Layout} {s : List ℕ} {st q r : Step} → ((at : ℕ) → step g s at ≡ chain (step a s at) (step b s))
-    → Reads b s q r → Reads a s st q → Reads g s st r
+    → ReadsTo b s q r → ReadsTo a s st q → ReadsTo g s st r
 split {g} {a} {b} {s} {st} h e f =
     record { is = e.is ∙ ap (λ (x : Step). chain x (step b s)) f.is ∙ chain_chain st (step a s) (step b s) ∙ sym (chain_ext st h) }
 
 infixr 20 ◌◂◌
-pub then : {a b : Layout} {s : List ℕ} {st q r : Step} → Reads b s q r → Reads a s st q → Reads (a ▸ b) s st r
+pub then : {a b : Layout} {s : List ℕ} {st q r : Step} → ReadsTo b s q r → ReadsTo a s st q → ReadsTo (a ▸ b) s st r
 then {a} {b} {s} e f = split (step_then a b s) e f
 
 -- the same, to write a long chain: the last symbol's first
-abbrev pub ◌◂◌ : {a b : Layout} {s : List ℕ} {st q r : Step} → Reads b s q r → Reads a s st q → Reads (a ▸ b) s st r
+abbrev pub ◌◂◌ : {a b : Layout} {s : List ℕ} {st q r : Step} → ReadsTo b s q r → ReadsTo a s st q → ReadsTo (a ▸ b) s st r
 e ◂ f = then e f
 
 -- a refusal stays
-pub kept : {g : Layout} {s : List ℕ} {st : Step} {n p : ℕ} → st ≡ Refused n p → Reads g s st st
+pub kept : {g : Layout} {s : List ℕ} {st : Step} {n p : ℕ} → st ≡ Err (n, p) → ReadsTo g s st st
 unfolding chain
 kept {g} {s} {st} {n} {p} e = rw e (record { is = refl })
 
 -- what is read from a position after a step that is that position
-pub from_next : {g : Layout} {s : List ℕ} {st r : Step} {at : ℕ} → st ≡ Next at → Reads g s (Next at) r → Reads g s st r
+pub from_next : {g : Layout} {s : List ℕ} {st r : Step} {at : ℕ} → st ≡ Ok at → ReadsTo g s (Ok at) r → ReadsTo g s st r
 from_next e h = rw e h
 
 -- and after a refusal
-pub from_refused : {g : Layout} {s : List ℕ} {st : Step} {n p : ℕ} → st ≡ Refused n p → Reads g s st (Refused n p)
+pub from_refused : {g : Layout} {s : List ℕ} {st : Step} {n p : ℕ} → st ≡ Err (n, p) → ReadsTo g s st (Err (n, p))
 unfolding chain
 from_refused e = rw e (record { is = refl })
 
 -- what is read in the same bytes
-pub in_same : {g : Layout} {s w : List ℕ} {st r : Step} → w ≡ s → Reads g w st r → Reads g s st r
-in_same {g} {st = st} {r = r} e h = subst (λ (x : List ℕ). Reads g x st r) e h
+pub in_same : {g : Layout} {s w : List ℕ} {st r : Step} → w ≡ s → ReadsTo g w st r → ReadsTo g s st r
+in_same {g} {st = st} {r = r} e h = subst (λ (x : List ℕ). ReadsTo g x st r) e h
 
-pub empty_of : {s : List ℕ} {st : Step} → Reads empty s st st
+pub empty_of : {s : List ℕ} {st : Step} → ReadsTo empty s st st
 unfolding step read
 empty_of {s} {st} = record { is = sym (chain_next st) }
 
 nothing_chain : (s : List ℕ) (st : Step) → refused st ≡ chain st (step nothing s)
 unfolding step read chain
-nothing_chain s (Next at) = refl
-nothing_chain s (Refused r p) = refl
+nothing_chain s (Ok at) = refl
+nothing_chain s (Err (r, p)) = refl
 
-pub nothing_of : {s : List ℕ} {st r : Step} → r ≡ refused st → Reads nothing s st r
+pub nothing_of : {s : List ℕ} {st r : Step} → r ≡ refused st → ReadsTo nothing s st r
 nothing_of {s} {st} e = record { is = e ∙ nothing_chain s st }
 
 -- ---- that many times
 
-pub times_none : {a : Layout} {s : List ℕ} {st : Step} (n : ℕ) → n ≤ 0 → Reads (times n a) s st st
+pub times_none : {a : Layout} {s : List ℕ} {st : Step} (n : ℕ) → n ≤ 0 → ReadsTo (times n a) s st st
 unfolding step read read_times
 times_none {st = st} n h = let e : n ≡ 0 = omega arith in rw e (record { is = sym (chain_next st) })
 
-pub times_more : {a : Layout} {s : List ℕ} {st q r : Step} (n : ℕ) → 0 < n → Reads a s st q → Reads (times (n - 1) a) s q r → Reads (times n a) s st r
+pub times_more : {a : Layout} {s : List ℕ} {st q r : Step} (n : ℕ) → 0 < n → ReadsTo a s st q → ReadsTo (times (n - 1) a) s q r → ReadsTo (times n a) s st r
 times_more zero h e f = absurd (lt_irrefl 0 h)
 times_more {a} {s} (suc n) h e f = split (step_times a n s) (simp sub-one at f) e
 
 -- what a loop keeps: what k more take at to, n take st to
 abbrev pub Left : Layout → List ℕ → ℕ → Step → ℕ → Step → Type 0
-Left a s n st k at = (r : Step) → Reads (times k a) s at r → Reads (times n a) s st r
+Left a s n st k at = (r : Step) → ReadsTo (times k a) s at r → ReadsTo (times n a) s st r
 
-pub left_more : {a : Layout} {s : List ℕ} {n k : ℕ} {st at q : Step} → Left a s n st k at → 0 < k → Reads a s at q → Left a s n st (k - 1) q
+pub left_more : {a : Layout} {s : List ℕ} {n k : ℕ} {st at q : Step} → Left a s n st k at → 0 < k → ReadsTo a s at q → Left a s n st (k - 1) q
 left_more {k = k} inv h e = λ r f. inv r (times_more k h e f)
 
-pub left_none : {a : Layout} {s : List ℕ} {n k : ℕ} {st at : Step} → Left a s n st k at → k ≤ 0 → Reads (times n a) s st at
+pub left_none : {a : Layout} {s : List ℕ} {n k : ℕ} {st at : Step} → Left a s n st k at → k ≤ 0 → ReadsTo (times n a) s st at
 left_none {k = k} inv h = inv _ (times_none k h)
 
-pub left_kept : {a : Layout} {s : List ℕ} {n k : ℕ} {st at : Step} {x p : ℕ} → Left a s n st k at → at ≡ Refused x p → Reads (times n a) s st at
+pub left_kept : {a : Layout} {s : List ℕ} {n k : ℕ} {st at : Step} {x p : ℕ} → Left a s n st k at → at ≡ Err (x, p) → ReadsTo (times n a) s st at
 left_kept inv e = inv _ (kept e)

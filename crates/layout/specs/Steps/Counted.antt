@@ -8,16 +8,14 @@ use Prim.Native.Nat.{ℕ, zero, suc, ◌+◌, ◌≤◌, ◌<◌, min}
 use Rattle.std.proofs.Math.Nat.{add-sub_cancel_left, sub_self}
 use native.Mathlib.Omega.{arith}
 use borrow.Author.Tests.{le-leb, eq-eqb, ne_eqb}
-use Rattle.layout.specs.declared.Step.{Step}
-use Rattle.layout.specs.declared.Step.TheVariants.{Next, Refused}
-use Rattle.layout.specs.declared.Span.{Span}
-use Rattle.layout.specs.declared.Span.TheVariants.{Of}
-use Rattle.layout.specs.declared.Span.TheVariants as span
+use Rattle.layout.specs.Step.{Step}
+use Rattle.std.specs.Prelude.{Ok, Err}
+use Rattle.layout.specs.Step.{Span}
 use Rattle.sizes.specs.Basics.{pick}
 use Rattle.grammar.specs.Layout.{Order, Content, suits, Fill, exact, optional, open_ended, Layout, string, region}
-use Rattle.grammar.specs.Laws.Layout.Read.{Got, got, no, too_short, zero_byte, bind, read_counted, ends, read_fill, read}
+use Rattle.grammar.specs.Laws.Layout.Read.{Got, got, no, too_short, zero_byte, bind, ends, read_fill, read}
 use Rattle.grammar.specs.Laws.Layout.Places.{took_length, Within, w_got, w_no, within, Announced, announced, too_few, counted_view, announced_length, shift, read_shifts}
-use Rattle.layout.specs.Reads.{forget, step, chain, Reads, span_of, part, bytes, past, filled, close}
+use Rattle.layout.specs.Reads.{forget, step, chain, ReadsTo, span_of, part, bytes, past, filled, close}
 use Rattle.layout.specs.Steps.Chain.{forget_map, forget_rest, forget_pick}
 
 -- a reading from b is one from 0, moved on by b
@@ -31,7 +29,7 @@ module _ (b n : ℕ) where
   exact_fills c long (w_got {r = []} {p = p} q) =
       let e : p ≡ n = omega (arith, took_length q) in
       let m : min (b + p) (b + n) ≡ b + n = omega arith in
-      rw (m, eq-eqb (b + n) (b + n) refl) (ap Next (omega arith))
+      rw (m, eq-eqb (b + n) (b + n) refl) (ap Ok (omega arith))
   exact_fills c long (w_got {r = y ∷ ys} {p = p} q) =
       let h : p < n = omega (arith, took_length q) in
       let m : min (b + p) (b + n) ≡ b + p = omega arith in
@@ -42,17 +40,17 @@ module _ (b n : ℕ) where
       rw m
 
   open_fills : {A : Type 0} (c : List ℕ) → length c ≡ n → {x : Got A} → Within c 0 x
-      → forget {A = A × List ℕ} (bind (shift b x) (λ t s₁ at₁. got (t, s₁) [] (at₁ + length s₁))) ≡ close open_ended (Of b (b + n)) (forget x)
+      → forget {A = A × List ℕ} (bind (shift b x) (λ t s₁ at₁. got (t, s₁) [] (at₁ + length s₁))) ≡ close open_ended (Ok (b, b + n)) (forget x)
   unfolding bind shift close
-  open_fills c long (w_got {r = r} {p = p} q) = ap Next (omega (arith, took_length q))
+  open_fills c long (w_got {r = r} {p = p} q) = ap Ok (omega (arith, took_length q))
   open_fills c long (w_no {n = k} {p = p} l h) =
       let m : min (b + p) (b + n) ≡ b + p = omega arith in
       rw m
 
-  fills : (f : Fill) (a : Layout) (c : List ℕ) → length c ≡ n → forget (read_fill f (read a) c b) ≡ close f (Of b (b + n)) (step a c 0)
+  fills : (f : Fill) (a : Layout) (c : List ℕ) → length c ≡ n → forget (read_fill f (read a) c b) ≡ close f (Ok (b, b + n)) (step a c 0)
   unfolding read_fill step close pick
   fills exact a c long = rw (shifted_by b a c) (exact_fills c long (within a c 0))
-  fills optional a [] long = rw (eq-eqb b (b + n) (omega arith)) (ap Next (omega arith))
+  fills optional a [] long = rw (eq-eqb b (b + n) (omega arith)) (ap Ok (omega arith))
   fills optional a (x ∷ xs) long =
       let ne : b ≡ b + n → ⊥ = omega arith in
       rw (ne_eqb b (b + n) ne, forget_map some (ends (read a (x ∷ xs) b)), shifted_by b a (x ∷ xs)) (exact_fills (x ∷ xs) long (within a (x ∷ xs) 0))
@@ -64,7 +62,7 @@ same true x = refl
 same false x = refl
 
 -- the bytes of a part that is announced
-bytes_at : (s : List ℕ) (at w n : ℕ) → w + n ≤ length (drop at s) → bytes s (Of (at + w) (at + w + n)) ≡ take n (drop w (drop at s))
+bytes_at : (s : List ℕ) (at w n : ℕ) → w + n ≤ length (drop at s) → bytes s (Ok (at + w, at + w + n)) ≡ take n (drop w (drop at s))
 unfolding bytes pick
 bytes_at s at w zero h = simp (add-zero, sub_self, same)
 bytes_at s at w (suc n) h =
@@ -74,7 +72,7 @@ bytes_at s at w (suc n) h =
 
 step_string : (o : Order) (w : ℕ) (c : Content) (s : List ℕ) (st : Step) → past c w s (part o w s st) ≡ chain st (step (string o w c) s)
 unfolding step read bind part chain past
-step_string o w c s (Next at) = go (counted_view o w (drop at s) at)
+step_string o w c s (Ok at) = go (counted_view o w (drop at s) at)
   where
     go : {x : Got (List ℕ)} → Announced w (drop at s) at x
         → past c w s (span_of x) ≡ forget (bind x (λ content rest at₁. pick (suits c content) (got content rest (at₁ + length content)) (no zero_byte at)))
@@ -82,18 +80,18 @@ step_string o w c s (Next at) = go (counted_view o w (drop at s) at)
         rw (announced_length w n (drop at s) l, bytes_at s at w n l, add-sub_cancel)
         (forget_pick (suits c (take n (drop w (drop at s)))) _ _)
     go too_few = refl
-step_string o w c s (Refused n p) = refl
+step_string o w c s (Err (n, p)) = refl
 
 pub string_of : {o : Order} {w : ℕ} {c : Content} {s : List ℕ} {st r : Step} {p : Span}
-    → r ≡ past c w s p → p ≡ part o w s st → Reads (string o w c) s st r
+    → r ≡ past c w s p → p ≡ part o w s st → ReadsTo (string o w c) s st r
 string_of {o} {w} {c} {s} {st} e f = record { is = e ∙ rw f (step_string o w c s st) }
 
-close_not : (f : Fill) (r p : ℕ) (i : Step) → close f (span.Refused r p) i ≡ Refused r p
+close_not : (f : Fill) (r p : ℕ) (i : Step) → close f (Err (r, p)) i ≡ Err (r, p)
 unfolding close
 close_not f r p i = refl
 
 step_region : (o : Order) (f : Fill) (a : Layout) (s : List ℕ) (at : ℕ)
-    → close f (part o 4 s (Next at)) (step a (bytes s (part o 4 s (Next at))) 0) ≡ step (region o f a) s at
+    → close f (part o 4 s (Ok at)) (step a (bytes s (part o 4 s (Ok at))) 0) ≡ step (region o f a) s at
 unfolding step read part
 step_region o f a s at = go (counted_view o 4 (drop at s) at)
   where
@@ -110,11 +108,11 @@ step_region o f a s at = go (counted_view o 4 (drop at s) at)
 region_chain : (o : Order) (f : Fill) (a : Layout) (s : List ℕ) (st : Step)
     → close f (part o 4 s st) (step a (bytes s (part o 4 s st)) 0) ≡ chain st (step (region o f a) s)
 unfolding chain part
-region_chain o f a s (Next at) = step_region o f a s at
-region_chain o f a s (Refused r p) = close_not f r p _
+region_chain o f a s (Ok at) = step_region o f a s at
+region_chain o f a s (Err (r, p)) = close_not f r p _
 
 -- a region, whose own bytes b are read from their position 0
 pub region_of : {o : Order} {f : Fill} {a : Layout} {s b : List ℕ} {st q r : Step} {p : Span}
-    → r ≡ close f p q → Reads a b (Next 0) q → b ≡ bytes s p → p ≡ part o 4 s st → Reads (region o f a) s st r
+    → r ≡ close f p q → ReadsTo a b (Ok 0) q → b ≡ bytes s p → p ≡ part o 4 s st → ReadsTo (region o f a) s st r
 unfolding chain
 region_of {o} {f} {a} {s} {b} {st} e h g k = record { is = e ∙ rw (h.is, g, k) (region_chain o f a s st) }

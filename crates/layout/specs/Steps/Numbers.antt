@@ -1,12 +1,12 @@
 -- Numbers, their tests, and what a number asks for.
 use Rattle.std.specs.Prelude.{◌≡◌, refl, Bool, true, false, List, [], ◌∷◌, ℕ, ◌+◌, length, take, drop, eqb, leb}
 use Rattle.std.proofs.Common.{sym, ◌∙◌, drop-drop, ne_eqb}
-use Rattle.layout.specs.declared.Step.{Step}
-use Rattle.layout.specs.declared.Step.TheVariants.{Next, Refused}
+use Rattle.layout.specs.Step.{Step}
+use Rattle.std.specs.Prelude.{Ok, Err}
 use Rattle.sizes.specs.Basics.{among, pick}
 use Rattle.grammar.specs.Layout.{Order, little, Test, any_number, the_number, a_version, a_bool, at_most, one_of, one_of_but, a_color, passes, Layout, empty, number, Tree, undigits}
 use Rattle.grammar.specs.Laws.Layout.Read.{Got, got, no, refusal, too_short, bind, read_number, read}
-use Rattle.layout.specs.Reads.{forget, step, chain, Reads, number_of, peek, verdict, judged, field}
+use Rattle.layout.specs.Reads.{forget, step, chain, ReadsTo, number_of, peek, verdict, judged, field}
 use Rattle.layout.specs.Steps.Chain.{forget_map, Refuses, refuses, kept}
 
 -- a test that is broken gives a refusal
@@ -26,7 +26,7 @@ broken (one_of_but ks others) v e = go (among v others)
 broken a_color v e = refl
 
 pub step_tested : (o : Order) (w : ℕ) (test : Test) (s : List ℕ) (at : ℕ)
-    → step (number o w test (λ _. empty)) s at ≡ field w (verdict test (peek o w s (Next at))) s (Next at)
+    → step (number o w test (λ _. empty)) s at ≡ field w (verdict test (peek o w s (Ok at))) s (Ok at)
 unfolding step read bind read_number peek field verdict pick
 step_tested o w test s at = go (leb w (length (drop at s)))
   where
@@ -35,7 +35,7 @@ step_tested o w test s at = go (leb w (length (drop at s)))
 
     judge : (c : Bool) → passes test v ≡ c
         → forget {A = Tree (number o w test (λ _. empty))} (pick c (got (v, tt) (drop w (drop at s)) (at + w)) (no (refusal test v) at))
-        ≡ pick (eqb (pick c 0 (refusal test v)) 0) (Next (at + w)) (Refused (pick c 0 (refusal test v)) at)
+        ≡ pick (eqb (pick c 0 (refusal test v)) 0) (Ok (at + w)) (Err (pick c 0 (refusal test v), at))
     judge true e = refl
     judge false e = rw (broken test v e)
 
@@ -50,21 +50,21 @@ step_tested o w test s at = go (leb w (length (drop at s)))
 tested : (o : Order) (w : ℕ) (test : Test) (s : List ℕ) (st : Step)
     → field w (verdict test (peek o w s st)) s st ≡ chain st (step (number o w test (λ _. empty)) s)
 unfolding chain field
-tested o w test s (Next at) = sym (step_tested o w test s at)
-tested o w test s (Refused n p) = refl
+tested o w test s (Ok at) = sym (step_tested o w test s at)
+tested o w test s (Err (n, p)) = refl
 
 -- a number that is tested: v is the number, c its verdict
 pub tested_of : {o : Order} {w : ℕ} {test : Test} {s : List ℕ} {st r : Step} {v c : ℕ}
-    → r ≡ field w c s st → c ≡ verdict test v → v ≡ peek o w s st → Reads (number o w test (λ _. empty)) s st r
+    → r ≡ field w c s st → c ≡ verdict test v → v ≡ peek o w s st → ReadsTo (number o w test (λ _. empty)) s st r
 tested_of {o} {w} {test} {s} {st} e f g = record { is = e ∙ rw (f, g) (tested o w test s st) }
 
 -- a number of any value
-pub free_of : {o : Order} {w : ℕ} {s : List ℕ} {st r : Step} → r ≡ field w 0 s st → Reads (number o w any_number (λ _. empty)) s st r
+pub free_of : {o : Order} {w : ℕ} {s : List ℕ} {st r : Step} → r ≡ field w 0 s st → ReadsTo (number o w any_number (λ _. empty)) s st r
 unfolding verdict passes pick
 free_of {o} {w} {s} {st} e = record { is = e ∙ tested o w any_number s st }
 
 step_switch : (o : Order) (w : ℕ) (test : Test) (k : ℕ → Layout) (s : List ℕ) (at : ℕ)
-    → step (number o w test k) s at ≡ chain (step (number o w test (λ _. empty)) s at) (step (k (peek o w s (Next at))) s)
+    → step (number o w test k) s at ≡ chain (step (number o w test (λ _. empty)) s at) (step (k (peek o w s (Ok at))) s)
 unfolding step read bind read_number peek pick chain
 step_switch o w test k s at = go (leb w (length (drop at s)))
   where
@@ -91,25 +91,25 @@ step_switch o w test k s at = go (leb w (length (drop at s)))
 switch : (o : Order) (w : ℕ) (test : Test) (k : ℕ → Layout) (s : List ℕ) (st : Step)
     → chain (chain st (step (number o w test (λ _. empty)) s)) (step (k (peek o w s st)) s) ≡ chain st (step (number o w test k) s)
 unfolding chain
-switch o w test k s (Next at) = sym (step_switch o w test k s at)
-switch o w test k s (Refused n p) = refl
+switch o w test k s (Ok at) = sym (step_switch o w test k s at)
+switch o w test k s (Err (n, p)) = refl
 
 -- a number, and then what it asks for
 pub switch_of : {o : Order} {w : ℕ} {test : Test} {k : ℕ → Layout} {s : List ℕ} {st q r : Step} {v : ℕ}
-    → Reads (k v) s q r → v ≡ peek o w s st → Reads (number o w test (λ _. empty)) s st q → Reads (number o w test k) s st r
+    → ReadsTo (k v) s q r → v ≡ peek o w s st → ReadsTo (number o w test (λ _. empty)) s st q → ReadsTo (number o w test k) s st r
 switch_of {o} {w} {test} {k} {s} {st} e f g = record { is = e.is ∙ rw (f, g.is) (switch o w test k s st) }
 
 -- an arm of a `match` on the number
 pub switch_key : {o : Order} {w : ℕ} {test : Test} {k : ℕ → Layout} {s : List ℕ} {st q r : Step} {v n : ℕ}
-    → v ≡ n → Reads (k n) s q r → v ≡ peek o w s st → Reads (number o w test (λ _. empty)) s st q → Reads (number o w test k) s st r
+    → v ≡ n → ReadsTo (k n) s q r → v ≡ peek o w s st → ReadsTo (number o w test (λ _. empty)) s st q → ReadsTo (number o w test k) s st r
 switch_key {k = k} e h f g = switch_of {k = k} (rw e h) f g
 
 -- an arm of a test on the number
-pub yes_of : {x : Layout} {s : List ℕ} {st r : Step} (b : Bool) (y : Layout) → b ≡ true → Reads x s st r → Reads (pick b x y) s st r
+pub yes_of : {x : Layout} {s : List ℕ} {st r : Step} (b : Bool) (y : Layout) → b ≡ true → ReadsTo x s st r → ReadsTo (pick b x y) s st r
 unfolding pick
 yes_of b y e h = rw e h
 
-pub no_of : {y : Layout} {s : List ℕ} {st r : Step} (b : Bool) (x : Layout) → b ≡ false → Reads y s st r → Reads (pick b x y) s st r
+pub no_of : {y : Layout} {s : List ℕ} {st r : Step} (b : Bool) (x : Layout) → b ≡ false → ReadsTo y s st r → ReadsTo (pick b x y) s st r
 unfolding pick
 no_of b x e h = rw e h
 
@@ -124,32 +124,32 @@ unfolding verdict pick
 verdict_broken test v e = rw e
 
 -- a number of any value, as a field with no refusal
-free_field : {o : Order} {w : ℕ} {s : List ℕ} {st q : Step} → Reads (number o w any_number (λ _. empty)) s st q → q ≡ field w 0 s st
+free_field : {o : Order} {w : ℕ} {s : List ℕ} {st q : Step} → ReadsTo (number o w any_number (λ _. empty)) s st q → q ≡ field w 0 s st
 unfolding verdict passes pick
 free_field {o} {w} {s} {st} e = e.is ∙ sym (tested o w any_number s st)
 
 -- the number is n, which passes
 pub arm_of : {o : Order} {w : ℕ} {test : Test} {k : ℕ → Layout} {s : List ℕ} {st q r : Step} {v n : ℕ}
-    → v ≡ n → passes test n ≡ true → Reads (k n) s q r → v ≡ peek o w s st → Reads (number o w any_number (λ _. empty)) s st q
-    → Reads (number o w test k) s st r
+    → v ≡ n → passes test n ≡ true → ReadsTo (k n) s q r → v ≡ peek o w s st → ReadsTo (number o w any_number (λ _. empty)) s st q
+    → ReadsTo (number o w test k) s st r
 arm_of {test = test} {k = k} {v = v} e t h f g =
     switch_key {k = k} e h f (tested_of (free_field g) (verdict_passed test v (rw e t)) f)
 
 pub broken_refuses : (w c : ℕ) (s : List ℕ) (st : Step) → eqb c 0 ≡ false → Refuses (field w c s st)
 unfolding field pick
-broken_refuses w c s (Next at) e = go (read_number little w (drop at s) at)
+broken_refuses w c s (Ok at) e = go (read_number little w (drop at s) at)
   where
     go : (x : Got ℕ) → Refuses (judged c at x)
     go (got n r p) = rw e refuses
     go (no r p) = refuses
-broken_refuses w c s (Refused r p) e = refuses
+broken_refuses w c s (Err (r, p)) e = refuses
 
-refused_keeps : {g : Layout} {s : List ℕ} {st : Step} → Refuses st → Reads g s st st
+refused_keeps : {g : Layout} {s : List ℕ} {st : Step} → Refuses st → ReadsTo g s st st
 refused_keeps refuses = kept refl
 
 -- the number is none that passes
 pub other_of : {o : Order} {w : ℕ} {test : Test} {k : ℕ → Layout} {s : List ℕ} {st r : Step} {v : ℕ}
-    → passes test v ≡ false → v ≡ peek o w s st → r ≡ field w (refusal test v) s st → Reads (number o w test k) s st r
+    → passes test v ≡ false → v ≡ peek o w s st → r ≡ field w (refusal test v) s st → ReadsTo (number o w test k) s st r
 other_of {o} {w} {test} {k} {s} {st} {r} {v} t f g =
     let n : Refuses r = rw g (broken_refuses w (refusal test v) s st (broken test v t)) in
     switch_of {k = k} {v = v} (refused_keeps n) f (tested_of g (verdict_broken test v t) f)

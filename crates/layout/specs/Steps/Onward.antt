@@ -1,13 +1,13 @@
 -- Layouts that take a byte or more: where one of them was read, fewer bytes are left. So a loop over them ends by the bytes that are there.
-use Rattle.std.specs.Prelude.{◌≡◌, refl, Bool, true, false, List, ℕ, suc, ◌+◌, ◌-◌, ◌≤◌, ◌<◌, length, take, drop, leb, ltb}
+use Rattle.std.specs.Prelude.{◌≡◌, refl, Bool, true, false, List, ℕ, suc, ◌+◌, ◌-◌, ◌<◌, length, take, drop, leb, ltb}
 use Rattle.std.proofs.Common.{arith, length-drop, ltb-true}
-use Rattle.layout.specs.declared.Step.{Step}
-use Rattle.layout.specs.declared.Step.TheVariants.{Next, Refused}
+use Rattle.layout.specs.Step.{Step}
+use Rattle.std.specs.Prelude.{Ok, Err}
 use Rattle.sizes.specs.Basics.{pick}
 use Rattle.grammar.specs.Layout.{Order, Test, Layout, number, leading, nothing, passes, Tree, undigits}
 use Rattle.grammar.specs.Laws.Layout.Read.{Got, got, no, bind, read_number, read_leading, lead, read, too_short}
-use Rattle.grammar.specs.Laws.Layout.Places.{Took, Within, w_got, w_no, within, took}
-use Rattle.layout.specs.Reads.{forget, step, chain, Reads}
+use Rattle.grammar.specs.Laws.Layout.Places.{Within, w_got, w_no, within, took}
+use Rattle.layout.specs.Reads.{forget, step, chain, ReadsTo}
 
 -- a number of some bytes, and a run of bytes with what comes after it, take a byte or more; and so does what no bytes have
 pub data Onward : Layout → Type 0 where
@@ -58,14 +58,14 @@ ends by_none s at = e_no
 
 -- the bytes that are left at a step, and one more: none after a refusal
 unfoldable pub room : List ℕ → Step → ℕ
-room s (Next at) = suc (length s - at)
-room s (Refused r p) = 0
+room s (Ok at) = suc (length s - at)
+room s (Err (r, p)) = 0
 
 -- Less room: after a layout that takes a byte or more
-pub less_room : {g : Layout} → Onward g → {s : List ℕ} {st r : Step} {at : ℕ} → st ≡ Next at → Reads g s st r → room s r < room s st
+pub less_room : {g : Layout} → Onward g → {s : List ℕ} {st r : Step} {at : ℕ} → st ≡ Ok at → ReadsTo g s st r → room s r < room s st
 unfolding room chain step
 less_room {g} o {s} {st} {r} {at} e h = rw (h.is, e) (go (ends o (drop at s) at) (within g (drop at s) at))
   where
-    go : {x : Got (Tree g)} → Ends at x → Within (drop at s) at x → room s (forget x) < room s (Next at)
+    go : {x : Got (Tree g)} → Ends at x → Within (drop at s) at x → room s (forget x) < room s (Ok at)
     go (e_got {p = p} l) w = let q = took w in omega (arith, q.place, q.short, length-drop at s)
     go e_no w = omega arith

@@ -6,12 +6,12 @@ use Rattle.std.proofs.Math.Bool.{true, false}
 use Rattle.std.proofs.Math.Nat.{suc-mul, div-eq_of_lt, div-eq-sub-div}
 use Rattle.std.proofs.Math.Dec.{eqb}
 use borrow.Author.Tests.{leb-true, leb-false, le-leb, lt-leb, eqb-true, eqb-false}
-use Rattle.layout.specs.declared.Step.{Step}
-use Rattle.layout.specs.declared.Step.TheVariants.{Next, Refused}
+use Rattle.layout.specs.Step.{Step}
+use Rattle.std.specs.Prelude.{Ok, Err}
 use Rattle.sizes.specs.Basics.{pick}
 use Rattle.grammar.specs.Layout.{Order, little, any_number, passes, Layout, empty, number, ◌▸◌, times, undigits}
 use Rattle.grammar.specs.Laws.Layout.Read.{got, no, too_short, read_number, read_times, read}
-use Rattle.layout.specs.Reads.{step, chain, Reads, verdict, judged, field, fitting, rows}
+use Rattle.layout.specs.Reads.{step, chain, ReadsTo, verdict, judged, field, fitting, rows}
 use Rattle.layout.specs.Steps.Chain.{step_then, step_times, Refuses, refuses, chain_refuses}
 use Rattle.layout.specs.Steps.Numbers.{step_tested}
 
@@ -21,21 +21,21 @@ pub data Flat : Layout → ℕ → Type 0 where
   flat_then : {a b : Layout} {m n : ℕ} → Flat a m → Flat b n → Flat (a ▸ b) (m + n)
 
 field_step : (o : Order) (w : ℕ) (s : List ℕ) (at : ℕ)
-    → step (number o w any_number (λ _. empty)) s at ≡ pick (leb w (length s - at)) (Next (at + w)) (Refused too_short at)
+    → step (number o w any_number (λ _. empty)) s at ≡ pick (leb w (length s - at)) (Ok (at + w)) (Err (too_short, at))
 unfolding field verdict passes pick read_number
 field_step o w s at = step_tested o w any_number s at ∙ rw length-drop (go (leb w (length s - at)))
   where
     go : (b : Bool) → judged 0 at (pick b (got (undigits little (take w (drop at s))) (drop w (drop at s)) (at + w)) (no too_short at))
-        ≡ pick b (Next (at + w)) (Refused too_short at)
+        ≡ pick b (Ok (at + w)) (Err (too_short, at))
     go true = refl
     go false = refl
 
-flat_fits : {a : Layout} {m : ℕ} → Flat a m → (s : List ℕ) (at : ℕ) → m ≤ length s - at → step a s at ≡ Next (at + m)
+flat_fits : {a : Layout} {m : ℕ} → Flat a m → (s : List ℕ) (at : ℕ) → m ≤ length s - at → step a s at ≡ Ok (at + m)
 unfolding pick chain
 flat_fits (flat_field {o} {w}) s at h = field_step o w s at ∙ rw (le-leb w (length s - at) h)
 flat_fits (flat_then {a} {b} {m} {n} f g) s at h =
     step_then a b s at
-    ∙ rw (flat_fits f s at (omega arith), flat_fits g s (at + m) (omega arith)) (ap Next (add_assoc at m n))
+    ∙ rw (flat_fits f s at (omega arith), flat_fits g s (at + m) (omega arith)) (ap Ok (add_assoc at m n))
 
 -- one of the two does not fit
 pair_stops : {a : Layout} (b : Layout) {m : ℕ} → Flat a m → (s : List ℕ) (at : ℕ) → (length s - at < m → Refuses (step a s at))
@@ -54,18 +54,18 @@ flat_stops (flat_then {a} {b} {m} {n} f g) s at h = pair_stops b f s at (λ l. f
 
 -- n rows are those that fit, and where these are not all, the first that does not
 unfoldable Rows : Layout → ℕ → ℕ → List ℕ → ℕ → ℕ → Type 0
-Rows a size n s at k = (k ≡ n → step (times n a) s at ≡ Next (at + n * size)) × (k < n → step (times n a) s at ≡ step a s (at + k * size))
+Rows a size n s at k = (k ≡ n → step (times n a) s at ≡ Ok (at + n * size)) × (k < n → step (times n a) s at ≡ step a s (at + k * size))
 
 module _ {a : Layout} {size : ℕ} (flat : Flat a size) (s : List ℕ) where
   rows_zero : (at k : ℕ) → k ≤ 0 → Rows a size 0 s at k
   unfolding Rows step read read_times
-  rows_zero at k h = (λ e. ap Next (omega arith), λ l. absurd (omega arith))
+  rows_zero at k h = (λ e. ap Ok (omega arith), λ l. absurd (omega arith))
 
   -- the first row fits: k is one more than fit after it
   rows_fits : (n at k : ℕ) → size ≤ length s - at → Rows a size n s (at + size) k → Rows a size (suc n) s at (suc k)
   unfolding Rows chain
   rows_fits n at k h r = (
-    λ e. step_times a n s at ∙ rw (flat_fits flat s at h) (r.0 (omega arith) ∙ ap Next (rw suc-mul (omega arith))),
+    λ e. step_times a n s at ∙ rw (flat_fits flat s at h) (r.0 (omega arith) ∙ ap Ok (rw suc-mul (omega arith))),
     λ l. step_times a n s at ∙ rw (flat_fits flat s at h) (r.1 (omega arith) ∙ ap (step a s) (rw suc-mul (omega arith))),
   )
 
@@ -98,7 +98,7 @@ module _ {a : Layout} {size : ℕ} (flat : Flat a size) (s : List ℕ) where
   rows_empty e zero at = rows_zero at 0 (omega arith)
   rows_empty e (suc n) at = rows_fits n at n (omega arith) (rows_empty e n (at + size))
 
-  rows_fitting : (n at : ℕ) → Rows a size n s at (fitting size n s (Next at)) × (fitting size n s (Next at) ≤ n)
+  rows_fitting : (n at : ℕ) → Rows a size n s at (fitting size n s (Ok at)) × (fitting size n s (Ok at) ≤ n)
   unfolding fitting pick
   rows_fitting n at = go (eqb size 0) refl
     where
@@ -108,20 +108,20 @@ module _ {a : Layout} {size : ℕ} (flat : Flat a size) (s : List ℕ) where
 
   rows_all_chain : (n : ℕ) (st : Step) → fitting size n s st ≡ n → rows size n s st ≡ chain st (step (times n a) s)
   unfolding chain rows Rows
-  rows_all_chain n (Next at) e = rw e (sym ((rows_fitting n at).0.0 e))
-  rows_all_chain n (Refused r p) e = refl
+  rows_all_chain n (Ok at) e = rw e (sym ((rows_fitting n at).0.0 e))
+  rows_all_chain n (Err (r, p)) e = refl
 
   rows_some_chain : (n : ℕ) (st : Step) → (fitting size n s st ≡ n → ⊥) → chain (rows size n s st) (step a s) ≡ chain st (step (times n a) s)
   unfolding chain rows Rows
-  rows_some_chain n (Next at) e = sym ((rows_fitting n at).0.1 (omega (arith, (rows_fitting n at).1)))
-  rows_some_chain n (Refused r p) e = refl
+  rows_some_chain n (Ok at) e = sym ((rows_fitting n at).0.1 (omega (arith, (rows_fitting n at).1)))
+  rows_some_chain n (Err (r, p)) e = refl
 
 -- every row fits
 pub rows_all : {a : Layout} {size n k : ℕ} {s : List ℕ} {st q : Step} → Flat a size → k ≡ fitting size n s st → q ≡ rows size n s st
-    → k ≡ n → Reads (times n a) s st q
+    → k ≡ n → ReadsTo (times n a) s st q
 rows_all {n = n} {s = s} {st = st} f e g h = record { is = g ∙ rows_all_chain f s n st (sym e ∙ h) }
 
 -- not every row fits
 pub rows_some : {a : Layout} {size n k : ℕ} {s : List ℕ} {st q r : Step} → Flat a size → k ≡ fitting size n s st → q ≡ rows size n s st
-    → (k ≡ n → ⊥) → Reads a s q r → Reads (times n a) s st r
+    → (k ≡ n → ⊥) → ReadsTo a s q r → ReadsTo (times n a) s st r
 rows_some {a} {size} {n} {s = s} {st = st} f e g h i = record { is = i.is ∙ rw g (rows_some_chain f s n st (λ x. h (e ∙ x))) }

@@ -2,13 +2,13 @@
 use Rattle.std.specs.Prelude.{◌≡◌, refl, Bool, true, false, List, ℕ, ◌+◌, ◌<◌, length, drop, leb, ltb}
 use Rattle.std.proofs.Common.{◌∙◌, arith, drop-drop, ltb-true, lt-ltb}
 use Rattle.std.proofs.lemmas.Bool.{false≢true}
-use Rattle.layout.specs.declared.Step.{Step}
-use Rattle.layout.specs.declared.Step.TheVariants.{Next, Refused}
+use Rattle.layout.specs.Step.{Step}
+use Rattle.std.specs.Prelude.{Ok, Err}
 use Rattle.sizes.specs.Basics.{pick}
 use Rattle.grammar.specs.Layout.{passes, Layout, empty, number, string, ◌▸◌, times, leading, region, nothing, Tree}
 use Rattle.grammar.specs.Laws.Layout.Read.{Got, got, no, bind, read_number, lead, read_leading, read, differs}
 use Rattle.grammar.specs.Laws.Layout.Places.{Within, w_got, w_no, within}
-use Rattle.layout.specs.Reads.{forget, step, chain, Reads, skip}
+use Rattle.layout.specs.Reads.{forget, step, chain, ReadsTo, skip}
 
 -- a number or a run comes first, so every tree of the layout spells at least one byte
 unfoldable pub begins : Layout → Bool
@@ -78,9 +78,9 @@ step_leading b n a h s at =
 
 leading_chain : (b n : ℕ) (a : Layout) → begins a ≡ true → (s : List ℕ) (st : Step) → chain (skip b n s st) (step a s) ≡ chain st (step (leading b n a) s)
 unfolding chain skip
-leading_chain b n a h s (Next at) = step_leading b n a h s at
-leading_chain b n a h s (Refused r p) = refl
+leading_chain b n a h s (Ok at) = step_leading b n a h s at
+leading_chain b n a h s (Err (r, p)) = refl
 
 -- a run of bytes, and then a
-pub leading_of : {b n : ℕ} {a : Layout} {s : List ℕ} {st q r : Step} → begins a ≡ true → Reads a s q r → q ≡ skip b n s st → Reads (leading b n a) s st r
+pub leading_of : {b n : ℕ} {a : Layout} {s : List ℕ} {st q r : Step} → begins a ≡ true → ReadsTo a s q r → q ≡ skip b n s st → ReadsTo (leading b n a) s st r
 leading_of {b} {n} {a} {s} {st} h e f = record { is = e.is ∙ rw f (leading_chain b n a h s st) }

@@ -1,25 +1,25 @@
 -- Bytes that a derivation spells, and what `step` and `peek` give there.
 use Rattle.std.specs.Prelude.{◌≡◌, refl, true, List, [], ◌++◌, ℕ, ◌+◌, ◌^◌, ◌≤◌, ◌<◌, length, drop, leb}
 use Rattle.std.proofs.Common.{sym, ap, ◌∙◌, append-nil, append_assoc, arith, length-append, length-drop, take_at, le-leb}
-use Rattle.layout.specs.declared.Step.{Step}
-use Rattle.layout.specs.declared.Step.TheVariants.{Next, Refused}
+use Rattle.layout.specs.Step.{Step}
+use Rattle.std.specs.Prelude.{Ok, Err}
 use Rattle.sizes.specs.Basics.{pick}
 use Rattle.grammar.specs.Layout.{Order, little, Test, passes, digits, Layout, ◌▸◌, Tree, spell, size, Bytes, Valid}
 use Rattle.grammar.specs.Conventions.{field}
 use Rattle.grammar.specs.Rule.{Rule, numbered}
 use Rattle.grammar.specs.Laws.Layout.Read.{Got, got, no, bind, read_number, read}
 use Rattle.grammar.specs.Laws.Layout.Check.{check}
-use Rattle.layout.specs.Reads.{forget, step, chain, peek, Reads}
+use Rattle.layout.specs.Reads.{forget, step, chain, peek, ReadsTo}
 use Rattle.grammar.specs.Laws.Layout.{number_spelt, complete, sound, digits_length, passes_exactly}
 use Rattle.grammar.specs.Laws.Layout.Spelt.{after}
 use Rattle.layout.specs.Steps.Slices.{drop_bytes}
 use Rattle.grammar.specs.Laws.Layout.Binds.{bind_assoc, bind_pick}
 
-pub step_spelt : (g : Layout) (t : Tree g) → Valid g t → (s : List ℕ) (at : ℕ) (r : List ℕ) → drop at s ≡ spell g t ++ r → step g s at ≡ Next (at + size g t)
+pub step_spelt : (g : Layout) (t : Tree g) → Valid g t → (s : List ℕ) (at : ℕ) (r : List ℕ) → drop at s ≡ spell g t ++ r → step g s at ≡ Ok (at + size g t)
 unfolding step size
 step_spelt g t v s at r e = rw (e, complete g t v r at)
 
-pub peek_spelt : (o : Order) (w n : ℕ) → n < 256 ^ w → (s : List ℕ) (at : ℕ) (r : List ℕ) → drop at s ≡ digits o w n ++ r → peek o w s (Next at) ≡ n
+pub peek_spelt : (o : Order) (w n : ℕ) → n < 256 ^ w → (s : List ℕ) (at : ℕ) (r : List ℕ) → drop at s ≡ digits o w n ++ r → peek o w s (Ok at) ≡ n
 unfolding peek read_number pick
 peek_spelt o w n h s at r e =
     let l : length (digits o w n) ≡ w = digits_length o w n in
@@ -28,13 +28,13 @@ peek_spelt o w n h s at r e =
 
 -- a number alone
 pub field_spelt : (o : Order) (w : ℕ) (test : Test) (n : ℕ) → n < 256 ^ w → passes test n ≡ true → (s : List ℕ) (at : ℕ) (r : List ℕ)
-    → drop at s ≡ digits o w n ++ r → (step (field o w test) s at ≡ Next (at + w)) × (drop (at + w) s ≡ r)
+    → drop at s ≡ digits o w n ++ r → (step (field o w test) s at ≡ Ok (at + w)) × (drop (at + w) s ≡ r)
 unfolding spell size
 field_spelt o w test n h p s at r e =
     let l : length (digits o w n) ≡ w = digits_length o w n in
     let x : drop at s ≡ (digits o w n ++ []) ++ r = rw append-nil e in
     let y : at + length (digits o w n ++ []) ≡ at + w = rw append-nil (ap (λ (m : ℕ). at + m) l) in
-    (step_spelt (field o w test) (n, tt) (h, p, tt) s at r x ∙ ap Next y, rw l at (after s at (digits o w n) r e))
+    (step_spelt (field o w test) (n, tt) (h, p, tt) s at r x ∙ ap Ok y, rw l at (after s at (digits o w n) r e))
 
 -- what reading gives is valid, spells the bytes there, and ends where they end
 pub record Found (g : Layout) (s : List ℕ) (at : ℕ) (t : Tree g) (r : List ℕ) (p : ℕ) : Type 0 where
@@ -91,28 +91,36 @@ pub record Read (g : Layout) (s : List ℕ) (at p : ℕ) : Type 0 where
   pub there : Found g s at tree (drop p s) p
 
 -- at a position p, from a position
-pub read_on : {g : Layout} {s : List ℕ} {at : ℕ} {st : Step} {p : ℕ} → Bytes s → Reads g s (Next at) st → st ≡ Next p → Read g s at p
+pub read_on : {g : Layout} {s : List ℕ} {at : ℕ} {st : Step} {p : ℕ} → Bytes s → ReadsTo g s (Ok at) st → st ≡ Ok p → Read g s at p
 unfolding chain step
 read_on {g} {s} {at} {st} {p} b e f = go (read g (drop at s) at) refl (sym e.is ∙ f)
   where
-    go : (x : Got (Tree g)) → read g (drop at s) at ≡ x → forget x ≡ Next p → Read g s at p
+    go : (x : Got (Tree g)) → read g (drop at s) at ≡ x → forget x ≡ Ok p → Read g s at p
     go (got t r q) d h =
         let q_is : q ≡ p = cc in
         let there : Found g s at t r p = rw q_is at (found g s b at t r q d) in
         record { tree = t; is = d ∙ rw (q_is, there.rest); there = rw there.rest at there }
     go (no n q) d h = absurd (let z : ◌≡◌ {A = ℕ} 0 1 = cc in omega arith)
 
-pub read_off : {g : Layout} {s : List ℕ} {at : ℕ} {st : Step} {n p : ℕ} → Reads g s (Next at) st → st ≡ Refused n p → read g (drop at s) at ≡ no n p
-unfolding chain step
+err_number : Step → ℕ
+err_number (Ok at) = 0
+err_number (Err (n, p)) = n
+
+err_place : Step → ℕ
+err_place (Ok at) = 0
+err_place (Err (n, p)) = p
+
+pub read_off : {g : Layout} {s : List ℕ} {at : ℕ} {st : Step} {n p : ℕ} → ReadsTo g s (Ok at) st → st ≡ Err (n, p) → read g (drop at s) at ≡ no n p
+unfolding chain step err_number err_place
 read_off {g} {s} {at} {st} {n} {p} e f = go (read g (drop at s) at) (sym e.is ∙ f)
   where
-    go : (x : Got (Tree g)) → forget x ≡ Refused n p → x ≡ no n p
+    go : (x : Got (Tree g)) → forget x ≡ Err (n, p) → x ≡ no n p
     go (got t r q) h = absurd (let z : ◌≡◌ {A = ℕ} 0 1 = cc in omega arith)
-    go (no m q) h = let m_is : m ≡ n = cc in let q_is : q ≡ p = cc in rw (m_is, q_is)
+    go (no m q) h = let m_is : m ≡ n = ap (λ (r : Step). err_number r) h in let q_is : q ≡ p = ap (λ (r : Step). err_place r) h in rw (m_is, q_is)
 
 -- the number that comes after what was read
 pub peeked : {a : Layout} {w : ℕ} {test : Test} {s : List ℕ} {at : ℕ} {st : Step} {t : Tree (a ▸ field little w test)} {r : List ℕ} {p : ℕ}
-    → Reads a s (Next at) st → Found (a ▸ field little w test) s at t r p → peek little w s st ≡ t.1.0
+    → ReadsTo a s (Ok at) st → Found (a ▸ field little w test) s at t r p → peek little w s st ≡ t.1.0
 unfolding spell chain size
 peeked {a} {w} {s = s} {at = at} {t = t} {r = r} e f =
     let n = t.1.0 in
@@ -122,7 +130,7 @@ peeked {a} {w} {s = s} {at = at} {t = t} {r = r} e f =
 
 -- what a number that was found says
 pub record NumberAt (w : ℕ) (test : Test) (s : List ℕ) (at n p : ℕ) : Type 0 where
-  pub peeked : peek little w s (Next at) ≡ n
+  pub peeked : peek little w s (Ok at) ≡ n
   pub place : p ≡ at + w
   pub small : n < 256 ^ w
   pub passed : passes test n ≡ true
@@ -149,8 +157,8 @@ pub record ReadNumber (w : ℕ) (test : Test) (s : List ℕ) (at p x : ℕ) : Ty
   pub is : found.tree.0 ≡ x
   pub says : NumberAt w test s at x p
 
-pub read_number_lem : {w : ℕ} {test : Test} {s : List ℕ} {at : ℕ} {st : Step} {p x : ℕ} → Bytes s → Reads (field little w test) s (Next at) st → st ≡ Next p
-    → x ≡ peek little w s (Next at) → ReadNumber w test s at p x
+pub read_number_lem : {w : ℕ} {test : Test} {s : List ℕ} {at : ℕ} {st : Step} {p x : ℕ} → Bytes s → ReadsTo (field little w test) s (Ok at) st → st ≡ Ok p
+    → x ≡ peek little w s (Ok at) → ReadNumber w test s at p x
 read_number_lem {w} {test} {s} {at} {p = p} b r e pk =
     let f = read_on b r e in
     let n = number_at w test s at f.tree.0 (drop p s) p f.there in

@@ -9,8 +9,8 @@ use Rattle.grammar.specs.Laws.Layout.Read.{Got, got, no, read}
 use Rattle.grammar.specs.Laws.Layout as laws
 use Rattle.grammar.proofs.Laws.Layout as exactly
 use Rattle.fields.specs.Laws.Failing.{spell_most, fails_within, field_numbers, fails_numbers}
-use Rattle.look.specs.declared.Answer.{Answer}
-use Rattle.look.specs.declared.Answer.TheVariants as answer
+use Rattle.look.specs.Read.{Answer}
+use Rattle.std.specs.Prelude.{Ok, Err}
 use Rattle.look.specs.Look.{TableLook}
 use Rattle.look.specs.Answers.{refused, outcome, expected}
 use Rattle.look.specs.Laws.Bounds.{bounded, most_bytes}
@@ -41,12 +41,12 @@ refused_so bs h (left {t} {b} {r} v) = rw (v.split, laws.complete TableLook t v.
 
 -- Exactly: refused by n at p where the bytes are so refused, and nowhere else
 pub refused_exactly : (bs : List ℕ) → Bytes bs → (a : Answer) → outcome a ≡ expected (read TableLook bs 0) → (n p : ℕ)
-    → (a ≡ answer.Refused n p) ↔ Refused bs n p
+    → (a ≡ Err (n, p)) ↔ Refused bs n p
 refused_exactly bs h a e n p = (λ i. refused_at bs h n p (sym e ∙ ap outcome i), λ f. go a (e ∙ refused_so bs h f))
   where
-    go : (a : Answer) → outcome a ≡ refused n p → a ≡ answer.Refused n p
-    go (answer.Refused m q) i = let a : m ≡ n = cc in let b : q ≡ p = cc in rw (a, b)
-    go (answer.Accepted x) i = absurd (let z : ◌≡◌ {A = ℕ} 0 1 = cc in omega arith)
+    go : (a : Answer) → outcome a ≡ refused n p → a ≡ Err (n, p)
+    go (Err (m, q)) i = let a : m ≡ n = cc in let b : q ≡ p = cc in rw (a, b)
+    go (Ok x) i = absurd (let z : ◌≡◌ {A = ℕ} 0 1 = cc in omega arith)
 
 -- ---- of the bytes alone
 

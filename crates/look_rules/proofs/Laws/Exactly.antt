@@ -3,7 +3,7 @@
 use Rattle.std.specs.Prelude.{◌≡◌, refl, ◌↔◌, ◌⊎◌, Bool, true, false, List, [], ◌∷◌, ℕ, suc, ◌<◌, length, eqb}
 use Rattle.std.proofs.Common.{sym, ap, ◌∙◌, subst, inl, inr, append-nil, zero-add, arith, length-append}
 use Rattle.std.proofs.Math.Option.{none, some}
-use Rattle.layout.specs.declared.Step.TheVariants.{Next, Refused}
+use Rattle.std.specs.Prelude.{Ok, Err}
 use Rattle.sizes.specs.Basics.{among, pick}
 use Rattle.grammar.specs.Layout.{Order, Test, Content, Layout, number, string, Tree, spell, Bytes, Derivation}
 use Rattle.grammar.specs.Fails.{Spells}
@@ -121,23 +121,23 @@ module _ {bs : List ℕ} (h : Bytes bs) (d : Derivation TableLook bs) where
       go (stopped g) = g
 
   -- past the bytes where it keeps the rule, and only there
-  pub kept_next : {p : ℕ} → forget (check style_rule bs 0) ≡ Next p → Kept style_rule d.tree
+  pub kept_next : {p : ℕ} → forget (check style_rule bs 0) ≡ Ok p → Kept style_rule d.tree
   kept_next {p} e = go (check style_rule bs 0) refl e outcome
     where
-      go : (y : Got (Tree TableLook)) → check style_rule bs 0 ≡ y → forget y ≡ Next p → Outcome {A = Tree TableLook} d.tree (length bs) y → Kept style_rule d.tree
+      go : (y : Got (Tree TableLook)) → check style_rule bs 0 ≡ y → forget y ≡ Ok p → Outcome {A = Tree TableLook} d.tree (length bs) y → Kept style_rule d.tree
       go (got t r q) e i passed = ((laws.passes_exactly style_rule bs h 0 d.tree [] (length bs)).0 e).1
       go (no n q) e i (stopped f) = absurd (let z : ◌≡◌ {A = ℕ} 0 1 = cc in omega arith)
 
-  pub kept_exactly : (forget (check style_rule bs 0) ≡ Next (length bs)) ↔ Kept style_rule d.tree
+  pub kept_exactly : (forget (check style_rule bs 0) ≡ Ok (length bs)) ↔ Kept style_rule d.tree
   kept_exactly = (
     kept_next,
     λ k. ap forget ((laws.passes_exactly style_rule bs h 0 d.tree [] (length bs)).1 (spells, k, ap length (sym d.spells) ∙ sym (zero-add _))),
   )
 
 -- whatever the bytes
-pub refused_exactly : (bs : List ℕ) → Bytes bs → (n p : ℕ) → (forget (check style_rule bs 0) ≡ Refused n p) ↔ Breaks TableLook style_rule bs 0 n p
+pub refused_exactly : (bs : List ℕ) → Bytes bs → (n p : ℕ) → (forget (check style_rule bs 0) ≡ Err (n, p)) ↔ Breaks TableLook style_rule bs 0 n p
 refused_exactly bs h n p = (λ e. (exactly.breaks_exactly style_rule bs h 0 n p).0 (go (check style_rule bs 0) e), λ f. ap forget ((exactly.breaks_exactly style_rule bs h 0 n p).1 f))
   where
-    go : (y : Got (Tree TableLook)) → forget y ≡ Refused n p → y ≡ no n p
+    go : (y : Got (Tree TableLook)) → forget y ≡ Err (n, p) → y ≡ no n p
     go (got t r q) i = absurd (let z : ◌≡◌ {A = ℕ} 0 1 = cc in omega arith)
     go (no m q) i = let a : m ≡ n = cc in let b : q ≡ p = cc in rw (a, b)

@@ -5,8 +5,8 @@ use Rattle.grammar.specs.Layout.{Layout, passes, suits}
 use Rattle.grammar.specs.Rule.{Rule}
 use Rattle.grammar.specs.Laws.Layout.Read.{read}
 use Rattle.grammar.specs.Laws.Layout.Check.{check}
-use Rattle.layout.specs.declared.Step.{Step}
-use Rattle.layout.specs.declared.Step.TheVariants.{Next, Refused}
+use Rattle.layout.specs.Step.{Step}
+use Rattle.std.specs.Prelude.{Ok, Err}
 use Rattle.layout.specs.Reads.{forget}
 use Rattle.look_rules.specs.StyleRule.{listed, separator_rule, align_rule, alignment_rule, has_height, size_rule, name_rule}
 
@@ -29,7 +29,7 @@ drawn : ℕ → ℕ → List ℕ
 drawn style width = 1 ∷ 0 ∷ 0 ∷ 0 ∷ 0 ∷ 0 ∷ style ∷ 0 ∷ width ∷ 0 ∷ []
 
 separators : map (said separator_rule) (drawn 0 3 ∷ drawn 0 4 ∷ drawn 3 0 ∷ (0 ∷ 0 ∷ []) ∷ [])
-    ≡ Next 110 ∷ Refused 29 100 ∷ Refused 29 100 ∷ Next 102 ∷ []
+    ≡ Ok 110 ∷ Err (29, 100) ∷ Err (29, 100) ∷ Ok 102 ∷ []
 unfolding said drawn check separator_rule listed read passes among pick
 separators = refl
 
@@ -38,18 +38,18 @@ aligned : ℕ → ℕ → List ℕ
 aligned valign halign = valign ∷ 0 ∷ halign ∷ 0 ∷ replicate 12 0 ++ 1 ∷ 0 ∷ []
 
 alignments : map (said alignment_rule) (aligned 2 4 ∷ aligned 2 5 ∷ aligned 3 4 ∷ aligned 3 5 ∷ [])
-    ≡ Next 118 ∷ Refused 29 102 ∷ Refused 29 100 ∷ Refused 29 100 ∷ []
+    ≡ Ok 118 ∷ Err (29, 102) ∷ Err (29, 100) ∷ Err (29, 100) ∷ []
 unfolding said aligned check alignment_rule align_rule read passes pick
 alignments = refl
 
 -- 7 at the size
 sizes : map (said size_rule) ((0xbf ∷ 0xbd ∷ 0xf0 ∷ 0xff ∷ []) ∷ (0xc0 ∷ 0xbd ∷ 0xf0 ∷ 0xff ∷ []) ∷ (12 ∷ 0 ∷ 0 ∷ 0 ∷ []) ∷ [])
-    ≡ Refused 7 100 ∷ Next 104 ∷ Refused 7 100 ∷ []
+    ≡ Err (7, 100) ∷ Ok 104 ∷ Err (7, 100) ∷ []
 unfolding said check size_rule has_height read passes pick
 sizes = refl
 
 -- 18 at the length byte, wherever the zero byte is
 names : map (said name_rule) ((0 ∷ []) ∷ (2 ∷ 65 ∷ 66 ∷ []) ∷ (2 ∷ 65 ∷ 0 ∷ []) ∷ (2 ∷ 0 ∷ 66 ∷ []) ∷ [])
-    ≡ Next 101 ∷ Next 103 ∷ Refused 18 100 ∷ Refused 18 100 ∷ []
+    ≡ Ok 101 ∷ Ok 103 ∷ Err (18, 100) ∷ Err (18, 100) ∷ []
 unfolding said check name_rule read suits among pick
 names = refl

@@ -11,7 +11,7 @@ use Rattle.grammar.specs.Rule.{Kept, Breaks}
 use Rattle.grammar.specs.Laws.Layout as laws
 use Rattle.grammar.specs.Laws.Layout.Read.{Got, got, no, read}
 use Rattle.grammar.specs.Laws.Layout.Check.{check}
-use Rattle.layout.specs.declared.Step.TheVariants.{Next, Refused}
+use Rattle.std.specs.Prelude.{Ok, Err}
 use Rattle.layout.specs.Reads.{forget}
 use Rattle.store.specs.Values.{twos}
 use Rattle.store.specs.Fields.{Fields, placed_all, placed, bytes_of, text_of, resolve_all, resolve}
@@ -166,11 +166,11 @@ answered {bs} h x = go (read TableLook bs 0) refl
         record { derivation = record { tree = t; valid = q.0; spells = sym (q.1 ∙ append-nil (spell TableLook t)) }; look = same }
 
 -- the look can become styles
-pub next_styled : {bs : List ℕ} → Bytes bs → (x : Look) → accepted (values.fields x) ≡ expected (read TableLook bs 0) → {p : ℕ} → forget (check style_rule bs 0) ≡ Next p → StyledLook bs x
+pub next_styled : {bs : List ℕ} → Bytes bs → (x : Look) → accepted (values.fields x) ≡ expected (read TableLook bs 0) → {p : ℕ} → forget (check style_rule bs 0) ≡ Ok p → StyledLook bs x
 next_styled h x e i = let a = answered h x e in styled a.derivation x a.look (kept_next h a.derivation i)
 
 -- or it can't: by 7, 18 or 29, at a byte of its file
-pub refused_given : {bs : List ℕ} → Bytes bs → (x : Look) → accepted (values.fields x) ≡ expected (read TableLook bs 0) → {n p : ℕ} → forget (check style_rule bs 0) ≡ Refused n p
+pub refused_given : {bs : List ℕ} → Bytes bs → (x : Look) → accepted (values.fields x) ≡ expected (read TableLook bs 0) → {n p : ℕ} → forget (check style_rule bs 0) ≡ Err (n, p)
     → Breaks TableLook style_rule bs 0 n p × (among n numbers ≡ true) × (p < length bs)
 refused_given {bs} h x e {n} {p} i =
     let broken = (refused_exactly bs h n p).0 i in

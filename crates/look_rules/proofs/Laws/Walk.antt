@@ -2,19 +2,19 @@
 use Rattle.std.specs.Prelude.{◌≡◌, refl, Bool, true, false, List, [], ◌∷◌, ℕ, zero, suc, ◌+◌, ◌-◌, ◌≤◌, ◌<◌, length, drop}
 use Rattle.std.proofs.Common.{sym, ap, ◌∙◌, add-zero, lt_irrefl, sub-one, arith}
 use Rattle.std.proofs.Math.Option.{none, some}
-use Rattle.layout.specs.declared.Step.{Step}
-use Rattle.layout.specs.declared.Step.TheVariants.{Next, Refused}
+use Rattle.layout.specs.Step.{Step}
+use Rattle.std.specs.Prelude.{Ok, Err}
 use Rattle.sizes.specs.Basics.{pick}
 use Rattle.grammar.specs.Layout.{Order, Test, any_bytes, no_zero, Layout, empty, number, string, Tree, passes, suits, Bytes}
 use Rattle.grammar.specs.Rule.{Rule, plain, numbered}
 use Rattle.grammar.specs.Laws.Layout as laws
 use Rattle.grammar.specs.Laws.Layout.Read.{Got, got, no, bind, read_number, read_counted, read, refusal, zero_byte}
 use Rattle.grammar.specs.Laws.Layout.Check.{check_times, judge, check}
-use Rattle.layout.specs.Reads.{forget, step, chain, Reads, peek}
+use Rattle.layout.specs.Reads.{forget, step, chain, ReadsTo, peek}
 use Rattle.layout.specs.Steps.Chain.{then, forget_map, chain_next}
 use Rattle.layout.specs.Steps.Slices.{drop_bytes}
 use Rattle.store.specs.Fields.{Fields, placed}
-use Rattle.fields.specs.Gives.{Shows, Gives, GivesValue}
+use Rattle.fields.specs.Gives.{ShowsTo, GivesTo, GivesValueTo}
 use Rattle.fields.specs.Laws.Shows.{numbered_of, peeked, shows_of}
 use Rattle.fields.specs.Laws.Gives.{to_shows}
 use Rattle.look_rules.specs.StyleRule.{◌▹◌, each, asks}
@@ -30,15 +30,15 @@ check_left {g} u {s} bs at t r p e =
 
 -- what was read first at each position, and what follows it, by what follows its place
 chained : {A B : Type 0} (x : ℕ → Got A) (f : A → List ℕ → ℕ → Got B) (F : ℕ → Step) (st : Step) {q r : Step}
-    → ((at : ℕ) (t : A) (r₁ : List ℕ) (p : ℕ) → st ≡ Next at → x at ≡ got t r₁ p → forget (f t r₁ p) ≡ F p)
+    → ((at : ℕ) (t : A) (r₁ : List ℕ) (p : ℕ) → st ≡ Ok at → x at ≡ got t r₁ p → forget (f t r₁ p) ≡ F p)
     → q ≡ chain st (λ at. forget (x at)) → r ≡ chain q F → r ≡ chain st (λ at. forget (bind (x at) f))
 unfolding bind chain
-chained {A} x f F (Next at) {q} {r} same i e = go (x at) refl i
+chained {A} x f F (Ok at) {q} {r} same i e = go (x at) refl i
   where
     go : (y : Got A) → x at ≡ y → q ≡ forget y → r ≡ forget (bind y f)
     go (got t r₁ p) a j = e ∙ rw j (sym (same at t r₁ p refl a))
     go (no n p) a j = e ∙ rw j
-chained x f F (Refused n p) same i e = e ∙ rw i
+chained x f F (Err (n, p)) same i e = e ∙ rw i
 
 infixl 20 ◌⟩◌
 pub ◌⟩◌ : {a b : Layout} {u : Rule a} {v : Rule b} {s : List ℕ} {st q r : Step} → Checks u s st q → Checks v s q r → Checks (u ▹ v) s st r
@@ -49,14 +49,14 @@ unfolding check
 }
 
 -- no test but those of the layout
-pub of_reads : {g : Layout} {s : List ℕ} {st r : Step} → Reads g s st r → Checks (plain g) s st r
+pub of_reads : {g : Layout} {s : List ℕ} {st r : Step} → ReadsTo g s st r → Checks (plain g) s st r
 unfolding check step
 of_reads h = record { is = λ bs. h.is }
 
-pub gives_reads : {g : Layout} {s : List ℕ} {st r : Step} {f : Fields g} → Gives g s st r f → Reads g s st r
+pub gives_reads : {g : Layout} {s : List ℕ} {st r : Step} {f : Fields g} → GivesTo g s st r f → ReadsTo g s st r
 gives_reads h = h.reads
 
-pub value_reads : {A : Type 0} {g : Layout} {s : List ℕ} {st r : Step} {f : Fields g} {v zero : A} → GivesValue g s st r f v zero → Reads g s st r
+pub value_reads : {A : Type 0} {g : Layout} {s : List ℕ} {st r : Step} {f : Fields g} {v zero : A} → GivesValueTo g s st r f v zero → ReadsTo g s st r
 value_reads h = h.gives.reads
 
 -- ---- that many times
@@ -124,7 +124,7 @@ check_number o w test {l} k s at = go (read_number o w s at)
 
 -- a number, which is v, and then what v asks for
 pub switch_of : {o : Order} {w : ℕ} {test : Test} {l : ℕ → Layout} (k : (n : ℕ) → Rule (l n)) {s : List ℕ} {st q r : Step} {v : ℕ}
-    → v ≡ peek o w s st → Reads (number o w test (λ _. empty)) s st q → Checks (k v) s q r → Checks (numbered {o = o} {w = w} {test = test} k) s st r
+    → v ≡ peek o w s st → ReadsTo (number o w test (λ _. empty)) s st q → Checks (k v) s q r → Checks (numbered {o = o} {w = w} {test = test} k) s st r
 unfolding step
 switch_of {o} {w} {test} k {s} {st} {v = v} e h y = record {
   is = λ bs. simp (check_number o w test k) (chained (λ at. read (number o w test (λ _. empty)) (drop at s) at)
@@ -139,11 +139,11 @@ switch_of {o} {w} {test} k {s} {st} {v = v} e h y = record {
 
 -- b is the test of what was read from st to q
 pub asks_of : {g : Layout} {n : ℕ} {test : Tree g → Bool} {s : List ℕ} {st q r : Step} {b good : Bool}
-    → Shows g (λ t at. test t) s st q b → good ≡ b → r ≡ told st q good n → Checks (asks g n test) s st r
+    → ShowsTo g (λ t at. test t) s st q b → good ≡ b → r ≡ told st q good n → Checks (asks g n test) s st r
 unfolding check judge step told chain bind pick
 asks_of {g} {n} {test} {s} {st} {q} {r} {b} h i e = record { is = λ bs. e ∙ rw i (go bs st refl h.reads.is) }
   where
-    judged : (b : Bool) (at : ℕ) (t : Tree g) (r₁ : List ℕ) (p : ℕ) → pick b (Next p) (Refused n at) ≡ forget (judge n at (pick b none (some 0)) t r₁ p)
+    judged : (b : Bool) (at : ℕ) (t : Tree g) (r₁ : List ℕ) (p : ℕ) → pick b (Ok p) (Err (n, at)) ≡ forget (judge n at (pick b none (some 0)) t r₁ p)
     judged true at t r₁ p = refl
     judged false at t r₁ p = ap (Refused n) (sym (add-zero at))
 
@@ -151,24 +151,24 @@ asks_of {g} {n} {test} {s} {st} {q} {r} {b} h i e = record { is = λ bs. e ∙ r
     same true x = refl
     same false x = refl
 
-    reached : Bytes s → (at : ℕ) → st ≡ Next at → (x : Got (Tree g)) → read g (drop at s) at ≡ x → q ≡ forget x
-        → pick b q (chain q (λ _. Refused n at)) ≡ forget (bind x (λ t s₁ at₁. judge n at (pick (test t) none (some 0)) t s₁ at₁))
+    reached : Bytes s → (at : ℕ) → st ≡ Ok at → (x : Got (Tree g)) → read g (drop at s) at ≡ x → q ≡ forget x
+        → pick b q (chain q (λ _. Err (n, at))) ≡ forget (bind x (λ t s₁ at₁. judge n at (pick (test t) none (some 0)) t s₁ at₁))
     reached bs at i (got t r₁ p) a j =
         let f = h.found bs at p i j in
         let a₂ = f.reads in
         let t≡ : f.tree ≡ t = cc in
         let c : test t ≡ b = rw t≡ at f.is in
         rw (j, c) (judged b at t r₁ p)
-    reached bs at i (no m p) a j = rw j (same b (Refused m p))
+    reached bs at i (no m p) a j = rw j (same b (Err (m, p)))
 
     go : Bytes s → (st' : Step) → st ≡ st' → q ≡ chain st' (step g s)
         → told st' q b n ≡ chain st' (λ at. forget (check (asks g n test) (drop at s) at))
-    go bs (Next at) i j = reached bs at i (read g (drop at s) at) refl j
-    go bs (Refused m p) i j = rw j (same b (Refused m p))
+    go bs (Ok at) i j = reached bs at i (read g (drop at s) at) refl j
+    go bs (Err (m, p)) i j = rw j (same b (Err (m, p)))
 
 -- of a number alone, by its value
 pub asks_number : {o : Order} {w : ℕ} {t : Test} (ok : ℕ → Bool) {n : ℕ} {s : List ℕ} {st q r : Step} {v : ℕ} {good : Bool}
-    → Gives (number o w t (λ _. empty)) s st q (v, tt) → good ≡ ok v → r ≡ told st q good n → Checks (asks (number o w t (λ _. empty)) n (λ x. ok x.0)) s st r
+    → GivesTo (number o w t (λ _. empty)) s st q (v, tt) → good ≡ ok v → r ≡ told st q good n → Checks (asks (number o w t (λ _. empty)) n (λ x. ok x.0)) s st r
 unfolding placed
 asks_number {o} {w} {t} ok h i e = asks_of (shows_of (λ (f : Fields (number o w t (λ _. empty))). ok f.0) (λ x at. refl) (to_shows h)) i e
 
@@ -187,7 +187,7 @@ asks_string o w s at = go (read_counted o w s at)
     go (got c r p) = judged (suits no_zero c) c r (p + length c)
     go (no m p) = refl
 
-pub string_asks : {o : Order} {w : ℕ} {s : List ℕ} {st r : Step} → Reads (string o w no_zero) s st r
+pub string_asks : {o : Order} {w : ℕ} {s : List ℕ} {st r : Step} → ReadsTo (string o w no_zero) s st r
     → Checks (asks (string o w any_bytes) zero_byte (λ t. suits no_zero t)) s st r
 unfolding step
 string_asks {o} {w} h = record { is = λ bs. simp (asks_string o w) h.is }

@@ -6,16 +6,14 @@ use mathlib.Core.List.{List, ◌++◌}
 use Rattle.std.proofs.Math.ListN.{drop}
 use Rattle.sizes.specs.Sizes.{longest_look, member_bytes}
 use Rattle.sizes.specs.Basics.{pick}
-use Rattle.layout.specs.declared.Step.{Step}
-use Rattle.layout.specs.declared.Step.TheVariants as step
-use Rattle.layout.specs.declared.Step.TheVariants.{Next}
+use Rattle.layout.specs.Step.{Step}
+use Rattle.std.specs.Prelude.{Ok, Err}
 use Rattle.grammar.specs.Layout.{Tree, spell, Valid, Derivation}
 use Rattle.grammar.specs.Laws.Layout.Read.{read}
 use Rattle.grammar.specs.Laws.Layout.Check.{check}
 use Rattle.layout.specs.Reads.{forget, chain}
 use Rattle.grammar.specs.Member.{version, MemberDerivation}
-use Rattle.store.specs.declared.Written.{Written}
-use Rattle.store.specs.declared.Written.TheVariants as written
+use Rattle.store.specs.Written.{Written}
 use Rattle.store.specs.Check.{place_of}
 use Rattle.store.specs.Fields.{resolve}
 use Rattle.store.specs.Fit.{Fit}
@@ -23,8 +21,7 @@ use Rattle.store.specs.Deliver.{ending, output, answer}
 use Rattle.store.specs.Laws.Deliver.{is_refused, is_length}
 use Rattle.fields.specs.Laws.Failing.{spell_most}
 use Rattle.look.specs.declared.Look.{Look}
-use Rattle.look.specs.declared.Answer.{Answer}
-use Rattle.look.specs.declared.Answer.TheVariants as read_answer
+use Rattle.look.specs.Read.{Answer}
 use Rattle.look.specs.Look.{TableLook}
 use Rattle.look.specs.Answers.{outcome, expected}
 use Rattle.look.specs.Laws.Bounds.{bounded, most_bytes}
@@ -48,38 +45,38 @@ use Rattle.look_sections.specs.Laws.InMember.{Sections as MemberSections, bytes_
 use Rattle.look_sections.proofs.Laws.InMember as member
 
 -- where a number is answered at the end, it is that
-ended : (m room n : ℕ) (c : Step) → chain c (λ _. ending room m) ≡ Next n → m ≡ n
+ended : (m room n : ℕ) (c : Step) → chain c (λ _. ending room m) ≡ Ok n → m ≡ n
 unfolding chain ending pick
-ended m room n (step.Refused k p) e = absurd (let z : ◌≡◌ {A = ℕ} 0 1 = cc in omega arith)
-ended m room n (Next p) e = go (leb m room) e
+ended m room n (Err (k, p)) e = absurd (let z : ◌≡◌ {A = ℕ} 0 1 = cc in omega arith)
+ended m room n (Ok p) e = go (leb m room) e
   where
-    go : (b : Bool) → pick b (Next m) (step.Refused 15 0) ≡ Next n → m ≡ n
+    go : (b : Bool) → pick b (Ok m) (Err (15, 0)) ≡ Ok n → m ≡ n
     go true i = cc
     go false i = absurd (let z : ◌≡◌ {A = ℕ} 0 1 = cc in omega arith)
 
 module _ {s out : List ℕ} {r : Written} {out' : List ℕ} (call : Wrote s out r out') where
   -- it refuses exactly what is refused, by that number and at that place, and leaves the output as it was
-  pub refuses_exactly : (n p : ℕ) → (r ≡ written.Refused n p) ↔ refusals.Refused s (length out) n p
+  pub refuses_exactly : (n p : ℕ) → (r ≡ Err (n, p)) ↔ refusals.Refused s (length out) n p
   refuses_exactly n p =
       let f = refused_exactly s call.bytes (length out) call.look call.is_read n p in
       (λ e. f.0 (sym call.answers ∙ ap answer e), λ u. is_refused r n p (call.answers ∙ f.1 u))
 
-  pub refusal_keeps : (n p : ℕ) → r ≡ written.Refused n p → out' ≡ out
+  pub refusal_keeps : (n p : ℕ) → r ≡ Err (n, p) → out' ≡ out
   unfolding output
   refusal_keeps n p e =
       call.holds ∙ ap (λ (c : Step). output c (sectioned call.look s) out) (sym call.answers ∙ ap answer e)
 
   -- it writes exactly what is not refused, and answers how many bytes the sections have
-  pub writes_exactly : (n : ℕ) → (r ≡ written.Length n) ↔ ((c : Allowed s (length out)) × (n ≡ length (sections c.says.look s)))
+  pub writes_exactly : (n : ℕ) → (r ≡ Ok n) ↔ ((c : Allowed s (length out)) × (n ≡ length (sections c.says.look s)))
   writes_exactly n =
       let f = written_exactly s call.bytes (length out) call.look call.is_read n in
       (λ e. f.0 (sym call.answers ∙ ap answer e), λ c. is_length r n (call.answers ∙ f.1 c))
 
-  module _ (n : ℕ) (e : r ≡ written.Length n) where
+  module _ (n : ℕ) (e : r ≡ Ok n) where
     allowed : Allowed s (length out)
     allowed = ((writes_exactly n).0 e).0
 
-    answered : (x : Look) × (call.look ≡ read_answer.Accepted x)
+    answered : (x : Look) × (call.look ≡ Ok x)
     answered = (accepted_exactly s call.bytes call.look call.is_read).1 allowed.derived
 
     -- the look that the file is
@@ -90,7 +87,7 @@ module _ {s out : List ℕ} {r : Written} {out' : List ℕ} (call : Wrote s out 
     pub written_bytes : List ℕ
     written_bytes = sections the_look s
 
-    is_read : outcome (read_answer.Accepted the_look) ≡ expected (read TableLook s 0)
+    is_read : outcome (Ok the_look) ≡ expected (read TableLook s 0)
     unfolding the_look
     is_read = rw answered.1 at call.is_read
 
@@ -108,7 +105,7 @@ module _ {s out : List ℕ} {r : Written} {out' : List ℕ} (call : Wrote s out 
     unfolding the_look
     fits = call.fit answered.0 answered.1 n (ap answer e)
 
-    writing_is : sectioning call.look s (length out) ≡ Next n
+    writing_is : sectioning call.look s (length out) ≡ Ok n
     writing_is = sym call.answers ∙ ap answer e
 
     sectioned_is : sectioned call.look s ≡ written_bytes
@@ -187,5 +184,5 @@ module _ {s out : List ℕ} {r : Written} {out' : List ℕ} (call : Wrote s out 
       refused (refusals.too_short d x k l) = omega arith
 
       go : (v : Written) → r ≡ v → place_of (answer r) ≤ longest_look
-      go (written.Refused k p) e = rw e (refused ((refuses_exactly k p).0 e))
-      go (written.Length n) e = rw e (omega (arith, written_most n e))
+      go (Err (k, p)) e = rw e (refused ((refuses_exactly k p).0 e))
+      go (Ok n) e = rw e (omega (arith, written_most n e))

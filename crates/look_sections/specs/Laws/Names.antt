@@ -8,7 +8,7 @@ use Rattle.grammar.specs.Laws.Layout.Read.{read}
 use Rattle.store.specs.Unwritable.{Writable}
 use Rattle.look.specs.declared.AreaStyle.{AreaStyle}
 use Rattle.look.specs.declared.Look.{Look}
-use Rattle.look.specs.declared.Answer.TheVariants as answer
+use Rattle.std.specs.Prelude.{Ok, Err}
 use Rattle.look.specs.Look as grammar
 use Rattle.look.specs.Look.{TableLook}
 use Rattle.look.specs.Values as values
@@ -36,7 +36,7 @@ seven : {A : Type 0} {P : A → Type 0} {a b c d e f g : A} → All P (a ∷ b �
     → P a × (P b × (P c × (P d × (P e × (P f × P g)))))
 seven (all_more a (all_more b (all_more c (all_more d (all_more e (all_more f (all_more g h))))))) = (a, (b, (c, (d, (e, (f, g))))))
 
-module _ (bs : List ℕ) (h : Bytes bs) (y : Look) (i : outcome (answer.Accepted y) ≡ expected (read TableLook bs 0)) where
+module _ (bs : List ℕ) (h : Bytes bs) (y : Look) (i : outcome (Ok y) ≡ expected (read TableLook bs 0)) where
   -- it can become styles: what 002 doesn't list is nowhere in it
   pub styled_look : Kept style_rule (of_file bs h y i).tree → StyledLook bs y
   styled_look k = styled (of_file bs h y i) y (sym (fields_are bs h y i)) k

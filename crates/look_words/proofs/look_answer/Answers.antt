@@ -8,23 +8,23 @@ use Rattle.store.specs.Laws.Puts.{◌⟩◌, long_words, without_room}
 use Rattle.look_words.proofs.Answered.{answered}
 use Rattle.look_words.proofs.look_answer.Goals as goal
 
-pub returns-in-Accepted : goal.returns-in-Accepted
-returns-in-Accepted c =
+pub returns-in-Ok : goal.returns-in-Ok
+returns-in-Ok c =
     let a = c.args in
-    answered a.file.now c.read_look.ensures.1 a.area.now c.read_look.result c.read_look.ensures.0 (le-leb _ _ c.if-room.true) c.in-Accepted.is
+    answered a.file.now c.read_look.ensures.1 a.area.now c.read_look.result c.read_look.ensures.0 (le-leb _ _ c.if-room.true) c.in-Ok.is
     (c.put-st.ensures ⟩ c.whole.ensures)
 
-pub shape_of-area-in-Accepted : goal.shape_of-area-in-Accepted
-shape_of-area-in-Accepted c = long_words (c.put-st.ensures ⟩ c.whole.ensures)
+pub shape_of-area-in-Ok : goal.shape_of-area-in-Ok
+shape_of-area-in-Ok c = long_words (c.put-st.ensures ⟩ c.whole.ensures)
 
-pub returns-in-Refused : goal.returns-in-Refused
-returns-in-Refused c =
+pub returns-in-Err : goal.returns-in-Err
+returns-in-Err c =
     let a = c.args in
-    answered a.file.now c.read_look.ensures.1 a.area.now c.read_look.result c.read_look.ensures.0 (le-leb _ _ c.if-room.true) c.in-Refused.is
-    (c.put-st-in-Refused.ensures ⟩ c.put.ensures)
+    answered a.file.now c.read_look.ensures.1 a.area.now c.read_look.result c.read_look.ensures.0 (le-leb _ _ c.if-room.true) c.in-Err.is
+    (c.put-st-in-Err.ensures ⟩ c.put.ensures)
 
-pub shape_of-area-in-Refused : goal.shape_of-area-in-Refused
-shape_of-area-in-Refused c = long_words (c.put-st-in-Refused.ensures ⟩ c.put.ensures)
+pub shape_of-area-in-Err : goal.shape_of-area-in-Err
+shape_of-area-in-Err c = long_words (c.put-st-in-Err.ensures ⟩ c.put.ensures)
 
 pub returns-else-room : goal.returns-else-room
 returns-else-room c =

@@ -18,8 +18,8 @@ use Rattle.look.specs.declared.Continuation.{Continuation}
 use Rattle.look.specs.declared.Continuation.TheVariants.{Default, Stored}
 use Rattle.look.specs.declared.V2Styles.{V2Styles}
 use Rattle.look.specs.declared.Look.{Look}
-use Rattle.look.specs.declared.Answer.{Answer}
-use Rattle.look.specs.declared.Answer.TheVariants.{Accepted, Refused}
+use Rattle.look.specs.Read.{Answer}
+use Rattle.std.specs.Prelude.{Ok, Err}
 use Rattle.look.specs.Look as grammar
 use Rattle.look.specs.Look.{TableLook}
 use Rattle.look.specs.Values as values
@@ -107,20 +107,20 @@ look_long x = simp (length-append, separator_long, continuation_long)
 -- ---- an answer of the code
 
 abbrev pub code_words : Answer → List ℕ
-code_words (Accepted x) = 0 ∷ 0 ∷ look_words_of x
-code_words (Refused n p) = n ∷ word32 p ∷ replicate look_words 0
+code_words (Ok x) = 0 ∷ 0 ∷ look_words_of x
+code_words (Err (n, p)) = n ∷ word32 p ∷ replicate look_words 0
 
 -- the place of a refusal loses no bit
 pub place_same : (s : List ℕ) → Bytes s → {n p : ℕ} → refused n p ≡ expected (read TableLook s 0) → word32 p ≡ p
 place_same s h {n} {p} e =
-    let r = (refused_exactly s h (Refused n p) e n p).0 refl in
+    let r = (refused_exactly s h (Err (n, p)) e n p).0 refl in
     word_same p (omega (arith, place_within r))
 
 pub answer_same : (s : List ℕ) → Bytes s → (a : Answer) → outcome a ≡ expected (read TableLook s 0) → answer_words_of (outcome a) ≡ code_words a
 unfolding answer_words_of
-answer_same s h (Accepted x) e = rw (in_order x)
-answer_same s h (Refused n p) e = rw (place_same s h e)
+answer_same s h (Ok x) e = rw (in_order x)
+answer_same s h (Err (n, p)) e = rw (place_same s h e)
 
 pub answer_long : (a : Answer) → length (code_words a) ≡ look_answer_words
-answer_long (Accepted x) = rw (look_long x)
-answer_long (Refused n p) = refl
+answer_long (Ok x) = rw (look_long x)
+answer_long (Err (n, p)) = refl

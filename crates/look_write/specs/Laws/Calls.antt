@@ -3,17 +3,15 @@ use Rattle.std.specs.Prelude.{◌≡◌, ◌↔◌, List, ℕ, ◌≤◌, length
 use Rattle.std.proofs.Math.Path.{sym, ap}
 use Rattle.std.proofs.Common.{◌∙◌, take_at, drop_at}
 use Rattle.sizes.specs.Sizes.{longest_look}
-use Rattle.layout.specs.declared.Step.{Step}
-use Rattle.layout.specs.declared.Step.TheVariants.{Next, Refused}
+use Rattle.layout.specs.Step.{Step}
+use Rattle.std.specs.Prelude.{Ok, Err}
 use Rattle.grammar.specs.Laws.Layout.Read.{read}
 use Rattle.store.specs.Check.{place_of}
 use Rattle.look.specs.declared.Look.{Look}
-use Rattle.look.specs.declared.Answer.{Answer}
-use Rattle.look.specs.declared.Answer.TheVariants as read_answer
+use Rattle.look.specs.Read.{Answer}
 use Rattle.look.specs.Look.{TableLook}
 use Rattle.look.specs.Answers.{outcome, expected}
-use Rattle.store.specs.declared.Written.{Written}
-use Rattle.store.specs.declared.Written.TheVariants as written
+use Rattle.store.specs.Written.{Written}
 use Rattle.store.specs.Deliver.{output, answer}
 use Rattle.store.specs.Laws.Deliver.{is_refused, is_length}
 use Rattle.look_write.specs.Writing.{file, writing, Wrote}
@@ -24,16 +22,16 @@ use Rattle.look_write.specs.Laws.Theorems.{Same, written_reads_same}
 
 module _ (x : Look) (s out : List ℕ) (r : Written) (out' : List ℕ) (call : Wrote x s out r out') where
   -- it refuses exactly what is refused, by that number and at that place, and leaves the output as it was
-  pub refuses_exactly : (n p : ℕ) → (r ≡ written.Refused n p) ↔ refusals.Refused x s (length out) n p
+  pub refuses_exactly : (n p : ℕ) → (r ≡ Err (n, p)) ↔ refusals.Refused x s (length out) n p
   refuses_exactly n p = (
     λ e. (refused_exactly x s (length out) n p).0 (sym call.0 ∙ ap answer e),
     λ f. is_refused r n p (call.0 ∙ (refused_exactly x s (length out) n p).1 f),
   )
 
-  pub refusal_keeps : (n p : ℕ) → r ≡ written.Refused n p → out' ≡ out
+  pub refusal_keeps : (n p : ℕ) → r ≡ Err (n, p) → out' ≡ out
   unfolding output
   refusal_keeps n p e =
-      let w : writing x s (length out) ≡ Refused n p = sym call.0 ∙ ap answer e in
+      let w : writing x s (length out) ≡ Err (n, p) = sym call.0 ∙ ap answer e in
       call.1 ∙ ap (λ (c : Step). output c (file x s) out) w
 
   -- the place of a refusal, and the length, are no farther than the longest look reaches
@@ -41,14 +39,14 @@ module _ (x : Look) (s out : List ℕ) (r : Written) (out' : List ℕ) (call : W
   reach_within = rw call.0 (place_within x s (length out) call.2)
 
   -- it writes exactly what is not refused, and answers the length of the file
-  pub writes_exactly : (n : ℕ) → (r ≡ written.Length n) ↔ (Allowed x s (length out) × (n ≡ length (file x s)))
+  pub writes_exactly : (n : ℕ) → (r ≡ Ok n) ↔ (Allowed x s (length out) × (n ≡ length (file x s)))
   writes_exactly n = (
     λ e. (written_exactly x s (length out) n).0 (sym call.0 ∙ ap answer e),
     λ h. is_length r n (call.0 ∙ (written_exactly x s (length out) n).1 h),
   )
 
-  module _ (n : ℕ) (e : r ≡ written.Length n) where
-    next : writing x s (length out) ≡ Next n
+  module _ (n : ℕ) (e : r ≡ Ok n) where
+    next : writing x s (length out) ≡ Ok n
     next = sym call.0 ∙ ap answer e
 
     long : length (file x s) ≡ n
@@ -65,5 +63,5 @@ module _ (x : Look) (s out : List ℕ) (r : Written) (out' : List ℕ) (call : W
 
     -- "a written look reads as the same look": whatever answer meets `read_look`'s contract for those bytes of the output
     pub reads_same : (a : Answer) → outcome a ≡ expected (read TableLook (take n out') 0)
-        → (y : Look) × (a ≡ read_answer.Accepted y) × Same x s y (take n out')
+        → (y : Look) × (a ≡ Ok y) × Same x s y (take n out')
     reads_same a i = rw output_begins (written_reads_same x s call.3 call.2 (length out) n next a (rw output_begins at i))

@@ -9,7 +9,7 @@ use Rattle.look.specs.declared.Continuation.{Continuation}
 use Rattle.look.specs.declared.Continuation.TheVariants.{Default, Stored}
 use Rattle.look.specs.declared.V2Styles.{V2Styles}
 use Rattle.look.specs.declared.Look.{Look}
-use Rattle.look.specs.declared.Answer.TheVariants as answer
+use Rattle.std.specs.Prelude.{Ok, Err}
 use Rattle.look.specs.Look as grammar
 use Rattle.look.specs.Look.{TableLook, TableLook02}
 use Rattle.look.specs.Values as values
@@ -73,7 +73,7 @@ default_if true f e = absurd (false≢true (sym e))
 default_if false f e = refl
 
 -- whatever look meets `read_look`'s contract for bytes that it accepts
-module _ (bs : List ℕ) (h : Bytes bs) (y : Look) (i : outcome (answer.Accepted y) ≡ expected (read TableLook bs 0)) where
+module _ (bs : List ℕ) (h : Bytes bs) (y : Look) (i : outcome (Ok y) ≡ expected (read TableLook bs 0)) where
   -- it is of version 02
   pub version_02 : y.version ≡ 2
   version_02 = ap (λ (f : Fields TableLook02). f.1.0) (fields_are bs h y i)

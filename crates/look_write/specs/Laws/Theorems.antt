@@ -6,7 +6,7 @@ use Rattle.std.proofs.Common.{subst, ◌∙◌, zero-add, arith, length-append, 
 use Rattle.std.specs.Prelude.{◌↔◌, Bool, true, false, ℕ, ◌+◌, ◌^◌, ◌<◌, length, eqb, leb}
 use Rattle.std.proofs.lemmas.Bool.{false≢true}
 use mathlib.Core.List.{List, [], ◌∷◌, ◌++◌, append-nil, append_assoc}
-use Rattle.layout.specs.declared.Step.TheVariants.{Next, Refused}
+use Rattle.std.specs.Prelude.{Ok, Err}
 use Rattle.sizes.specs.Basics.{among, pick, le}
 use Rattle.grammar.specs.Layout.{passes, Tree, spell, digits, Bytes, no_bytes, byte, Derivation, ◌▸◌, Valid, suits, all_none, all_more, little}
 use Rattle.grammar.specs.Laws.Layout.Read.{Got, got, no, read}
@@ -16,8 +16,7 @@ use Rattle.store.specs.Fields.{Fields, placed, text_of, resolve_all, resolve, by
 use Rattle.store.specs.Fit.{Fit}
 use Rattle.store.specs.Unwritable.{Writable}
 use Rattle.look.specs.declared.Look.{Look}
-use Rattle.look.specs.declared.Answer.{Answer}
-use Rattle.look.specs.declared.Answer.TheVariants as answer
+use Rattle.look.specs.Read.{Answer}
 use Rattle.look.specs.Look as grammar
 use Rattle.look.specs.Look.{TableLook, TableLook02}
 use Rattle.look.specs.Values as values
@@ -200,17 +199,17 @@ look_writable s f w = (w.0, (refl, (w.1.1.0, (w.1.1.1.0, v2_writable (eqb f.1.0 
 -- what an answer says of the look that it accepts: its fields
 record Accepts (a : Answer) (f : Fields TableLook02) : Type 0 where
   look : Look
-  is : a ≡ answer.Accepted look
+  is : a ≡ Ok look
   fields : values.fields look ≡ f
 
 accepts : (a : Answer) (f : Fields TableLook02) → outcome a ≡ accepted f → Accepts a f
-accepts (answer.Accepted y) f e = record { look = y; is = refl; fields = cc }
-accepts (answer.Refused n p) f e = absurd (let z : ◌≡◌ {A = ℕ} 0 1 = cc in omega arith)
+accepts (Ok y) f e = record { look = y; is = refl; fields = cc }
+accepts (Err (n, p)) f e = absurd (let z : ◌≡◌ {A = ℕ} 0 1 = cc in omega arith)
 
 -- for bytes that are read whole, as a tree: a look whose fields are those of the tree's look
 record Back (a : Answer) (bs : List ℕ) (t : Tree TableLook) : Type 0 where
   look : Look
-  is : a ≡ answer.Accepted look
+  is : a ≡ Ok look
   fields : values.fields look ≡ look_of (placed TableLook t 0)
   all : resolve TableLook02 bs (values.fields look) ≡ look_tree t
 
@@ -234,7 +233,7 @@ read_back a bs t p r e i =
 
 -- for the bytes of a tree of version 02: a look with that tree
 reads_tree : (w : Tree TableLook02) → Valid TableLook02 w → w.1.0 ≡ 2 → (a : Answer) → outcome a ≡ expected (read TableLook (spell TableLook02 w) 0)
-    → (y : Look) × (a ≡ answer.Accepted y) × (w ≡ resolve TableLook02 (spell TableLook02 w) (values.fields y))
+    → (y : Look) × (a ≡ Ok y) × (w ≡ resolve TableLook02 (spell TableLook02 w) (values.fields y))
 unfolding derived_02
 reads_tree w v e a i =
     let bs = spell TableLook02 w in
@@ -244,7 +243,7 @@ reads_tree w v e a i =
 
 -- ---- a written look reads as the same look
 
-module _ (x : Look) (s : List ℕ) (bs : Bytes s) (fits : Fits x s) (room n : ℕ) (e : writing x s room ≡ Next n) where
+module _ (x : Look) (s : List ℕ) (bs : Bytes s) (fits : Fits x s) (room n : ℕ) (e : writing x s room ≡ Ok n) where
   written : Tree TableLook02
   written = resolve TableLook02 s (values.fields x)
 
@@ -253,7 +252,7 @@ module _ (x : Look) (s : List ℕ) (bs : Bytes s) (fits : Fits x s) (room n : �
 
   -- "a written look reads as the same look": whatever answer meets `read_look`'s contract for the bytes that `write_look`'s contract gives
   pub written_reads_same : (a : Answer) → outcome a ≡ expected (read TableLook (file x s) 0)
-      → (y : Look) × (a ≡ answer.Accepted y) × Same x s y (file x s)
+      → (y : Look) × (a ≡ Ok y) × Same x s y (file x s)
   unfolding file written resolve
   written_reads_same a i =
       let y = reads_tree written (valid_resolved TableLook02 s bs (values.fields x) fits.is writable) (version_written x s writable) a i in
@@ -261,10 +260,10 @@ module _ (x : Look) (s : List ℕ) (bs : Bytes s) (fits : Fits x s) (room n : �
 
 -- ---- an accepted file rewritten
 
-is_look : {x y : Look} → answer.Accepted y ≡ answer.Accepted x → x ≡ y
+is_look : {x y : Look} → Ok y ≡ Ok x → x ≡ y
 is_look e = cc
 
-module _ (bs : List ℕ) (h : Bytes bs) (y : Look) (i : outcome (answer.Accepted y) ≡ expected (read TableLook bs 0)) where
+module _ (bs : List ℕ) (h : Bytes bs) (y : Look) (i : outcome (Ok y) ≡ expected (read TableLook bs 0)) where
   -- the file is read whole
   whole : (t : Tree TableLook) × (p : ℕ) × (read TableLook bs 0 ≡ got t [] p)
   unfolding expected
@@ -308,7 +307,7 @@ module _ (bs : List ℕ) (h : Bytes bs) (y : Look) (i : outcome (answer.Accepted
       }
 
   -- they read as the look that was answered
-  pub rewritten_reads_same : (a : Answer) → outcome a ≡ expected (read TableLook (file y bs) 0) → (z : Look) × (a ≡ answer.Accepted z) × Same y bs z (file y bs)
+  pub rewritten_reads_same : (a : Answer) → outcome a ≡ expected (read TableLook (file y bs) 0) → (z : Look) × (a ≡ Ok z) × Same y bs z (file y bs)
   unfolding file look_tree
   rewritten_reads_same a j =
       let e : spell TableLook02 (look_tree of_file.tree) ≡ file y bs = ap (spell TableLook02) (sym all_are) in
@@ -316,9 +315,9 @@ module _ (bs : List ℕ) (h : Bytes bs) (y : Look) (i : outcome (answer.Accepted
       (z.0, z.1, record { all = all_are ∙ rw e at z.2 })
 
   -- and rewritten again they stay
-  pub rewritten_again : (z : Look) → outcome (answer.Accepted z) ≡ expected (read TableLook (file y bs) 0) → file z (file y bs) ≡ file y bs
+  pub rewritten_again : (z : Look) → outcome (Ok z) ≡ expected (read TableLook (file y bs) 0) → file z (file y bs) ≡ file y bs
   rewritten_again z j =
-      let r = rewritten_reads_same (answer.Accepted z) j in
+      let r = rewritten_reads_same (Ok z) j in
       let e : r.0 ≡ z = is_look r.1 in
       ap (λ (u : Look). file u (file y bs)) (sym e) ∙ sym (same_file r.2)
 
@@ -329,7 +328,7 @@ module _ (bs : List ℕ) (h : Bytes bs) (y : Look) (i : outcome (answer.Accepted
       (writable_placed TableLook of_file.tree of_file.valid bs 0 [] (stands_whole bs of_file.tree of_file.spells)))
 
   -- and it gives them exactly where the output has room for them
-  pub rewritten : (room : ℕ) → writing y bs room ≡ pick (leb (length (file y bs)) room) (Next (length (file y bs))) (Refused 15 0)
+  pub rewritten : (room : ℕ) → writing y bs room ≡ pick (leb (length (file y bs)) room) (Ok (length (file y bs))) (Err (15, 0))
   unfolding writing ending chain pick file bytes_in
   rewritten room =
       rw ((writable_exactly TableLook02 bs (values.fields y) 0 (length (file y bs))).1 (can_be_written, sym (zero-add (length (file y bs)))))
@@ -337,7 +336,7 @@ module _ (bs : List ℕ) (h : Bytes bs) (y : Look) (i : outcome (answer.Accepted
 -- ---- accepted exactly when there is a derivation, and never two
 
 pub accepted_exactly : (bs : List ℕ) → Bytes bs → (a : Answer) → outcome a ≡ expected (read TableLook bs 0)
-    → ((y : Look) × (a ≡ answer.Accepted y)) ↔ Derivation TableLook bs
+    → ((y : Look) × (a ≡ Ok y)) ↔ Derivation TableLook bs
 accepted_exactly bs h a i = (
   λ y. of_file bs h y.0 (rw y.1 at i),
   λ d.

@@ -2,20 +2,20 @@
 use Rattle.std.proofs.Math.Path.{◌≡◌, refl, sym, subst}
 use Rattle.std.proofs.Common.{ap, ◌∙◌, arith, length-append}
 use Rattle.std.specs.Prelude.{Bool, true, false, List, ℕ, ◌≤◌, drop, length}
-use Rattle.layout.specs.declared.Step.{Step}
-use Rattle.layout.specs.declared.Step.TheVariants.{Next, Refused}
+use Rattle.layout.specs.Step.{Step}
+use Rattle.std.specs.Prelude.{Ok, Err}
 use Rattle.sizes.specs.Basics.{pick}
 use Rattle.grammar.specs.Layout.{little, Test, a_version, Tree, Bytes, passes, spell, size}
 use Rattle.grammar.specs.Conventions.{field}
 use Rattle.grammar.specs.Laws.Layout.Read.{Got, got, no, refusal, bind, read_number}
 use Rattle.grammar.specs.Laws.Layout.Check.{check}
-use Rattle.layout.specs.Reads.{Reads, chain, peek, number_of}
+use Rattle.layout.specs.Reads.{ReadsTo, chain, peek, number_of}
 use Rattle.grammar.specs.Laws.Layout.{digits_length}
 use Rattle.grammar.specs.Laws.Layout.Binds.{bind_assoc}
 use Rattle.layout.specs.Steps.Spelt.{read_on, read_off, stays_inside}
 use Rattle.grammar.specs.Sections.{HeaderStart, versions}
-use Rattle.opening.specs.declared.Head.{Head}
-use Rattle.opening.specs.declared.Head.TheVariants as head
+use Rattle.opening.specs.Head.{Head}
+use Rattle.opening.specs.Laws.Refusals.{same_number, same_place}
 use Rattle.grammar.specs.Member.{Body, body_at}
 use Rattle.grammar.specs.Refused.{body_rule, member_rule}
 
@@ -68,32 +68,32 @@ pub record Bound (s : List ℕ) (v at : ℕ) : Type 0 where
 
 -- what the code gives
 abbrev pub HeaderRead : List ℕ → Head → Type 0
-HeaderRead s (head.Of v at) = Bound s v at
-HeaderRead s (head.Refused n p) = check member_rule s 0 ≡ no n p
+HeaderRead s (Ok (v, at)) = Bound s v at
+HeaderRead s (Err (n, p)) = check member_rule s 0 ≡ no n p
 
-module _ {s : List ℕ} (b : Bytes s) {st st' : Step} {v : ℕ} (h : Reads HeaderStart s (Next 0) st) (v-is : v ≡ peek little 4 s st)
-    (k : Reads (field little 4 (a_version versions)) s st st') where
-  pub header_off : {n p : ℕ} → st' ≡ Refused n p → check member_rule s 0 ≡ no n p
+module _ {s : List ℕ} (b : Bytes s) {st st' : Step} {v : ℕ} (h : ReadsTo HeaderStart s (Ok 0) st) (v-is : v ≡ peek little 4 s st)
+    (k : ReadsTo (field little 4 (a_version versions)) s st st') where
+  pub header_off : {n p : ℕ} → st' ≡ Err (n, p) → check member_rule s 0 ≡ no n p
   unfolding member_rule check bind chain
   header_off {n} {p} e = go st h k
     where
-      go : (st : Step) → Reads HeaderStart s (Next 0) st → Reads (field little 4 (a_version versions)) s st st' → check member_rule s 0 ≡ no n p
-      go (Refused m q) h k =
-          let i : Refused m q ≡ Refused n p = sym k.is ∙ e in
-          let m_is : m ≡ n = cc in
-          let q_is : q ≡ p = cc in
+      go : (st : Step) → ReadsTo HeaderStart s (Ok 0) st → ReadsTo (field little 4 (a_version versions)) s st st' → check member_rule s 0 ≡ no n p
+      go (Err (m, q)) h k =
+          let i = sym k.is ∙ e in
+          let m_is : m ≡ n = same_number i in
+          let q_is : q ≡ p = same_place i in
           rw (read_off h refl, m_is, q_is)
-      go (Next q) h k =
+      go (Ok q) h k =
           let start = read_on b h refl in
           rw (start.is, tested_off (a_version versions) (read_number little 4 (drop q s) q) q (λ m r at. bind {B = (n : ℕ) × Tree (Body n)} (check (body_rule m) r at) (λ t r p. got (m, t) r p)) (read_off k e))
 
-  pub header_on : {at : ℕ} → st' ≡ Next at → Bound s v at
+  pub header_on : {at : ℕ} → st' ≡ Ok at → Bound s v at
   unfolding member_rule check bind chain peek
   header_on {at} e = go st h v-is k
     where
-      go : (st : Step) → Reads HeaderStart s (Next 0) st → v ≡ peek little 4 s st → Reads (field little 4 (a_version versions)) s st st' → Bound s v at
-      go (Refused m q) h v-is k = absurd (let i : Refused m q ≡ Next at = sym k.is ∙ e in let z : ◌≡◌ {A = ℕ} 0 1 = cc in omega arith)
-      go (Next q) h v-is k =
+      go : (st : Step) → ReadsTo HeaderStart s (Ok 0) st → v ≡ peek little 4 s st → ReadsTo (field little 4 (a_version versions)) s st st' → Bound s v at
+      go (Err (m, q)) h v-is k = absurd (let i : Err (m, q) ≡ Ok at = sym k.is ∙ e in let z : ◌≡◌ {A = ℕ} 0 1 = cc in omega arith)
+      go (Ok q) h v-is k =
           let x = read_on b h refl in
           let y = read_on b k e in
           let t = tested_on (a_version versions) (read_number little 4 (drop q s) q) q {n = y.tree.0} (λ m r at. bind {B = (n : ℕ) × Tree (Body n)} (check (body_rule m) r at) (λ t r p. got (m, t) r p)) y.is in

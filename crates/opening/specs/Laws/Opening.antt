@@ -13,12 +13,11 @@ use Rattle.grammar.specs.Laws.Layout.Read.{Got, got, no, bind, lead, read}
 use Rattle.grammar.specs.Laws.Layout.Check.{check}
 use Rattle.grammar.specs.Laws.Layout.Binds.{bind_assoc}
 use Rattle.grammar.specs.Laws.Member.Checked.{ended, checked}
-use Rattle.layout.specs.declared.Step.{Step}
-use Rattle.layout.specs.declared.Step.TheVariants.{Next, Refused}
-use Rattle.layout.specs.Reads.{Reads}
+use Rattle.layout.specs.Step.{Step}
+use Rattle.std.specs.Prelude.{Ok, Err}
+use Rattle.layout.specs.Reads.{ReadsTo}
 use Rattle.layout.specs.Steps.Spelt.{Read, read_on, read_off}
-use Rattle.opening.specs.declared.Head.{Head}
-use Rattle.opening.specs.declared.Head.TheVariants as head
+use Rattle.opening.specs.Head.{Head}
 use Rattle.opening.specs.Laws.Header.{Bound}
 
 -- a member that is no longer than members are, of that version, whose sections before its dimensions end at a place
@@ -30,8 +29,8 @@ pub record Opened (s : List ℕ) (version at : ℕ) : Type 0 where
 
 -- what the code gives
 abbrev pub OpeningRead : List ℕ → Head → Type 0
-OpeningRead s (head.Of version at) = Opened s version at
-OpeningRead s (head.Refused n p) = checked s ≡ no n p
+OpeningRead s (Ok (version, at)) = Opened s version at
+OpeningRead s (Err (n, p)) = checked s ≡ no n p
 
 -- what is refused by its Header is refused
 pub no_header : (s : List ℕ) → length s ≤ member_bytes → {n p : ℕ} → check member_rule s 0 ≡ no n p → checked s ≡ no n p
@@ -75,10 +74,10 @@ module _ (version : ℕ) where
       ended_bind (check (cells_rule version (places_of version d.1)) s₃ at₃) (λ c. (h.start, (version, (((f, d), a), c)))))))))
 
   -- the sections before the dimensions
-  module _ (s : List ℕ) (b : Bytes s) (short : length s ≤ member_bytes) {st : Step} {from : ℕ} (hd : Bound s version from) (fr : Reads (Front version) s (Next from) st) where
-    pub no_front : {n p : ℕ} → st ≡ Refused n p → checked s ≡ no n p
+  module _ (s : List ℕ) (b : Bytes s) (short : length s ≤ member_bytes) {st : Step} {from : ℕ} (hd : Bound s version from) (fr : ReadsTo (Front version) s (Ok from) st) where
+    pub no_front : {n p : ℕ} → st ≡ Err (n, p) → checked s ≡ no n p
     unfolding bind
     no_front e = rw (in_sections s short hd, read_off fr e)
 
-    pub opened : {at : ℕ} → st ≡ Next at → Opened s version at
+    pub opened : {at : ℕ} → st ≡ Ok at → Opened s version at
     opened e = record { short = short; from = from; header = hd; front = read_on b fr e }

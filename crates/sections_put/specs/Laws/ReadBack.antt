@@ -5,7 +5,7 @@ use mathlib.Core.List.{List, [], ◌∷◌, append-nil}
 use native.Mathlib.Omega.{arith}
 use Rattle.std.proofs.Common.{eq-eqb}
 use Rattle.sizes.specs.Basics.{pick}
-use Rattle.layout.specs.declared.Step.TheVariants.{Next}
+use Rattle.std.specs.Prelude.{Ok, Err}
 use Rattle.grammar.specs.Layout.{a_bool, passes, no_zero, suits, spell, Bytes, All, all_none, all_more, Derivation}
 use Rattle.grammar.specs.Sections as grammar
 use Rattle.grammar.specs.Sections.{AreaFont, AreaColors, AreaMargins, EightAreas, BordersContent}
@@ -90,7 +90,7 @@ module _ (s : List ℕ) where
 
 module _ (s : List ℕ) (bs : Bytes s) (x : Styles) (fit : Fit Sections s (fields x)) (named : Each (Named s) x.areas) where
   -- Written: they go on past all of their bytes
-  pub sections_written : (at : ℕ) → check Sections s (fields x) at ≡ Next (at + length (bytes_in Sections s (fields x)))
+  pub sections_written : (at : ℕ) → check Sections s (fields x) at ≡ Ok (at + length (bytes_in Sections s (fields x)))
   sections_written at = (writable_exactly Sections s (fields x) at _).1 (sections_writable s x named, refl)
 
   -- Derived: what is written is spelt by the tree of the styles

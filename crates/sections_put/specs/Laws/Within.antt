@@ -2,8 +2,8 @@
 use Rattle.std.specs.Prelude.{◌≡◌, refl, List, ℕ, ◌+◌, ◌≤◌, length}
 use Rattle.std.proofs.Common.{arith, length-append}
 use Rattle.std.proofs.lemmas.List.{length-replicate}
-use Rattle.layout.specs.declared.Step.{Step}
-use Rattle.layout.specs.declared.Step.TheVariants.{Next, Refused}
+use Rattle.layout.specs.Step.{Step}
+use Rattle.std.specs.Prelude.{Ok, Err}
 use Rattle.grammar.specs.Layout.{Layout, spell_all, spell_fill, spell}
 use Rattle.grammar.specs.Laws.Layout.{digits_length}
 use Rattle.store.specs.Fields.{Fields, resolve_all, resolve_in, resolve, bytes_in}
@@ -33,5 +33,5 @@ pub within : (g : Layout) (s : List ℕ) (f : Fields g) (at : ℕ) → place_of 
 within g s f at = go (check g s f at) refl
   where
     go : (c : Step) → check g s f at ≡ c → place_of c ≤ at + length (bytes_in g s f)
-    go (Next p) e = omega (arith, ((writable_exactly g s f at p).0 e).1)
-    go (Refused n p) e = refused_within ((unwritable_exactly g s f at n p).0 e)
+    go (Ok p) e = omega (arith, ((writable_exactly g s f at p).0 e).1)
+    go (Err (n, p)) e = refused_within ((unwritable_exactly g s f at n p).0 e)

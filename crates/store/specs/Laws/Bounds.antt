@@ -1,8 +1,8 @@
 -- How many bytes the fields of a layout have at most.
 use Rattle.std.specs.Prelude.{◌≡◌, List, ℕ, ◌+◌, ◌*◌, ◌-◌, ◌^◌, ◌≤◌, max, length, eqb}
 use Rattle.std.proofs.Common.{suc-mul, arith}
-use Rattle.layout.specs.declared.Step.{Step}
-use Rattle.layout.specs.declared.Step.TheVariants.{Next, Refused}
+use Rattle.layout.specs.Step.{Step}
+use Rattle.std.specs.Prelude.{Ok, Err}
 use Rattle.sizes.specs.Basics.{pick}
 use Rattle.grammar.specs.Layout.{Order, Test, Content, any_bytes, Layout, empty, number, string, ◌▸◌, times, leading, region, nothing, All, all_none, all_more}
 use Rattle.layout.specs.Reads.{chain, verdict}
@@ -17,8 +17,8 @@ pub record AtMost (g : Layout) (m : ℕ) : Type 0 where
 
 chain_most : (c : Step) (f : ℕ → Step) (at m n : ℕ) → place_of c ≤ at + m → ((p : ℕ) → place_of (f p) ≤ p + n) → place_of (chain c f) ≤ at + (m + n)
 unfolding chain
-chain_most (Next p) f at m n h k = omega (arith, k p)
-chain_most (Refused r p) f at m n h k = omega arith
+chain_most (Ok p) f at m n h k = omega (arith, k p)
+chain_most (Err (r, p)) f at m n h k = omega arith
 
 empty_most : AtMost empty 0
 unfolding check
@@ -30,7 +30,7 @@ number_most {w = w} {test} {k} {m} h = record {
   is = λ s f at e. chain_most (judged (verdict test f.0) w at) (check (k f.0) s f.1) at w m (here at (number_case test f.0)) (λ p. (h f.0).is s f.1 p e.1);
 }
   where
-    here : (at : ℕ) {n c : ℕ} → NumberCase test n c → place_of (pick (eqb c 0) (Next (at + w)) (Refused c at)) ≤ at + w
+    here : (at : ℕ) {n c : ℕ} → NumberCase test n c → place_of (pick (eqb c 0) (Ok (at + w)) (Err (c, at))) ≤ at + w
     here at (number_good e) = omega arith
     here at (number_bad e z) = rw z (omega arith)
 
@@ -39,7 +39,7 @@ unfolding check judged pick
 text_most {o} {w} {c} = record { is = λ s f at e. here s f at (text_case w c s f) }
   where
     here : (s : List ℕ) (f : Text) (at : ℕ) {v : ℕ} → TextCase w c s f v
-        → place_of (pick (eqb v 0) (Next (at + (w + length (text_of s f)))) (Refused v at)) ≤ at + (w + (256 ^ w - 1))
+        → place_of (pick (eqb v 0) (Ok (at + (w + length (text_of s f)))) (Err (v, at))) ≤ at + (w + (256 ^ w - 1))
     here s f at (text_bad l i e) = omega arith
     here s f at (text_good l i e) = omega (arith, inside_length s f i)
     here s f at (text_longer l) = omega arith

@@ -4,30 +4,30 @@ use Rattle.std.proofs.Common.{◌∙◌, arith, take_at, take_all, length-take-l
 use Rattle.std.specs.Prelude.{Bool, true, false, List, ◌++◌, ℕ, ◌+◌, ◌≤◌, min, drop, leb}
 use Rattle.std.proofs.Math.ListN.{length, take}
 use Rattle.std.proofs.Math.Seq.{take-length}
-use Rattle.layout.specs.declared.Step.{Step}
-use Rattle.layout.specs.declared.Step.TheVariants.{Next, Refused}
+use Rattle.layout.specs.Step.{Step}
+use Rattle.std.specs.Prelude.{Ok, Err}
 use Rattle.sizes.specs.Basics.{pick}
 use Rattle.grammar.specs.Layout.{Layout}
 use Rattle.layout.specs.Reads.{chain}
 use Rattle.store.specs.Fields.{Fields, bytes_in}
 use Rattle.store.specs.Put.{stored}
 use Rattle.store.specs.Check.{place_of, check}
-use Rattle.store.specs.Puts.{Puts}
-use Rattle.store.specs.declared.Written.{Written}
-use Rattle.store.specs.declared.Written.TheVariants as written
-use Rattle.store.specs.Deliver.{ending, output, answer, Delivers}
+use Rattle.store.specs.Puts.{PutsTo}
+use Rattle.store.specs.Written.{Written}
+use Rattle.store.specs.Deliver.{ending, output, answer, DeliversTo}
+use Rattle.store.specs.Laws.Refusals.{same_refusal}
 use Rattle.store.specs.Laws.Exactly.{writable_exactly}
 use Rattle.store.specs.Laws.Lands.{Lands, put_lands}
 use Rattle.store.specs.Laws.Puts.{long}
 
 -- what an answer says is said by no other
-pub is_refused : (r : Written) (n p : ℕ) → answer r ≡ Refused n p → r ≡ written.Refused n p
-is_refused (written.Length m) n p e = absurd (let z : ◌≡◌ {A = ℕ} 0 1 = cc in omega arith)
-is_refused (written.Refused m q) n p e = let a : m ≡ n = cc in let b : q ≡ p = cc in rw (a, b)
+pub is_refused : (r : Written) (n p : ℕ) → answer r ≡ Err (n, p) → r ≡ Err (n, p)
+is_refused (Ok m) n p e = absurd (let z : ◌≡◌ {A = ℕ} 0 1 = cc in omega arith)
+is_refused (Err (m, q)) n p e = let same : (m ≡ n) × (q ≡ p) = same_refusal e in rw (same.0, same.1)
 
-pub is_length : (r : Written) (n : ℕ) → answer r ≡ Next n → r ≡ written.Length n
-is_length (written.Length m) n e = let a : m ≡ n = cc in rw a
-is_length (written.Refused m q) n e = absurd (let z : ◌≡◌ {A = ℕ} 0 1 = cc in omega arith)
+pub is_length : (r : Written) (n : ℕ) → answer r ≡ Ok n → r ≡ Ok n
+is_length (Ok m) n e = let a : m ≡ n = cc in rw a
+is_length (Err (m, q)) n e = absurd (let z : ◌≡◌ {A = ℕ} 0 1 = cc in omega arith)
 
 -- a part up to a position, as far as there are elements
 take_min : (n : ℕ) (b : List ℕ) → take (min n (length b)) b ≡ take n b
@@ -45,7 +45,7 @@ pub part_long : {n : ℕ} (b : List ℕ) → n ≤ length b → n ≡ length (ta
 part_long {n} b h = sym (length-take-le n b h)
 
 module _ (b out : List ℕ) {st : Step} where
-  pub delivers_nothing : {n p : ℕ} → st ≡ Refused n p → Delivers b st out (Refused n p) out
+  pub delivers_nothing : {n p : ℕ} → st ≡ Err (n, p) → DeliversTo b st out (Err (n, p)) out
   unfolding chain
   delivers_nothing {n} {p} e = record {
     answers = rw e;
@@ -53,8 +53,8 @@ module _ (b out : List ℕ) {st : Step} where
     keeps = λ m q i. refl;
   }
 
-  module _ {at : ℕ} (e : st ≡ Next at) where
-    pub delivers_short : {n : ℕ} → n ≡ min at (length b) → leb n (length out) ≡ false → Delivers b st out (Refused 15 0) out
+  module _ {at : ℕ} (e : st ≡ Ok at) where
+    pub delivers_short : {n : ℕ} → n ≡ min at (length b) → leb n (length out) ≡ false → DeliversTo b st out (Err (15, 0)) out
     unfolding chain ending output pick
     delivers_short i f = record {
       answers = rw (e, ← i, f);
@@ -63,7 +63,7 @@ module _ (b out : List ℕ) {st : Step} where
     }
 
     pub delivers_done : {n : ℕ} {out' : List ℕ} → n ≡ min at (length b) → leb n (length out) ≡ true
-        → out' ≡ take (length (take n b)) (take n b) ++ drop (length (take n b)) out → Delivers b st out (Next n) out'
+        → out' ≡ take (length (take n b)) (take n b) ++ drop (length (take n b)) out → DeliversTo b st out (Ok n) out'
     unfolding chain ending output pick
     delivers_done {n} {out'} i f o =
         let l : length (take n b) ≡ n = sym (part_long b (omega (arith, i))) in
@@ -78,15 +78,15 @@ module _ (b out : List ℕ) {st : Step} where
 
 -- the fields of a layout, written into a buffer that they fit, and handed over: the length or the first refusal, then 15; and their bytes
 module _ (g : Layout) (s : List ℕ) (f : Fields g) {b b' out out' : List ℕ} {r r' : Step} (room : place_of (check g s f 0) ≤ length b)
-    (wrote : Puts g s f b (Next 0) b' r) (gives : Delivers b' r out r' out') where
+    (wrote : PutsTo g s f b (Ok 0) b' r) (gives : DeliversTo b' r out r' out') where
   lands : Lands b 0 (bytes_in g s f) (check g s f 0) (b', r)
   lands = rw wrote.is (put_lands g s f b 0 room)
 
   -- a position after the bytes, and no farther than the buffer reaches
-  inside : {n : ℕ} → check g s f 0 ≡ Next n → min n (length b') ≡ n
+  inside : {n : ℕ} → check g s f 0 ≡ Ok n → min n (length b') ≡ n
   inside e = let h : place_of (check g s f 0) ≤ length b' = rw (long wrote) room in let k = rw e at h in omega (arith, k)
 
-  front : {n : ℕ} → check g s f 0 ≡ Next n → take n b' ≡ bytes_in g s f
+  front : {n : ℕ} → check g s f 0 ≡ Ok n → take n b' ≡ bytes_in g s f
   unfolding stored
   front {n} e =
       let l = ((writable_exactly g s f 0 n).0 e).1 in
@@ -97,13 +97,13 @@ module _ (g : Layout) (s : List ℕ) (f : Fields g) {b b' out out' : List ℕ} {
   delivered_answer = gives.answers ∙ go (check g s f 0) refl lands.answers
     where
       go : (c : Step) → check g s f 0 ≡ c → r ≡ c → chain r (λ n. ending (length out) (min n (length b'))) ≡ chain c (ending (length out))
-      go (Next n) e i = rw (i, inside e)
-      go (Refused n p) e i = rw i
+      go (Ok n) e i = rw (i, inside e)
+      go (Err (n, p)) e i = rw i
 
   pub delivered_output : out' ≡ output (chain (check g s f 0) (ending (length out))) (bytes_in g s f) out
   unfolding chain output
   delivered_output = go (check g s f 0) refl lands.answers
     where
       go : (c : Step) → check g s f 0 ≡ c → r ≡ c → out' ≡ output (chain (check g s f 0) (ending (length out))) (bytes_in g s f) out
-      go (Next n) e i = gives.holds n i ∙ rw (← delivered_answer, front e)
-      go (Refused n p) e i = gives.keeps n p i ∙ rw e
+      go (Ok n) e i = gives.holds n i ∙ rw (← delivered_answer, front e)
+      go (Err (n, p)) e i = gives.keeps n p i ∙ rw e

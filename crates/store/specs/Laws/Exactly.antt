@@ -1,11 +1,11 @@
 -- A writer of fields refuses exactly what can't be written (Unwritable.antt), by that number and at that place: for every layout.
-use Rattle.std.specs.Prelude.{◌≡◌, ◌↔◌, true, false, List, [], ◌∷◌, ℕ, ◌+◌, ◌≤◌, length, eqb}
+use Rattle.std.specs.Prelude.{◌≡◌, ◌↔◌, true, List, [], ◌∷◌, ℕ, ◌+◌, ◌≤◌, length, eqb}
 use Rattle.std.proofs.Common.{sym, ap, ◌∙◌, subst, arith, length-append}
 use Rattle.std.proofs.lemmas.Bool.{false≢true}
 use Rattle.std.proofs.Math.Option.{none, some}
 use Rattle.std.proofs.lemmas.List.{length-replicate}
-use Rattle.layout.specs.declared.Step.{Step}
-use Rattle.layout.specs.declared.Step.TheVariants.{Next, Refused}
+use Rattle.layout.specs.Step.{Step}
+use Rattle.std.specs.Prelude.{Ok, Err}
 use Rattle.sizes.specs.Basics.{pick}
 use Rattle.grammar.specs.Layout.{Order, Test, passes, Content, Fill, exact, optional, open_ended, Layout, empty, number, string, ◌▸◌, times, leading, region, nothing, spell_all, spell_fill, spell, all_none, all_more}
 use Rattle.grammar.specs.Laws.Layout as laws
@@ -15,6 +15,7 @@ use Rattle.store.specs.Fields.{Text, FieldsIn, Fields, text_of, resolve_all, res
 use Rattle.store.specs.Put.{text_verdict, free_verdict, run_verdict}
 use Rattle.store.specs.Check.{place_of, judged, check_all, check_in, check}
 use Rattle.store.specs.Unwritable.{Writable, Unwritable, number_wrong, number_then, text_long, text_outside, text_wrong, first, second, here, later, run_long, run_then, content, optional_content, open_content, free_outside}
+use Rattle.store.specs.Laws.Refusals.{same_refusal}
 use Rattle.store.specs.Laws.Verdicts.{NumberCase, number_good, number_bad, number_case, TextCase, text_good, text_longer, text_out, text_bad, text_case, FreeCase, free_good, free_out, free_case, RunCase, run_good, run_longer, run_case, long_verdict, out_verdict, bad_verdict, free_verdict_lem, longer_run, good_run, not_outside}
 
 -- ---- how many bytes fields have
@@ -53,15 +54,15 @@ open_bytes a s f = rw length-append
 
 -- what is answered: the place after them, where they can be written; or why they can't
 data Answers (g : Layout) (s : List ℕ) (f : Fields g) (at : ℕ) : Step → Type 0 where
-  can : (p : ℕ) → Writable g s f → p ≡ at + length (bytes_in g s f) → Answers g s f at (Next p)
-  can_not : {n p : ℕ} → Unwritable s g f at n p → Answers g s f at (Refused n p)
+  can : (p : ℕ) → Writable g s f → p ≡ at + length (bytes_in g s f) → Answers g s f at (Ok p)
+  can_not : {n p : ℕ} → Unwritable s g f at n p → Answers g s f at (Err (n, p))
 
 text_answers : (o : Order) (w : ℕ) (c : Content) (s : List ℕ) (f : Text) (at : ℕ)
     → Answers (string o w c) s f at (judged (text_verdict w c s f) (w + length (text_of s f)) at)
 unfolding judged pick
 text_answers o w c s f at = go (text_case w c s f)
   where
-    go : {v : ℕ} → TextCase w c s f v → Answers (string o w c) s f at (pick (eqb v 0) (Next (at + (w + length (text_of s f)))) (Refused v at))
+    go : {v : ℕ} → TextCase w c s f v → Answers (string o w c) s f at (pick (eqb v 0) (Ok (at + (w + length (text_of s f)))) (Err (v, at)))
     go (text_good l i e) = can (at + (w + length (text_of s f))) (l, i, e) (rw (text_bytes o w c s f))
     go (text_longer l) = can_not (text_long l)
     go (text_out l i) = can_not (text_outside l i)
@@ -78,7 +79,7 @@ number_answers o w test k s f at h = go (number_case test f.0)
     next e (can_not u) = can_not (number_then e u)
 
     go : {c : ℕ} → NumberCase test f.0 c
-        → Answers (number o w test k) s f at (chain (pick (eqb c 0) (Next (at + w)) (Refused c at)) (check (k f.0) s f.1))
+        → Answers (number o w test k) s f at (chain (pick (eqb c 0) (Ok (at + w)) (Err (c, at))) (check (k f.0) s f.1))
     go (number_good e) = next e h
     go (number_bad e z) = rw z (can_not (number_wrong e))
 
@@ -118,7 +119,7 @@ run_answers b n a s f at h = go (run_case n f.0)
     next e (can p v i) = can p (e, v) (omega (arith, run_bytes b n a s f))
     next e (can_not u) = can_not (run_then e u)
 
-    go : {c : ℕ} → RunCase n f.0 c → Answers (leading b n a) s f at (chain (pick (eqb c 0) (Next (at + f.0)) (Refused c at)) (check a s f.1))
+    go : {c : ℕ} → RunCase n f.0 c → Answers (leading b n a) s f at (chain (pick (eqb c 0) (Ok (at + f.0)) (Err (c, at))) (check a s f.1))
     go (run_good e) = next e h
     go (run_longer l) = can_not (run_long l)
 
@@ -198,11 +199,11 @@ refused_after (open_content u) = omega (arith, refused_after u)
 refused_after (free_outside v₀ l) = omega arith
 
 -- one answer for one case
-writable_answer : {g : Layout} {s : List ℕ} {f : Fields g} {at : ℕ} {c : Step} → Answers g s f at c → Writable g s f → c ≡ Next (at + length (bytes_in g s f))
-writable_answer (can p v i) h = ap Next i
+writable_answer : {g : Layout} {s : List ℕ} {f : Fields g} {at : ℕ} {c : Step} → Answers g s f at c → Writable g s f → c ≡ Ok (at + length (bytes_in g s f))
+writable_answer (can p v i) h = ap Ok i
 writable_answer (can_not u) h = absurd (not_both u h)
 
-refused : {s : List ℕ} {g : Layout} {f : Fields g} {at n p : ℕ} → Unwritable s g f at n p → check g s f at ≡ Refused n p
+refused : {s : List ℕ} {g : Layout} {f : Fields g} {at n p : ℕ} → Unwritable s g f at n p → check g s f at ≡ Err (n, p)
 unfolding check check_all check_in judged chain pick verdict
 refused (number_wrong {test = test} {f = f} e) = rw (e, broken test f.0 e)
 refused (number_then e u) = rw (e, refused u)
@@ -222,20 +223,20 @@ refused {s} (free_outside {a = a} {f = f} {at = at} v l) = rw (writable_answer (
 
 -- Exactly: a writer goes on exactly past what can be written, by as many bytes as that has
 pub writable_exactly : (g : Layout) (s : List ℕ) (f : Fields g) (at p : ℕ)
-    → (check g s f at ≡ Next p) ↔ (Writable g s f × (p ≡ at + length (bytes_in g s f)))
-writable_exactly g s f at p = (λ e. go (answers g s f at) e, λ h. writable_answer (answers g s f at) h.0 ∙ ap Next (sym h.1))
+    → (check g s f at ≡ Ok p) ↔ (Writable g s f × (p ≡ at + length (bytes_in g s f)))
+writable_exactly g s f at p = (λ e. go (answers g s f at) e, λ h. writable_answer (answers g s f at) h.0 ∙ ap Ok (sym h.1))
   where
-    go : {c : Step} → Answers g s f at c → c ≡ Next p → Writable g s f × (p ≡ at + length (bytes_in g s f))
+    go : {c : Step} → Answers g s f at c → c ≡ Ok p → Writable g s f × (p ≡ at + length (bytes_in g s f))
     go (can q v i) e = let same : q ≡ p = cc in (v, sym same ∙ i)
     go (can_not u) e = absurd (let z : ◌≡◌ {A = ℕ} 0 1 = cc in omega arith)
 
 -- and refuses exactly what can't be, by that number and at that place
-pub unwritable_exactly : (g : Layout) (s : List ℕ) (f : Fields g) (at n p : ℕ) → (check g s f at ≡ Refused n p) ↔ Unwritable s g f at n p
+pub unwritable_exactly : (g : Layout) (s : List ℕ) (f : Fields g) (at n p : ℕ) → (check g s f at ≡ Err (n, p)) ↔ Unwritable s g f at n p
 unwritable_exactly g s f at n p = (λ e. go (answers g s f at) e, refused)
   where
-    go : {c : Step} → Answers g s f at c → c ≡ Refused n p → Unwritable s g f at n p
+    go : {c : Step} → Answers g s f at c → c ≡ Err (n, p) → Unwritable s g f at n p
     go (can q v i) e = absurd (let z : ◌≡◌ {A = ℕ} 0 1 = cc in omega arith)
-    go (can_not {n = m} {p = q} u) e = let a : m ≡ n = cc in let b : q ≡ p = cc in rw (← a, ← b) u
+    go (can_not {n = m} {p = q} u) e = let same : (m ≡ n) × (q ≡ p) = same_refusal e in rw (← same.0, ← same.1) u
 
 -- Forward: neither is before the first byte
 pub forward : (g : Layout) (s : List ℕ) (f : Fields g) (at : ℕ) → at ≤ place_of (check g s f at)

@@ -7,7 +7,7 @@ use Rattle.std.proofs.Math.Option.{none, some}
 use mathlib.Core.List.{List, [], ◌∷◌, ◌++◌, append_assoc}
 use Rattle.std.proofs.Math.ListN.{length}
 use Rattle.std.proofs.lemmas.List.{length-replicate}
-use Rattle.layout.specs.declared.Step.TheVariants.{Next}
+use Rattle.std.specs.Prelude.{Ok}
 use Rattle.grammar.specs.Layout.{Order, Fill, exact, optional, open_ended, Filled, Layout, empty, number, string, ◌▸◌, times, leading, region, nothing, Tree, digits, spell_all, spell_fill, spell, Bytes, All, all_none, all_more, ValidFill, Valid}
 use Rattle.grammar.specs.Laws.Layout as laws
 use Rattle.layout.specs.Steps.Slices.{drop_bytes, take_bytes}
@@ -126,7 +126,7 @@ writable_placed nothing t v s at r h = elim t [ ]
 
 -- which a writer answers so
 pub check_placed : (g : Layout) (t : Tree g) → Valid g t → (s : List ℕ) (at : ℕ) (r : List ℕ) → Stands (spell g t) s at r
-    → check g s (placed g t at) at ≡ Next (at + length (spell g t))
+    → check g s (placed g t at) at ≡ Ok (at + length (spell g t))
 unfolding bytes_in
 check_placed g t v s at r h =
     let e : at + length (spell g t) ≡ at + length (bytes_in g s (placed g t at)) = rw (resolve_placed g t s at r h) in

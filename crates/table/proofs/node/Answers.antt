@@ -1,14 +1,13 @@
+use Rattle.std.proofs.lemmas.Result.{err_from_is_err_and}
 use Rattle.table.specs.Laws.Heads.{node_of}
 use Rattle.table.proofs.node.Goals as goal
 
-pub returns-in-Refused : goal.returns-in-Refused
+pub returns-in_err-end : goal.returns-in_err-end
 unfolding node_of
-returns-in-Refused c = simp c.in-Refused.is
+returns-in_err-end c =
+    let p = err_from_is_err_and c.from_residual.result c.from_residual.ensures.1 in
+    rw (p.1, p.2, c.in_err-end.was)
 
-pub returns-in-Refused-name : goal.returns-in-Refused-name
+pub returns : goal.returns
 unfolding node_of
-returns-in-Refused-name c = simp (c.in-Next.is, c.in-Refused-name.is)
-
-pub returns-in-Next-name : goal.returns-in-Next-name
-unfolding node_of
-returns-in-Next-name c = simp (c.in-Next.is, c.in-Next-name.is, ← c.length-size.ensures)
+returns c = simp (c.in_ok-end.was, c.length.ensures)

@@ -8,15 +8,15 @@ use native.Mathlib.Omega.{arith}
 use Rattle.std.proofs.Math.ListN.{length, length-append}
 use Rattle.std.proofs.lemmas.List.Edits.{sets}
 use Rattle.sizes.specs.Sizes.{member_bytes, most_nodes, category_depth, node_words, dimension_words, no_parent}
-use Rattle.layout.specs.declared.Step.{Step}
-use Rattle.layout.specs.declared.Step.TheVariants.{Next, Refused}
+use Rattle.layout.specs.Step.{Step}
+use Rattle.std.specs.Prelude.{Result, Ok, Err}
 use Rattle.sizes.specs.Basics.{pick}
 use Rattle.grammar.specs.Layout.{little, Layout, ◌▸◌, times, Tree, spell, passes, Bytes, size}
 use Rattle.grammar.specs.Conventions.{int32}
 use Rattle.grammar.specs.Laws.Layout.Read.{Got, got, no, bind, read}
 use Rattle.grammar.specs.Rule.{Rule, items}
 use Rattle.grammar.specs.Laws.Layout.Check.{judge, check}
-use Rattle.layout.specs.Reads.{Reads, chain, peek}
+use Rattle.layout.specs.Reads.{ReadsTo, chain, peek}
 use Rattle.layout.specs.Keeps.{Out, on, off, Keeps, keeps_on, keeps_off, Each, each_none, each_more}
 use Rattle.grammar.specs.Laws.Layout.{digits_length}
 use Rattle.layout.specs.Steps.Chain.{◌◂◌}
@@ -28,10 +28,8 @@ use Rattle.layout.specs.Laws.Words.{word_same}
 use Rattle.grammar.specs.Value.{Value}
 use Rattle.grammar.specs.RecordWords.{leaves}
 use Rattle.grammar.specs.Once.{Leaf, first_bad}
-use Rattle.table.specs.declared.Walk.{Walk}
-use Rattle.table.specs.declared.Walk.TheVariants as walk
-use Rattle.table.specs.declared.Section.{Section}
-use Rattle.table.specs.declared.Section.TheVariants as section
+use Rattle.table.specs.Walk.{Walk}
+use Rattle.table.specs.declared.dimension.Section.{Section}
 use Rattle.grammar.specs.Table.{DimProperties, Dimension, Dimensions, Category}
 use Rattle.grammar.specs.Records.{sum, dim_nodes, dim_words, dim_entry, dims_words, dims_entries, dims_of, dim_record}
 use Rattle.grammar.specs.Rules.{categories_rule, leaves_of, dimension_rule}
@@ -57,8 +55,8 @@ kept i used ns ds = record { number = i; used = used; words = ns; entries = ds }
 
 -- an answer of the code, and the words with it
 abbrev pub dims_out : ℕ → Walk → List ℕ → List ℕ → Out Kept
-dims_out i (walk.On at used) ns ds = on at (kept i used ns ds)
-dims_out i (walk.Refused r p) ns ds = off r p
+dims_out i (Ok (at, used)) ns ds = on at (kept i used ns ds)
+dims_out i (Err (r, p)) ns ds = off r p
 
 -- the node records
 abbrev pub node_record_sizes : RecordSizes
@@ -68,8 +66,8 @@ node_record_sizes = record { width = node_words; least = least_category; most = 
 
 -- the length of a name that starts at `at`
 abbrev pub name_length_of : ℕ → Step → ℕ
-name_length_of at (Next e) = word32 (e - at)
-name_length_of at (Refused r p) = 0
+name_length_of at (Ok e) = word32 (e - at)
+name_length_of at (Err (r, p)) = 0
 
 -- the leaves among the nodes from the number `used` to u, and the first wrong one
 abbrev pub leaves_from : List ℕ → ℕ → ℕ → List Leaf
@@ -81,8 +79,8 @@ verdict_of ls = first_bad (min (length ls) most_nodes) [] ls
 -- dimension i, whose name has the place `at` and the length n, ends at p, with u nodes in all
 pub data Closed (i at n used p u : ℕ) (ns ds : List ℕ) : Walk → List ℕ → Type 0 where
   closed : {es : List ℕ} → verdict_of (leaves_from ns used u) ≡ none
-      → es ≡ sets ds (dimension_words * i) (dim_record (word32 at) n (word32 (length (leaves_from ns used u))) (word32 used)) → Closed i at n used p u ns ds (walk.On p u) es
-  bad_leaf : {q : ℕ} {es : List ℕ} → verdict_of (leaves_from ns used u) ≡ some q → Closed i at n used p u ns ds (walk.Refused 8 q) es
+      → es ≡ sets ds (dimension_words * i) (dim_record (word32 at) n (word32 (length (leaves_from ns used u))) (word32 used)) → Closed i at n used p u ns ds (Ok (p, u)) es
+  bad_leaf : {q : ℕ} {es : List ℕ} → verdict_of (leaves_from ns used u) ≡ some q → Closed i at n used p u ns ds (Err (8, q)) es
 
 -- ---- the section
 
@@ -90,9 +88,9 @@ pub node_room : (s : List ℕ) (at n : ℕ) → needed node_record_sizes (length
 node_room s at n h = record { enough = λ u few k. omega arith }
 
 -- an answer of the code, and the words with it
-abbrev pub section_out : Section → List ℕ → List ℕ → Out Kept
-section_out (section.Of p d used) ns ds = on p (kept d used ns ds)
-section_out (section.Refused r p) ns ds = off r p
+abbrev pub section_out : Result Section (ℕ × ℕ) → List ℕ → List ℕ → Out Kept
+section_out (Ok x) ns ds = on x.end (kept x.dimensions x.nodes ns ds)
+section_out (Err (r, p)) ns ds = off r p
 
 module _ (version : ℕ) where
   -- a dimension at the place `at`: its nodes and its entry come after those in x
@@ -140,13 +138,13 @@ module _ (version : ℕ) where
     reading = check (dimension_rule version x.used) (drop at s) at
 
     -- name, properties and count are refused
-    pub no_start : {st : Step} {n p : ℕ} → Reads Start s (Next at) st → st ≡ Refused n p → Keeps s One reading (off n p)
+    pub no_start : {st : Step} {n p : ℕ} → ReadsTo Start s (Ok at) st → st ≡ Err (n, p) → Keeps s One reading (off n p)
     unfolding bind
     no_start r e = rw (check_parts x.used (drop at s) at, read_off r e) keeps_off
 
     module _ (few : x.used ≤ most_nodes) (room : Room node_record_sizes (length x.words) x.used at s)
-        {name before st : Step} {n f : ℕ} (v : Reads (Value version) s (Next at) name) (r : Reads ((Value version) ▸ DimProperties) s (Next at) before) (g : Reads int32 s before st)
-        (pk : n ≡ peek little 4 s before) (e : st ≡ Next f) where
+        {name before st : Step} {n f : ℕ} (v : ReadsTo (Value version) s (Ok at) name) (r : ReadsTo ((Value version) ▸ DimProperties) s (Ok at) before) (g : ReadsTo int32 s before st)
+        (pk : n ≡ peek little 4 s before) (e : st ≡ Ok f) where
       start : Read Start s at f
       start = read_on b (g ◂ r) e
 
@@ -207,7 +205,7 @@ module _ (version : ℕ) where
             rw (m, ls_is) (further_bad at (length (leaves_of version tree)) [] (leaves_of version tree))
 
         -- the entry has the place and the length of the name, n, and the first node
-        name_is : name ≡ Next (at + size (Value version) start.tree.0.0)
+        name_is : name ≡ Ok (at + size (Value version) start.tree.0.0)
         unfolding chain size spell
         name_is =
             let h = start.tree in

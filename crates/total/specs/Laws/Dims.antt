@@ -6,7 +6,7 @@ use mathlib.Core.List.{List, [], ◌∷◌, ◌++◌, append_assoc, map}
 use Rattle.std.proofs.Math.Nat.{sub-zero}
 use Rattle.std.proofs.Math.ListN.{length, length-append}
 use Rattle.sizes.specs.Sizes.{dimension_words, dimension_n}
-use Rattle.layout.specs.declared.Step.TheVariants.{Next}
+use Rattle.std.specs.Prelude.{Ok, Err}
 use Rattle.sizes.specs.Basics.{pick}
 use Rattle.grammar.specs.Layout.{little, Tree, digits, spell, size}
 use Rattle.grammar.specs.Laws.Layout.Read.{read_number}
@@ -54,7 +54,7 @@ size_at ws (suc i) j (suc d) h =
 -- ---- the version
 
 -- a number that stands after some bytes
-number_after : (pre : List ℕ) (v : ℕ) (rest : List ℕ) → v < 256 ^ 4 → peek little 4 (pre ++ (digits little 4 v ++ rest)) (Next (length pre)) ≡ v
+number_after : (pre : List ℕ) (v : ℕ) (rest : List ℕ) → v < 256 ^ 4 → peek little 4 (pre ++ (digits little 4 v ++ rest)) (Ok (length pre)) ≡ v
 unfolding peek read_number pick
 number_after pre v rest h =
     let four : length (digits little 4 v) ≡ 4 = digits_length little 4 v in
@@ -65,7 +65,7 @@ after_start : (a b c e : List ℕ) → (a ++ (b ++ c)) ++ e ≡ a ++ (b ++ (c ++
 after_start a b c e = simp append_assoc
 
 -- it stands after 01 00
-pub version_is : {bs : List ℕ} (d : MemberDerivation bs) → peek little 4 bs (Next 2) ≡ version d.tree
+pub version_is : {bs : List ℕ} (d : MemberDerivation bs) → peek little 4 bs (Ok 2) ≡ version d.tree
 unfolding spell HeaderStart
 version_is {bs} d =
     let v = version d.tree in

@@ -1,5 +1,5 @@
 use mathlib.Core.Path.{refl, ap}
-use Rattle.layout.specs.declared.Step.TheVariants.{Next}
+use Rattle.std.specs.Prelude.{Ok}
 use Rattle.sizes.specs.Basics.{among, pick}
 use Rattle.layout.specs.Reads.{skip}
 use Rattle.layout.specs.Steps.Chain.{in_same}
@@ -14,8 +14,8 @@ returns-then-x-eq1 c =
     let v = c.args.version in
     after_cell_zeros _ c.cell_zeros.ensures
     (form_of v (ValueIn v below_value) c.if-x-eq1.true refl refl c.form_01.ensures c.peek-x.ensures c.any.ensures.low)
-    (ap Next c.past-from.ensures)
+    (ap Ok c.past-from.ensures)
 
 pub returns : goal.returns
 unfolding skip among pick
-returns c = after_cell_zeros _ c.cell_zeros.ensures (in_same c.whole.ensures c.raw_value.ensures) (ap Next c.past-from.ensures)
+returns c = after_cell_zeros _ c.cell_zeros.ensures (in_same c.whole.ensures c.raw_value.ensures) (ap Ok c.past-from.ensures)

@@ -7,8 +7,8 @@ use Rattle.sizes.specs.Basics.{pick}
 use Rattle.grammar.specs.Layout.{Tree, Derivation}
 use Rattle.grammar.specs.Laws.Layout.Read.{read}
 use Rattle.look.specs.declared.Look.{Look}
-use Rattle.look.specs.declared.Answer.{Answer as LookAnswer}
-use Rattle.look.specs.declared.Answer.TheVariants as look
+use Rattle.look.specs.Read.{Answer as LookAnswer}
+use Rattle.std.specs.Prelude.{Ok, Err}
 use Rattle.look.specs.Look.{TableLook}
 use Rattle.look.specs.Answers.{outcome, expected}
 use Rattle.store.specs.Deliver.{output}
@@ -20,7 +20,7 @@ use Rattle.written_words.specs.Looks.{Rewritten}
 -- `digarumbi_rewrite_look`, of a file that has a derivation
 module _ {s out answer : List ℕ} {n : ℕ} {out' answer' : List ℕ} (room : write_answer_words ≤ length answer)
     (c : Rewritten s out answer n out' answer') (d : Derivation TableLook s) where
-  answered : (x : Look) × (c.look ≡ look.Accepted x)
+  answered : (x : Look) × (c.look ≡ Ok x)
   answered = (looks.accepted_exactly s c.bytes c.look c.is_read).1 d
 
   -- the look that is answered, and the file that it is written as
@@ -38,7 +38,7 @@ module _ {s out answer : List ℕ} {n : ℕ} {out' answer' : List ℕ} (room : w
       let o = rw answered.1 at c.out_area in
       o ∙ rw (le-leb write_answer_words (length answer) room, looks.rewritten s c.bytes answered.0 i (length out), le-leb (length (file answered.0 s)) (length out) fits)
 
-  is_read : outcome (look.Accepted the_look) ≡ expected (read TableLook s 0)
+  is_read : outcome (Ok the_look) ≡ expected (read TableLook s 0)
   unfolding the_look
   is_read = rw answered.1 at c.is_read
 
@@ -57,11 +57,11 @@ module _ {s out answer : List ℕ} {n : ℕ} {out' answer' : List ℕ} (room : w
   old_renewed e = looks.rewritten_old s c.bytes the_look is_read (version_of e)
 
   pub reads_same : (a : LookAnswer) → outcome a ≡ expected (read TableLook the_file 0)
-      → (y : Look) × (a ≡ look.Accepted y) × Same the_look s y the_file
+      → (y : Look) × (a ≡ Ok y) × Same the_look s y the_file
   unfolding the_file
   reads_same a e = looks.rewritten_reads_same s c.bytes the_look is_read a e
 
   -- and that, written again, is as it was
-  pub again : (y : Look) → outcome (look.Accepted y) ≡ expected (read TableLook the_file 0) → file y the_file ≡ the_file
+  pub again : (y : Look) → outcome (Ok y) ≡ expected (read TableLook the_file 0) → file y the_file ≡ the_file
   unfolding the_file
   again y e = looks.rewritten_again s c.bytes the_look is_read y e

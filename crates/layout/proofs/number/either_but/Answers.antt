@@ -1,32 +1,28 @@
--- another number than the one that may be left out
-use mathlib.Core.Path.{◌≡◌, refl}
-use mathlib.Core.Bool.{Bool, true, false}
-use mathlib.Core.List.{[], ◌∷◌}
-use Prim.Native.Nat.{ℕ}
-use lib.Dec.{eqb}
+-- the number that may be left out, and others
+use Rattle.std.proofs.Common.{◌≡◌, refl, ◌∙◌, ℕ, Bool, true, false, not, ◌||◌, ◌&&◌, [], ◌∷◌, eqb, eq-eqb, ne_eqb}
 use Rattle.sizes.specs.Basics.{among, pick}
-use Rattle.grammar.specs.Layout.{passes}
+use Rattle.grammar.specs.Layout.{one_of_but, passes}
 use Rattle.grammar.specs.Laws.Layout.Read.{refusal}
 use Rattle.layout.specs.Reads.{verdict}
 use Rattle.layout.proofs.number.either_but.Goals as goal
 
-kept : (without : Bool) (v a : ℕ) → eqb v a ≡ false → among v (pick without (a ∷ []) []) ≡ false
-unfolding among pick
-kept true v a e = rw e
-kept false v a e = refl
-
-pub returns-then-without : goal.returns-then-without
+left_out : (without : Bool) (v a b : ℕ) → v ≡ a → pick (not without) 0 4 ≡ verdict (one_of_but (a ∷ b ∷ []) (pick without (a ∷ []) [])) v
 unfolding verdict passes refusal among pick
-returns-then-without c = simp (c.if-first.true-raw, c.if-without.true)
+left_out true v a b e = rw (eq-eqb v a e)
+left_out false v a b e = rw (eq-eqb v a e)
 
-pub returns-else-without : goal.returns-else-without
-unfolding verdict passes refusal among pick
-returns-else-without c = simp (c.if-first.true-raw, c.if-without.false)
+one : (c : Bool) → ◌≡◌ {A = ℕ} (pick c 0 3) (pick ((c || false) && true) 0 3)
+unfolding pick
+one true = refl
+one false = refl
 
-pub returns-then-second : goal.returns-then-second
+others : (without : Bool) (v a b : ℕ) → (v ≡ a → ⊥) → pick (eqb v b) 0 3 ≡ verdict (one_of_but (a ∷ b ∷ []) (pick without (a ∷ []) [])) v
 unfolding verdict passes refusal among pick
-returns-then-second c = let e = c.if-first.false-raw in let a = c.args in simp (e, c.if-second.true-raw, kept a.without a.v a.a e)
+others true v a b n = rw (ne_eqb v a n) (one (eqb v b))
+others false v a b n = rw (ne_eqb v a n) (one (eqb v b))
 
-pub returns-else-second : goal.returns-else-second
-unfolding verdict passes refusal among pick
-returns-else-second c = let e = c.if-first.false-raw in let a = c.args in simp (e, c.if-second.false-raw, kept a.without a.v a.a e)
+pub returns-then-v-a : goal.returns-then-v-a
+returns-then-v-a c = c.unless.ensures ∙ left_out _ _ _ _ c.if-v-a.true
+
+pub returns : goal.returns
+returns c = c.unless-2.ensures ∙ others _ _ _ _ c.if-v-a.false

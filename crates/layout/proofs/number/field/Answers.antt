@@ -1,27 +1,28 @@
-use borrow.Author.Rules.{rules}
-use borrow.Author.Tests.{leb-true}
-use native.Mathlib.Omega.{arith}
+use Rattle.std.proofs.Common.{arith, le-leb}
+use Rattle.std.proofs.lemmas.Result.{err_from_is_err_and}
 use Rattle.sizes.specs.Basics.{pick}
+use Rattle.refusals.specs.Verdicts.{number_not_0}
 use Rattle.layout.specs.Reads as spec
 use Rattle.layout.specs.Steps.Fields.{field_at}
 use Rattle.layout.proofs.number.field.Goals as goal
 
 pub overflow_add-result : goal.overflow_add-result
-unfolding spec.field pick
-overflow_add-result c = omega (arith, leb-true)
+overflow_add-result c = omega (arith, c.if-inside.true, c.left.ensures, c.ranges)
 
-pub returns-then-good : goal.returns-then-good
-unfolding spec.field pick
-returns-then-good c = simp (c.in-Next.is, field_at, ← c.left.ensures, c.if-inside.true-raw, c.if-good.true-raw)
+pub returns-in_err-at : goal.returns-in_err-at
+unfolding spec.field
+returns-in_err-at c =
+    let p = err_from_is_err_and c.from_residual.result c.from_residual.ensures.1 in
+    rw (p.1, p.2, c.in_err-at.was)
 
-pub returns-then-inside : goal.returns-then-inside
+pub returns-in-Ok : goal.returns-in-Ok
 unfolding spec.field pick
-returns-then-inside c = simp (c.in-Next.is, field_at, ← c.left.ensures, c.if-inside.true-raw, c.if-good.false-raw)
+returns-in-Ok c = simp (c.in_ok-at.was, field_at, ← c.left.ensures, le-leb _ _ c.if-inside.true, c.in-Ok.is)
+
+pub returns-in-Err : goal.returns-in-Err
+unfolding spec.field pick
+returns-in-Err c = simp (c.in_ok-at.was, field_at, ← c.left.ensures, le-leb _ _ c.if-inside.true, c.in-Err.is, number_not_0)
 
 pub returns : goal.returns
 unfolding spec.field pick
-returns c = simp (c.in-Next.is, field_at, ← c.left.ensures, c.if-inside.false-raw)
-
-pub returns-in_default : goal.returns-in_default
-unfolding spec.field pick
-returns-in_default c = search rules
+returns c = simp (c.in_ok-at.was, field_at, ← c.left.ensures, c.if-inside.false-raw)

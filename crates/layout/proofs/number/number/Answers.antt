@@ -16,15 +16,15 @@ low_first-requires c = omega (arith, leb-true)
 
 pub returns-then-high : goal.returns-then-high
 unfolding spec.peek pick
-returns-then-high c = simp (c.in-Next.is, peek_at, ← c.left.ensures, c.if-fits.true-raw, c.if-high.true) c.high_first.ensures
+returns-then-high c = simp (c.in-Ok.is, peek_at, ← c.left.ensures, c.if-fits.true-raw, c.if-high.true) c.high_first.ensures
 
 pub returns-else-high : goal.returns-else-high
 unfolding spec.peek pick
-returns-else-high c = simp (c.in-Next.is, peek_at, ← c.left.ensures, c.if-fits.true-raw, c.if-high.false) c.low_first.ensures
+returns-else-high c = simp (c.in-Ok.is, peek_at, ← c.left.ensures, c.if-fits.true-raw, c.if-high.false) c.low_first.ensures
 
 pub returns-else-fits : goal.returns-else-fits
 unfolding spec.peek pick
-returns-else-fits c = simp (c.in-Next.is, peek_at, ← c.left.ensures, c.if-fits.false-raw)
+returns-else-fits c = simp (c.in-Ok.is, peek_at, ← c.left.ensures, c.if-fits.false-raw)
 
 pub returns-in_default : goal.returns-in_default
 unfolding spec.peek pick

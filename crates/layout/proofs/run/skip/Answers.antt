@@ -1,12 +1,13 @@
-use mathlib.Core.Path.{ap}
-use Rattle.layout.specs.declared.Step.TheVariants.{Next}
+use Rattle.std.proofs.lemmas.Result.{err_from_is_err_and}
 use Rattle.layout.specs.Reads as spec
 use Rattle.layout.proofs.run.skip.Goals as goal
 
-pub returns-in-Next : goal.returns-in-Next
+pub returns-in_err-at : goal.returns-in_err-at
 unfolding spec.skip
-returns-in-Next c = simp c.in-Next.is (ap Next c.past.ensures)
+returns-in_err-at c =
+    let p = err_from_is_err_and c.from_residual.result c.from_residual.ensures.1 in
+    rw (p.1, p.2, c.in_err-at.was)
 
-pub returns-in-Refused : goal.returns-in-Refused
+pub returns : goal.returns
 unfolding spec.skip
-returns-in-Refused c = simp c.in-Refused.is
+returns c = simp (c.in_ok-at.was, c.past.ensures)

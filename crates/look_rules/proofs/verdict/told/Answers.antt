@@ -7,14 +7,14 @@ pub returns-then-good : goal.returns-then-good
 unfolding told chain pick
 returns-then-good c = rw c.if-good.true
 
-pub returns-in-Next-next : goal.returns-in-Next-next
+pub returns-in-Ok-next : goal.returns-in-Ok-next
 unfolding told chain pick
-returns-in-Next-next c = rw (c.if-good.false, c.in-Next.is, c.in-Next-next.is)
+returns-in-Ok-next c = rw (c.if-good.false, c.in-Ok.is, c.in-Ok-next.is)
 
-pub returns-in-Refused-next : goal.returns-in-Refused-next
+pub returns-in-Err-next : goal.returns-in-Err-next
 unfolding told chain pick
-returns-in-Refused-next c = rw (c.if-good.false, c.in-Next.is, c.in-Refused-next.is)
+returns-in-Err-next c = rw (c.if-good.false, c.in-Ok.is, c.in-Err-next.is)
 
-pub returns-in-Refused : goal.returns-in-Refused
+pub returns-in-Err : goal.returns-in-Err
 unfolding told chain pick
-returns-in-Refused c = rw (c.if-good.false, c.in-Refused.is)
+returns-in-Err c = rw (c.if-good.false, c.in-Err.is)
