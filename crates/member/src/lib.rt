@@ -29,32 +29,31 @@ use lists::with_lists;
 use opening::{ending, opening};
 use refusals::{Reason, Refusal, Verdict};
 use sizes::{CELL_WORDS, DIMENSION_AREA, MEMBER_BYTES, MOST_PLACES, NODE_WORDS};
-use table::{Walk, dimensions, most_node_words};
+use table::{Member, Walk, dimensions, most_node_words};
 
 // What comes after the dimensions: the axes, and how many cells there are; or the refusal.
 type Tail = Result<(AxesRead, usize), Refusal>;
 
 // The cells of a table of so many places, and the end.
-fn cells_and_end(s: &[u8], at: usize, places: u32, words: &mut [u32], version: u64) -> Walk
-    requires { (length s.now ≤ member_bytes) × (needed cell_record_sizes (length s.now - at) ≤ length words.old) }
-    ensures { Keeps s.now (AllCells version at words.old) (ended (check (cells_rule version places) (drop at s.now) at)) (cells_out (by_number result) words.new) }
+fn cells_and_end(member: Member, at: usize, places: u32, words: &mut [u32]) -> Walk
+    requires { needed cell_record_sizes (length member.bytes.now - at) ≤ length words.old }
+    ensures { Keeps member.entry.bytes.now (AllCells member.entry.version at words.old) (ended (check (cells_rule member.entry.version places) (drop at member.entry.bytes.now) at)) (cells_out (by_number result) words.new) }
 {
-    let (end, n) = cells_section(s, at, places, words, version)?;
-    ending(s, end)?;
+    let (end, n) = cells_section(member.bytes, at, places, words, member.version)?;
+    ending(member.bytes, end)?;
     Ok((end, n))
 }
 
 // After the dimensions, of which there are d: the product, the axes and the cells.
 fn after_dims(
-    s: &[u8],
+    member: Member,
     at: usize,
     d: usize,
     dims: &[u32; DIMENSION_AREA],
     words: &mut [u32],
-    version: u64,
 ) -> Tail
-    requires { (length s.now ≤ member_bytes) × (needed cell_record_sizes (length s.now - at) ≤ length words.old) }
-    ensures { whole.TailRead version s.now at d dims.now words.old (by_number result) words.new }
+    requires { needed cell_record_sizes (length member.bytes.now - at) ≤ length words.old }
+    ensures { whole.TailRead member.entry.version member.entry.bytes.now at d dims.now words.old (by_number result) words.new }
 {
     let places = product_of(dims, d);
     if MOST_PLACES < places {
@@ -63,8 +62,8 @@ fn after_dims(
             place: at,
         });
     }
-    let axes = axes(s, at, d)?;
-    let (_, n) = cells_and_end(s, axes.end, places as u32, words, version)?;
+    let axes = axes(member.bytes, at, d)?;
+    let (_, n) = cells_and_end(member, axes.end, places as u32, words)?;
     Ok((axes, n))
 }
 
@@ -104,20 +103,20 @@ fn not_read(refusal: Refusal) -> Answer
     refused(refusal.reason.number(), refusal.place, 0, 0)
 }
 
-// Reads a member of that version, from its dimensions on, into two lists that are long enough for its records. The answer is made here, and
-// no Result with one is handed on: each would have a place of its own on the stack of a small member.
+// Reads a member from its dimensions on, into two lists that are long enough for its records. The answer is made here, and
+// no Result with one is handed on: each would have a place of its own on the stack of a small member. `Opened` is data and no proposition, so
+// it is a clause, and no ghost field of a struct of the member and the place.
 fn read_body(
-    member: &[u8],
-    version: u64,
+    member: Member,
     at: usize,
     node_list: &mut [u32],
     cell_list: &mut [u32],
 ) -> Answer
-    requires { LongEnough member.now at (length node_list.old) (length cell_list.old) × Opened member.now version at }
-    ensures { Stored node_list.old cell_list.old (checked member.now) result node_list.new cell_list.new }
+    requires { LongEnough member.bytes.now at (length node_list.old) (length cell_list.old) × Opened member.bytes.now member.version at }
+    ensures { Stored node_list.old cell_list.old (checked member.entry.bytes.now) result node_list.new cell_list.new }
 {
     let mut dims = [0u32; DIMENSION_AREA];
-    match dimensions(member, at, node_list, &mut dims, version) {
+    match dimensions(member.bytes, at, node_list, &mut dims, member.version) {
         Err(refusal) => not_read(refusal),
         Ok(section) => match after_dims(
             member,
@@ -125,7 +124,6 @@ fn read_body(
             section.dimensions,
             &dims,
             cell_list,
-            version,
         ) {
             Err(refusal) => not_read(refusal),
             Ok((axes, n)) => {
@@ -154,7 +152,10 @@ fn read_ready(member: &[u8], node_list: &mut [u32], cell_list: &mut [u32]) -> An
 {
     match opening(member) {
         Err(refusal) => not_read(refusal),
-        Ok((version, at)) => read_body(member, version, at, node_list, cell_list),
+        Ok((version, at)) => {
+            let bytes = member;
+            read_body(Member { bytes, version }, at, node_list, cell_list)
+        }
     }
 }
 
@@ -179,18 +180,17 @@ pub fn read_into(member: &[u8], node_list: &mut [u32], cell_list: &mut [u32]) ->
 // Reads a member from its dimensions on, with two lists that are long enough for its records. The answer stands in one variable: with two
 // the compiler has both on the stack of a small member.
 fn read_with_lists(
-    member: &[u8],
-    version: u64,
+    member: Member,
     at: usize,
     node_list: &mut [u32],
     cell_list: &mut [u32],
     nodes: &mut [u32],
     cells: &mut [u32],
 ) -> Answer
-    requires { LongEnough member.now at (length node_list.old) (length cell_list.old) × Opened member.now version at }
-    ensures { Delivered (checked member.now) nodes.old cells.old result nodes.new cells.new }
+    requires { LongEnough member.bytes.now at (length node_list.old) (length cell_list.old) × Opened member.bytes.now member.version at }
+    ensures { Delivered (checked member.entry.bytes.now) nodes.old cells.old result nodes.new cells.new }
 {
-    let mut a = read_body(member, version, at, node_list, cell_list);
+    let mut a = read_body(member, at, node_list, cell_list);
     let node_words = NODE_WORDS * a.nodes as usize;
     let cell_words = CELL_WORDS * a.cells as usize;
     if let Err(reason) = deliver(
@@ -211,12 +211,16 @@ pub fn read_member(member: &[u8], nodes: &mut [u32], cells: &mut [u32]) -> Answe
 {
     match opening(member) {
         Err(refusal) => not_read(refusal),
-        Ok((version, at)) => with_lists(
-            left(member, at),
-            &mut |node_list, cell_list|
-                requires { LongEnough member.now at (length node_list.old) (length cell_list.old) × Opened member.now version at }
-                ensures { Delivered (checked member.entry.now) nodes.entry.now cells.entry.now result nodes.exit.now cells.exit.now }
-            { read_with_lists(member, version, at, node_list, cell_list, nodes, cells) },
-        ),
+        Ok((version, at)) => {
+            let bytes = member;
+            let member = Member { bytes, version };
+            with_lists(
+                left(bytes, at),
+                &mut |node_list, cell_list|
+                    requires { LongEnough member.bytes.now at (length node_list.old) (length cell_list.old) × Opened member.bytes.now member.version at }
+                    ensures { Delivered (checked member.entry.bytes.now) nodes.entry.now cells.entry.now result nodes.exit.now cells.exit.now }
+                { read_with_lists(member, at, node_list, cell_list, nodes, cells) },
+            )
+        }
     }
 }

@@ -65,6 +65,6 @@ pub fn member_answer(
         return 0;
     }
     let a = read_member(member, nodes, cells);
-    member_words(answer, a);
+    let _ = member_words(answer, a);
     ANSWER_WORDS
 }

@@ -2,12 +2,14 @@
 #![tactic(auto)]
 
 ghost use Rattle.std.specs.Prelude.{◌≡◌, ◌+◌, ◌*◌, ◌/◌, ◌<◌, ◌≤◌};
+ghost use Rattle.refusals.specs.Verdicts.{code};
 ghost use Rattle.grammar.specs.Laws.Member.Checked.{checked};
 ghost use Rattle.members.specs.Members.{members, list_refusal, member_at, InShare};
 
 use answer::Answer;
 use layout::slice::part;
 use member::read_member;
+use refusals::{Reason, Verdict};
 use sizes::MOST_MEMBERS;
 use std::ops::Range;
 
@@ -30,13 +32,17 @@ fn read_in_share(member: &[u8], n: usize, i: usize, nodes: &mut [u32], cells: &m
     read_member(member, &mut nodes[node_share], &mut cells[cell_share])
 }
 
-// The refusal of a whole list, or 0: it has an odd number of words, or too many members.
-pub fn list_refusal(list: &[u32]) -> u32
-    ensures { result ≡ list_refusal list.now }
+// Why a whole list is refused, if it is: it has an odd number of words, or too many members.
+pub fn list_refusal(list: &[u32]) -> Verdict
+    ensures { code result ≡ list_refusal list.now }
 {
     let few = list.len() <= 2 * MOST_MEMBERS;
     let even = list.len() % 2 == 0;
-    if few && even { 0 } else { 26 }
+    if few && even {
+        Ok(())
+    } else {
+        Err(Reason::BadList)
+    }
 }
 
 // Reads member i of a list with its share of each area. A member that is not inside the buffer, or not in the list, is the empty part, and

@@ -56,7 +56,7 @@ pub fn total_words(
         return 0;
     }
     let x = total(member, dimension, leaf, nodes, cells);
-    answer_words(answer, x);
+    let _ = answer_words(answer, x);
     TOTAL_ANSWER_WORDS
 }
 
@@ -75,6 +75,6 @@ pub fn totals_words(
         return 0;
     }
     let x = totals(member, dimension, rows, nodes, cells);
-    dimension_words(answer, x);
+    let _ = dimension_words(answer, x);
     TOTALS_ANSWER_WORDS
 }
