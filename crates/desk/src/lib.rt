@@ -23,7 +23,8 @@ pub struct Desk<'a, 'b> {
 pub fn filled(area: &[u32], count: usize) -> &[u32]
     ensures { result.now ≡ filled_of area.now count }
 {
-    if count <= area.len() / NODE_WORDS {
+    let records = area.len() / NODE_WORDS;
+    if count <= records {
         let end = NODE_WORDS * count;
         &area[..end]
     } else {

@@ -7,12 +7,12 @@ use Rattle.desk.proofs.filled.Goals as goal
 pub slice_bounds-result-end : goal.slice_bounds-result-end
 slice_bounds-result-end c = sym (length-take-le _ _ (omega arith))
 
-pub returns-then-count-area : goal.returns-then-count-area
-returns-then-count-area c =
+pub returns-then-count-records : goal.returns-then-count-records
+returns-then-count-records c =
     let a = c.args in
     enough a.area.now a.count (omega arith)
 
-pub returns-else-count-area : goal.returns-else-count-area
-returns-else-count-area c =
+pub returns-else-count-records : goal.returns-else-count-records
+returns-else-count-records c =
     let a = c.args in
     too_few a.area.now a.count (omega arith)
