@@ -117,9 +117,9 @@ pub fn string(s: &[u8], st: Step, high: bool, w: usize) -> Step
 
 // Such a string, as a production.
 #[derive(Clone, Copy)]
-struct Text {
-    high: bool,
-    width: usize,
+pub struct Text {
+    pub high: bool,
+    pub width: usize,
 }
 
 impl Production for Text {
