@@ -1,2 +1,3 @@
+mod Exits
 mod Versions
 mod Answered
