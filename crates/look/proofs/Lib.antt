@@ -1,3 +1,4 @@
 mod Exits
+mod Separators
 mod Versions
 mod Answered

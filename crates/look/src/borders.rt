@@ -17,11 +17,11 @@ pub fn separator(s: &[u8], st: Step) -> Read<Separator>
 {
     let drawn = peek(s, st, LITTLE, 1) == 1;
     let st = one_of_two(s, st, 0, 1);
-    let at = fixed_byte(s, st, 0)?;
+    let st = fixed_byte(s, st, 0);
     if !drawn {
-        return Ok((Separator::NotDrawn, at));
+        return Ok((Separator::NotDrawn, st?));
     }
-    let (color, at) = color(s, Ok(at))?;
+    let (color, at) = color(s, st)?;
     let (style, at) = int16(s, Ok(at))?;
     let (width, end) = int16(s, Ok(at))?;
     let value = Separator::Drawn {
