@@ -3,7 +3,9 @@ use Rattle.std.specs.Prelude.{◌≡◌, refl, Bool, true, false, List, [], ◌�
 use Rattle.std.proofs.Common.{sym, ap, ◌∙◌, add-zero, lt_irrefl, sub-one, arith}
 use Rattle.std.proofs.Math.Option.{none, some}
 use Rattle.layout.specs.Step.{Step}
-use Rattle.std.specs.Prelude.{Ok, Err}
+use Rattle.std.specs.Prelude.{Result, Ok, Err}
+use Rattle.refusals.specs.declared.Refusal.{Refusal}
+use Rattle.refusals.specs.Numbers.{by_number}
 use Rattle.sizes.specs.Basics.{pick}
 use Rattle.grammar.specs.Layout.{Order, Test, any_bytes, no_zero, Layout, empty, number, string, Tree, passes, suits, Bytes}
 use Rattle.grammar.specs.Rule.{Rule, plain, numbered}
@@ -14,11 +16,11 @@ use Rattle.layout.specs.Reads.{forget, step, chain, ReadsTo, peek}
 use Rattle.layout.specs.Steps.Chain.{then, forget_map, chain_next}
 use Rattle.layout.specs.Steps.Slices.{drop_bytes}
 use Rattle.store.specs.Fields.{Fields, placed}
-use Rattle.fields.specs.Gives.{ShowsTo, GivesTo, GivesValueTo}
-use Rattle.fields.specs.Laws.Shows.{numbered_of, peeked, shows_of}
+use Rattle.fields.specs.Gives.{ShowsTo, GivesTo, GivesValue}
+use Rattle.fields.specs.Laws.Shows.{numbered_of, peeked, shows_of, refused_shows}
 use Rattle.fields.specs.Laws.Gives.{to_shows}
 use Rattle.look_rules.specs.StyleRule.{◌▹◌, each, asks}
-use Rattle.look_rules.specs.Checks.{ChecksTo, told}
+use Rattle.look_rules.specs.Checks.{ChecksTo, past, told}
 
 -- ---- one after the other
 
@@ -56,8 +58,11 @@ of_reads h = record { is = λ bs. h.is }
 pub gives_reads : {g : Layout} {s : List ℕ} {st r : Step} {f : Fields g} → GivesTo g s st r f → ReadsTo g s st r
 gives_reads h = h.reads
 
-pub value_reads : {A : Type 0} {g : Layout} {s : List ℕ} {st r : Step} {f : Fields g} {v zero : A} → GivesValueTo g s st r f v zero → ReadsTo g s st r
-value_reads h = h.gives.reads
+-- what was read without its value
+pub past_reads : {A : Type 0} {g : Layout} {s : List ℕ} (k : A → Fields g) (st : Result ℕ Refusal) (r : Result (A × ℕ) Refusal) {q : Result ℕ Refusal}
+    → GivesValue g k s st r → q ≡ past r → ReadsTo g s (by_number st) (by_number q)
+past_reads k st (Ok y) h e = rw e h.reads
+past_reads k st (Err x) h e = rw e h
 
 -- ---- that many times
 
@@ -145,7 +150,7 @@ asks_of {g} {n} {test} {s} {st} {q} {r} {b} h i e = record { is = λ bs. e ∙ r
   where
     judged : (b : Bool) (at : ℕ) (t : Tree g) (r₁ : List ℕ) (p : ℕ) → pick b (Ok p) (Err (n, at)) ≡ forget (judge n at (pick b none (some 0)) t r₁ p)
     judged true at t r₁ p = refl
-    judged false at t r₁ p = ap (Refused n) (sym (add-zero at))
+    judged false at t r₁ p = rw (add-zero at)
 
     same : {A : Type 0} (b : Bool) (x : A) → pick b x x ≡ x
     same true x = refl
@@ -165,6 +170,15 @@ asks_of {g} {n} {test} {s} {st} {q} {r} {b} h i e = record { is = λ bs. e ∙ r
         → told st' q b n ≡ chain st' (λ at. forget (check (asks g n test) (drop at s) at))
     go bs (Ok at) i j = reached bs at i (read g (drop at s) at) refl j
     go bs (Err (m, p)) i j = rw j (same b (Err (m, p)))
+
+-- after a refusal, and of what is refused itself
+pub refused_checks : {g : Layout} {u : Rule g} {s : List ℕ} {e : ℕ × ℕ} → ChecksTo u s (Err e) (Err e)
+unfolding chain
+refused_checks = record { is = λ bs. refl }
+
+pub refused_asks : {g : Layout} {n : ℕ} (test : Tree g → Bool) {s : List ℕ} {st : Step} {e : ℕ × ℕ} → ReadsTo g s st (Err e) → ChecksTo (asks g n test) s st (Err e)
+unfolding told pick
+refused_asks {n = n} test h = asks_of {n = n} {test = test} {b = true} {good = true} (refused_shows refl h) refl refl
 
 -- of a number alone, by its value
 pub asks_number : {o : Order} {w : ℕ} {t : Test} (ok : ℕ → Bool) {n : ℕ} {s : List ℕ} {st q r : Step} {v : ℕ} {good : Bool}
@@ -193,4 +207,4 @@ unfolding step
 string_asks {o} {w} h = record { is = λ bs. simp (asks_string o w) h.is }
 
 -- a straight line of calls: `search checks` finds the chain
-pub ruleset checks = (◌⟩◌, of_reads, then, gives_reads, value_reads)
+pub ruleset checks = (◌⟩◌, of_reads, then, gives_reads)
