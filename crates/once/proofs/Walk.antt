@@ -6,25 +6,12 @@ use mathlib.Core.List.{List, [], ◌∷◌}
 use Prim.Native.Nat.{ℕ, zero, suc, ◌+◌, ◌-◌, ◌*◌, ◌<◌}
 use native.Mathlib.Omega.{arith}
 use lib.Dec.{eqb}
-use lib.ListN.{length}
-use Rattle.std.specs.List.{filter, list_any, range_with_len}
+use Rattle.std.specs.List.{list_any, range_with_len}
 use Rattle.sizes.specs.Basics.{among, pick}
 use Rattle.grammar.specs.RecordWords.{word, is_leaf, leaf, leaves, firsts}
 use Rattle.grammar.specs.Once.{fresh, first_bad}
 
 -- ---- nodes
-
--- how many of the nodes are leaves
-by_node : (ws : List ℕ) (i k : ℕ) → length (filter (is_leaf ws) (range_with_len (i + 1) k)) ≡ length (leaves ws (i + 1) k) → (b : Bool) → is_leaf ws i ≡ b
-    → length (filter (is_leaf ws) (range_with_len i (suc k))) ≡ length (leaves ws i (suc k))
-unfolding leaves pick
-by_node ws i k h true e = rw (e, h)
-by_node ws i k h false e = rw (e, h)
-
-pub leaves_counted : (ws : List ℕ) (i k : ℕ) → length (filter (is_leaf ws) (range_with_len i k)) ≡ length (leaves ws i k)
-unfolding leaves
-leaves_counted ws i zero = refl
-leaves_counted ws i (suc k) = by_node ws i k (leaves_counted ws (i + 1) k) (is_leaf ws i) refl
 
 -- the nodes from node i to before node e
 module _ (ws : List ℕ) (i e : ℕ) (h : i < e) where

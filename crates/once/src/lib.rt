@@ -55,12 +55,19 @@ fn index_place(nodes: &[u32], i: usize) -> usize
     word(nodes, at + NAME_PLACE) as usize + word(nodes, at + NAME_LENGTH) as usize + NAME_TO_INDEX
 }
 
-// How many leaves there are among the k nodes from the first on.
+// How many leaves there are among the k nodes from the first on. With `filter` and `count` the test of 4,096 leaves that are out of order
+// takes an eighth longer.
 fn count_leaves(nodes: &[u32], first: usize, k: usize) -> usize
     requires { (first ≤ most_nodes) × (k ≤ most_nodes) }
     ensures { result ≡ length (spec.leaves nodes.now first k) }
 {
-    (first..first + k).filter(|i| is_leaf(nodes, *i)).count()
+    let mut n = 0;
+    for i in first..first + k {
+        if is_leaf(nodes, i) {
+            n += 1;
+        }
+    }
+    n
 }
 
 // How many leaves there are among the k nodes from the first on, if their indexes are 0, 1, 2 and so on: then they are as they must be, and
