@@ -1,9 +1,8 @@
 -- The lists of a step that has room for so many bytes are taken where any with room for them are.
-use Rattle.std.specs.Prelude.{◌≡◌, true, List, ℕ, length}
+use Rattle.std.specs.Prelude.{◌≡◌, true, ℕ}
 use Rattle.std.proofs.Common.{arith}
 use Rattle.std.specs.Fn.{Mut}
 use borrow.Author.Tests.{leb-true}
-use denote.Ref.{MutBor}
 use Rattle.std.specs.Prelude.{leb}
 use Rattle.sizes.specs.Sizes.{node_area, cell_area}
 use Rattle.table.specs.Laws.Within.{needed}

@@ -106,25 +106,14 @@ fn not_read(refusal: Refusal) -> Answer
 // Reads a member from its dimensions on, into two lists that are long enough for its records. The answer is made here, and
 // no Result with one is handed on: each would have a place of its own on the stack of a small member. `Opened` is data and no proposition, so
 // it is a clause, and no ghost field of a struct of the member and the place.
-fn read_body(
-    member: Member,
-    at: usize,
-    node_list: &mut [u32],
-    cell_list: &mut [u32],
-) -> Answer
+fn read_body(member: Member, at: usize, node_list: &mut [u32], cell_list: &mut [u32]) -> Answer
     requires { LongEnough member.bytes.now at (length node_list.old) (length cell_list.old) × Opened member.bytes.now member.version at }
     ensures { Stored node_list.old cell_list.old (checked member.entry.bytes.now) result node_list.new cell_list.new }
 {
     let mut dims = [0u32; DIMENSION_AREA];
     match dimensions(member.bytes, at, node_list, &mut dims, member.version) {
         Err(refusal) => not_read(refusal),
-        Ok(section) => match after_dims(
-            member,
-            section.end,
-            section.dimensions,
-            &dims,
-            cell_list,
-        ) {
+        Ok(section) => match after_dims(member, section.end, section.dimensions, &dims, cell_list) {
             Err(refusal) => not_read(refusal),
             Ok((axes, n)) => {
                 let order = axes.order;

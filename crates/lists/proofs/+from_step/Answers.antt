@@ -1,8 +1,7 @@
-use Rattle.std.proofs.Common.{◌≡◌, ◌<◌, ℕ, true, arith, sym, ◌∙◌}
+use Rattle.std.proofs.Common.{◌<◌, arith, sym, ◌∙◌}
 use Rattle.lists.specs.Lists.{smallest_lists, small_lists, medium_lists, large_lists, larger_lists, largest_lists, has_room}
 use Rattle.lists.specs.Laws.{not_last}
-use Rattle.lists.specs.Lent.{RoomFor}
-use Rattle.lists.proofs.Rooms.{room_for, room_always, takes_in, lent_in}
+use Rattle.lists.proofs.Rooms.{room_for, takes_in, lent_in}
 use Rattle.lists.proofs.+from_step.Goals as goal
 
 pub lend-requires-clause-takes : goal.lend-requires-clause-takes
