@@ -4,6 +4,7 @@
 use Rattle.std.specs.Prelude.{List, [], ◌∷◌, ◌++◌, ℕ, ◌+◌, ◌*◌, ◌/◌, ◌%◌, ◌^◌, min, drop, get_or}
 use Rattle.layout.specs.Words.{word32}
 use Rattle.case_state.specs.declared.Cursor.{Cursor}
+use Rattle.case_state.specs.Phases.{number}
 use Rattle.case_state.specs.declared.State.{State}
 use Rattle.cases.specs.Steps.{firsts}
 
@@ -15,7 +16,7 @@ abbrev pub first_kind : ℕ
 first_kind = 12
 
 unfoldable pub head_words : ℕ → ℕ → Cursor → List ℕ
-head_words count bias c = word32 count ∷ bias ∷ word32 c.at ∷ c.taken ∷ c.phase ∷ c.place ∷ c.codes % 2 ^ 32 ∷ c.codes / 2 ^ 32
+head_words count bias c = word32 count ∷ bias ∷ word32 c.at ∷ c.taken ∷ number c.phase ∷ c.place ∷ c.codes % 2 ^ 32 ∷ c.codes / 2 ^ 32
     ∷ word32 c.left ∷ c.block % 2 ^ 32 ∷ c.block / 2 ^ 32 ∷ word32 c.filled ∷ []
 
 unfoldable pub state_words_of : State → List ℕ
