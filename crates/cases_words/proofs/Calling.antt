@@ -11,7 +11,7 @@ use Rattle.std.specs.Prelude.{Ok, Err}
 use Rattle.sizes.specs.Basics.{pick}
 use Rattle.layout.specs.Words.{word32}
 use Rattle.layout.specs.Laws.Words.{word_same}
-use Rattle.store.specs.Puts.{PutsWords}
+use Rattle.store.specs.Puts.{PutsWordsTo}
 use Rattle.store.specs.Laws.Puts.{with_room}
 use Rattle.cases.specs.declared.Started.{Started as Beginning}
 use Rattle.cases.specs.declared.Answer.{Answer}
@@ -30,14 +30,14 @@ unfolding roomy
 answer_room s a n t = (both _ _ t).1
 
 -- words at the front of an area that is long enough
-pub at_front : (n : ℕ) (xs b : List ℕ) {b' : List ℕ} {r : Step} → length xs ≡ n → leb n (length b) ≡ true → PutsWords xs b (Ok 0) b' r → b' ≡ xs ++ drop n b
+pub at_front : (n : ℕ) (xs b : List ℕ) {b' : List ℕ} {r : Step} → length xs ≡ n → leb n (length b) ≡ true → PutsWordsTo xs b (Ok 0) b' r → b' ≡ xs ++ drop n b
 unfolding pick
 at_front n xs b e t x = rw t at (with_room n xs b e t x).1
 
 module _ (kinds : List ℕ) (bias : ℕ) (state answer : List ℕ) where
   pub started : (s : Beginning) {state' answer' : List ℕ} {r : Step} → roomy (length state) (length answer) short_answer ≡ true → s ≡ start_of kinds bias
       → state' ≡ pick (eqb s.answer.refusal 0) (state_words_of s.state ++ drop state_words state) state
-      → PutsWords (answer_words_of s.answer) answer (Ok 0) answer' r → Started kinds bias state answer short_answer state' answer'
+      → PutsWordsTo (answer_words_of s.answer) answer (Ok 0) answer' r → Started kinds bias state answer short_answer state' answer'
   unfolding pick
   started s t e k x =
       record {
@@ -53,7 +53,7 @@ module _ (kinds : List ℕ) (bias : ℕ) (state answer : List ℕ) where
 module _ (state input output answer : List ℕ) where
   pub fed : (c : Call) {state' output' answer' : List ℕ} {r : Step} → roomy (length state) (length answer) call_answer ≡ true → Called (state_of state) input output output' c
       → state' ≡ pick (not (eqb c.answer.refusal 21)) (state_words_of c.state ++ drop state_words state) state
-      → PutsWords (c.answer.refusal ∷ c.answer.place ∷ word32 c.taken ∷ word32 c.written ∷ []) answer (Ok 0) answer' r
+      → PutsWordsTo (c.answer.refusal ∷ c.answer.place ∷ word32 c.taken ∷ word32 c.written ∷ []) answer (Ok 0) answer' r
       → Fed state input output answer call_answer state' output' answer'
   unfolding pick
   fed c t f k x =
@@ -73,7 +73,7 @@ module _ (state input output answer : List ℕ) where
 
 module _ (state answer : List ℕ) where
   pub ended : (a : Answer) {answer' : List ℕ} {r : Step} → roomy (length state) (length answer) short_answer ≡ true → a ≡ finish_of (state_of state)
-      → PutsWords (answer_words_of a) answer (Ok 0) answer' r → Ended state answer short_answer answer'
+      → PutsWordsTo (answer_words_of a) answer (Ok 0) answer' r → Ended state answer short_answer answer'
   unfolding pick
   ended a t e x =
       record {

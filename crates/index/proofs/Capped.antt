@@ -1,7 +1,7 @@
 -- Products as far as a limit.
-use mathlib.Core.Path.{◌≡◌, refl, ◌∙◌}
+use mathlib.Core.Path.{◌≡◌, refl, sym, ◌∙◌}
 use mathlib.Core.Bool.{Bool, true, false}
-use mathlib.Core.List.{List, ◌∷◌}
+use mathlib.Core.List.{List, [], ◌∷◌}
 use Prim.Native.Nat.{ℕ, zero, suc, ◌*◌, ◌≤◌, min}
 use native.Mathlib.Nat.{min-eq_left, min-eq_right, mul-zero, mul-one, mul_assoc, mul-le-mul_left, mul-le-mul_right}
 use native.Mathlib.Omega.{arith}
@@ -30,3 +30,8 @@ pub more : (l p : ℕ) {q w n r : ℕ} {ns rest : List ℕ} → q ≡ min (p * w
 unfolding product
 more l p {q} {w} {n} {r} {ns} {rest} e e' s i =
     rw (e, e') (capped l (p * n) (product rest) ∙ rw (mul_assoc p n (product rest)) (rw s at i))
+
+-- none is left
+pub no_more : (l p : ℕ) {r : ℕ} {ns : List ℕ} → ns ≡ [] → p ≤ l → min (p * product ns) l ≡ r → p ≡ r
+unfolding product
+no_more l p e h i = sym (min-eq_left h) ∙ (rw (e, mul-one p) at i)

@@ -1,2 +1,2 @@
-mod Capped
+pub mod Capped
 mod Walk

@@ -9,7 +9,7 @@ use Rattle.grammar.specs.Layout.{little, a_version, Layout, empty, number, ◌�
 use Rattle.layout.specs.Reads.{ReadsTo, peek}
 use Rattle.layout.specs.Steps.Chain.{empty_of}
 use Rattle.store.specs.Fields.{Fields, placed}
-use Rattle.fields.specs.Gives.{Shows, Gives}
+use Rattle.fields.specs.Gives.{ShowsTo, GivesTo}
 use Rattle.fields.specs.Laws.Gives.{to_shows}
 use Rattle.fields.specs.Laws.Shows.{◌&◌, shows_of, shows_at, peeked, switch_shows}
 use Rattle.look.specs.declared.V2Styles.{V2Styles}
@@ -17,13 +17,13 @@ use Rattle.look.specs.Look as grammar
 use Rattle.look.specs.Values as values
 use Rattle.look.specs.Answers.{defaults, v2_data, look_of}
 
-pub with_v2 : (b : Bool) {s : List ℕ} {st r : Step} (x : V2Styles) → b ≡ true → Gives grammar.V2Styles s st r (values.v2_styles x)
-    → Shows (grammar.V2StylesIf b) (λ t at. v2_data b (placed (grammar.V2StylesIf b) t at)) s st r (values.v2_styles x)
+pub with_v2 : (b : Bool) {s : List ℕ} {st r : Step} (x : V2Styles) → b ≡ true → GivesTo grammar.V2Styles s st r (values.v2_styles x)
+    → ShowsTo (grammar.V2StylesIf b) (λ t at. v2_data b (placed (grammar.V2StylesIf b) t at)) s st r (values.v2_styles x)
 with_v2 true x e h = to_shows h
 with_v2 false x e h = absurd (false≢true e)
 
 pub without_v2 : (b : Bool) {s : List ℕ} {st : Step} (x : V2Styles) → b ≡ false → x ≡ defaults
-    → Shows (grammar.V2StylesIf b) (λ t at. v2_data b (placed (grammar.V2StylesIf b) t at)) s st st (values.v2_styles x)
+    → ShowsTo (grammar.V2StylesIf b) (λ t at. v2_data b (placed (grammar.V2StylesIf b) t at)) s st st (values.v2_styles x)
 without_v2 true x e h = absurd (false≢true (sym e))
 without_v2 false x e h = shows_at (λ _. values.v2_styles defaults) empty_of (λ at i. rw h)
 
@@ -41,10 +41,10 @@ after_said version t at =
     (2, (f.0, (f.1.0, v2_data (eqb version 2) f.1.1)))
 
 pub look_shows : (v : ℕ) {s : List ℕ} {st q₁ q₂ q₃ q₄ r : Step} {a : Fields (grammar.section grammar.PTTable_look_name)} {b : Fields grammar.settings} {c : Fields three} {d : Fields grammar.V2Styles}
-    → Gives (grammar.section grammar.PTTable_look_name) s st q₁ a → v ≡ peek little 1 s q₁ → ReadsTo (number little 1 (a_version (0 ∷ 2 ∷ [])) (λ _. empty)) s q₁ q₂
-    → Gives grammar.settings s q₂ q₃ b → Gives three s q₃ q₄ c
-    → Shows (grammar.V2StylesIf (eqb v 2)) (λ t at. v2_data (eqb v 2) (placed (grammar.V2StylesIf (eqb v 2)) t at)) s q₄ r d
-    → Shows grammar.TableLook (λ t at. look_of (placed grammar.TableLook t at)) s st r (a, (2, (b, (c, d))))
+    → GivesTo (grammar.section grammar.PTTable_look_name) s st q₁ a → v ≡ peek little 1 s q₁ → ReadsTo (number little 1 (a_version (0 ∷ 2 ∷ [])) (λ _. empty)) s q₁ q₂
+    → GivesTo grammar.settings s q₂ q₃ b → GivesTo three s q₃ q₄ c
+    → ShowsTo (grammar.V2StylesIf (eqb v 2)) (λ t at. v2_data (eqb v 2) (placed (grammar.V2StylesIf (eqb v 2)) t at)) s q₄ r d
+    → ShowsTo grammar.TableLook (λ t at. look_of (placed grammar.TableLook t at)) s st r (a, (2, (b, (c, d))))
 unfolding placed
 look_shows v {s = s} {b = b} {c = c} {d = d} x e h y z w =
     shows_of (λ f. f) (λ t at. refl)

@@ -14,8 +14,8 @@ use Rattle.layout.specs.Reads.{forget, chain}
 use Rattle.store.specs.Written.{Written}
 use Rattle.store.specs.Check.{place_of, check}
 use Rattle.store.specs.Fields.{bytes_in}
-use Rattle.store.specs.Puts.{Puts}
-use Rattle.store.specs.Deliver.{output, answer, Delivers}
+use Rattle.store.specs.Puts.{PutsTo}
+use Rattle.store.specs.Deliver.{output, answer, DeliversTo}
 use Rattle.store.specs.Laws.Deliver.{delivered_answer, delivered_output}
 use Rattle.look.specs.declared.Look.{Look}
 use Rattle.look.specs.Read.{Answer}
@@ -34,7 +34,7 @@ use Rattle.look_sections.specs.Writing.{sections, sectioning, Stored, Wrote}
 use Rattle.look_sections.specs.Laws.Names.{all_named, names_short}
 
 pub stored : (x : Styles) (v : Written) {s b b' out out' : List ℕ} {r : Step} → Each Short x.areas → length b ≡ longest_sections
-    → Puts Sections s (fields x) b (Ok 0) b' r → Delivers b' r out (answer v) out' → Stored x s out v out'
+    → PutsTo Sections s (fields x) b (Ok 0) b' r → DeliversTo b' r out (answer v) out' → Stored x s out v out'
 stored x v {s} {b} short long put gives =
     let f = fields x in
     let room : place_of (check Sections s f 0) ≤ length b = rw long (omega (arith, sections_most s x short 0)) in

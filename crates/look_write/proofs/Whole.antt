@@ -10,8 +10,8 @@ use Rattle.grammar.specs.Layout.{Bytes}
 use Rattle.store.specs.Written.{Written}
 use Rattle.store.specs.Check.{place_of, check}
 use Rattle.store.specs.Fields.{bytes_in}
-use Rattle.store.specs.Puts.{Puts}
-use Rattle.store.specs.Deliver.{answer, Delivers}
+use Rattle.store.specs.Puts.{PutsTo}
+use Rattle.store.specs.Deliver.{answer, DeliversTo}
 use Rattle.store.specs.Laws.Deliver.{delivered_answer, delivered_output}
 use Rattle.look.specs.declared.Look.{Look}
 use Rattle.look.specs.Look.{TableLook02}
@@ -20,7 +20,7 @@ use Rattle.look.specs.Laws.Bounds.{look_most}
 use Rattle.look_write.specs.Writing.{file, writing, Wrote}
 
 pub wrote : (x : Look) (v : Written) {s b b' out out' : List ℕ} {r : Step} → length b ≡ longest_look → Bytes s
-    → Puts TableLook02 s (values.fields x) b (Ok 0) b' r → Delivers b' r out (answer v) out' → Wrote x s out v out'
+    → PutsTo TableLook02 s (values.fields x) b (Ok 0) b' r → DeliversTo b' r out (answer v) out' → Wrote x s out v out'
 unfolding writing file bytes_in
 wrote x v {s} {b} long bs put gives =
     let f = values.fields x in

@@ -16,13 +16,13 @@ use Rattle.answer.specs.declared.Answer.{Answer}
 use Rattle.grammar.specs.Laws.Member.Checked.{checked}
 use Rattle.answer.specs.Answer.{answer_of, Delivered}
 use Rattle.answer.specs.Demand3.{Demand3}
-use Rattle.store.specs.Puts.{PutsWords}
+use Rattle.store.specs.Puts.{PutsWordsTo}
 use Rattle.store.specs.Laws.Puts.{with_room, without_room}
 use Rattle.member_words.specs.MemberWords.{answer_words_of, MemberRead}
 
 module _ (member answer nodes cells : List ℕ) where
   pub with_answer : (a : Answer) {answer' nodes' cells' : List ℕ} {r : Step} → leb answer_words (length answer) ≡ true → Delivered (checked member) nodes cells a nodes' cells'
-      → Demand3 member nodes cells a nodes' cells' → PutsWords (answer_words_of (word32 a.place) a) answer (Ok 0) answer' r → length (answer_words_of (word32 a.place) a) ≡ answer_words
+      → Demand3 member nodes cells a nodes' cells' → PutsWordsTo (answer_words_of (word32 a.place) a) answer (Ok 0) answer' r → length (answer_words_of (word32 a.place) a) ≡ answer_words
       → MemberRead member answer nodes cells answer_words answer' nodes' cells'
   unfolding pick
   with_answer a t d m x l =

@@ -15,7 +15,7 @@ use Rattle.sizes.specs.Basics.{pick}
 use Rattle.layout.specs.Words.{word32}
 use Rattle.layout.specs.Laws.Words.{word_same}
 use Rattle.answer.specs.declared.Answer.{Answer}
-use Rattle.store.specs.Puts.{PutsWords}
+use Rattle.store.specs.Puts.{PutsWordsTo}
 use Rattle.store.specs.Laws.Puts.{with_room}
 use Rattle.members.specs.Members.{members, list_refusal, member_at, share_of, with_share, InShare, joined, cut, nodes_then, cells_then}
 use Rattle.members.specs.Laws.Reading.{list_short}
@@ -25,7 +25,7 @@ use Rattle.members_words.specs.Members.{call_words, words_at, call_answer_of, Me
 use Rattle.members_words.specs.Laws.MembersRead.{OneRead, AllRead}
 
 -- words that fill a part
-filled : (n : ℕ) (xs b : List ℕ) {b' : List ℕ} {r : Step} → length xs ≡ n → length b ≡ n → PutsWords xs b (Ok 0) b' r → b' ≡ xs
+filled : (n : ℕ) (xs b : List ℕ) {b' : List ℕ} {r : Step} → length xs ≡ n → length b ≡ n → PutsWordsTo xs b (Ok 0) b' r → b' ≡ xs
 unfolding pick
 filled n xs b e l x =
     let t : leb n (length b) ≡ true = le-leb n (length b) (omega arith) in
@@ -34,7 +34,7 @@ filled n xs b e l x =
 
 pub one_read : (buffer list : List ℕ) (i : ℕ) (answers nodes cells : List ℕ) {a b : ℕ} → a ≡ answer_words * i → b ≡ answer_words * i + answer_words
     → answer_words * i + answer_words ≤ length answers → (x : Answer) {nodes' cells' : List ℕ} → InShare (member_at buffer list i) (members list) i nodes cells x nodes' cells'
-    → {part : List ℕ} {r : Step} → PutsWords (answer_words_of (word32 x.place) x) (take (b - a) (drop a answers)) (Ok 0) part r
+    → {part : List ℕ} {r : Step} → PutsWordsTo (answer_words_of (word32 x.place) x) (take (b - a) (drop a answers)) (Ok 0) part r
     → length (answer_words_of (word32 x.place) x) ≡ answer_words
     → OneRead buffer list i answers nodes cells (take a answers ++ (part ++ drop (b - a) (drop a answers))) nodes' cells'
 one_read buffer list i answers nodes cells pa pb h x s {part} w l =
@@ -53,7 +53,7 @@ module _ (buffer list answers nodes cells : List ℕ) where
   words = members_answer_words + answer_words * n
 
   -- the words of the list's own answer, and after them the area that its members' words go to
-  begins : (x : ℕ) {answers₁ : List ℕ} {r : Step} → members_answer_words ≤ length answers → PutsWords (x ∷ 0 ∷ []) answers (Ok 0) answers₁ r
+  begins : (x : ℕ) {answers₁ : List ℕ} {r : Step} → members_answer_words ≤ length answers → PutsWordsTo (x ∷ 0 ∷ []) answers (Ok 0) answers₁ r
       → answers₁ ≡ x ∷ 0 ∷ drop members_answer_words answers
   unfolding pick
   begins x l p =
@@ -69,7 +69,7 @@ module _ (buffer list answers nodes cells : List ℕ) where
     words_below = omega (arith, list_short list not_refused)
 
     -- every member is read
-    pub members_read : leb words (length answers) ≡ true → {answers₁ : List ℕ} {q : Step} → PutsWords (0 ∷ 0 ∷ []) answers (Ok 0) answers₁ q
+    pub members_read : leb words (length answers) ≡ true → {answers₁ : List ℕ} {q : Step} → PutsWordsTo (0 ∷ 0 ∷ []) answers (Ok 0) answers₁ q
         → {part nodes' cells' : List ℕ} → AllRead buffer list (take (length answers₁ - members_answer_words) (drop members_answer_words answers₁)) nodes cells part nodes' cells'
         → MembersRead buffer list answers nodes cells words
         (take members_answer_words answers₁ ++ (part ++ drop (length answers₁ - members_answer_words) (drop members_answer_words answers₁))) nodes' cells'
@@ -114,7 +114,7 @@ module _ (buffer list answers nodes cells : List ℕ) where
     none_read : {A : Type 0} → list_refusal list ≡ 0 → A
     none_read e = let h = rw (is, e) at z in let one : ◌≡◌ {A = ℕ} 0 1 = cc in absurd (omega arith)
 
-    pub list_refused : leb members_answer_words (length answers) ≡ true → {answers' : List ℕ} {q : Step} → PutsWords (r ∷ 0 ∷ []) answers (Ok 0) answers' q
+    pub list_refused : leb members_answer_words (length answers) ≡ true → {answers' : List ℕ} {q : Step} → PutsWordsTo (r ∷ 0 ∷ []) answers (Ok 0) answers' q
         → MembersRead buffer list answers nodes cells members_answer_words answers' nodes cells
     unfolding pick call_words call_answer_of nodes_then cells_then
     list_refused t p =

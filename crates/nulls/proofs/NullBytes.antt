@@ -2,11 +2,11 @@
 use mathlib.Core.Path.{◌≡◌, refl, sym, ap, ◌∙◌}
 use mathlib.Core.Bool.{Bool, true, false, ◌||◌, or-false, or_assoc}
 use mathlib.Core.List.{List, [], ◌∷◌, ◌++◌}
-use Prim.Native.Nat.{ℕ, suc, ◌+◌, ◌-◌, ◌*◌, ◌/◌, ◌≤◌, ◌<◌}
+use Prim.Native.Nat.{ℕ, suc, ◌+◌, ◌-◌, ◌*◌, ◌/◌, ◌%◌, ◌≤◌, ◌<◌}
 use native.Mathlib.Numerals.{add-one}
 use native.Mathlib.Omega.{arith}
-use lib.ListN.{length, take, drop, get_or, drop_of_length-le, take-append-drop, length-drop}
-use lib.Seq.{take_all, drop-cons, drop-drop, take-add}
+use lib.ListN.{length, take, drop, get_or, drop_of_length-le, take-append-drop, length-drop, length-append}
+use lib.Seq.{take_all, drop-cons, drop-drop, drop-append-add, take-add}
 use lib.Dec.{eqb}
 use Rattle.sizes.specs.Basics.{among}
 
@@ -48,13 +48,26 @@ rest s i = take_all (length s - i) (drop i s) (rw (length-drop i s) (omega arith
 pub among_rest : (s : List ℕ) (i : ℕ) → (among 0 (take i s) || among 0 (take (length s - i) (drop i s))) ≡ among 0 s
 among_rest s i = rw (rest s i) (among_split i s)
 
--- as far as j
-pub null_further : (s : List ℕ) (i j : ℕ) (found : Bool) → i ≤ j → NullFrom s i found → NullFrom s j (found || among 0 (take (j - i) (drop i s)))
-null_further s i j found h e =
-    let further : i + (j - i) ≡ j = omega arith in
-    let left : (among 0 (take (j - i) (drop i s)) || among 0 (drop j s)) ≡ among 0 (drop i s) =
-    rw (sym (ap (λ n. drop n s) further), sym (drop-drop (j - i) i s)) (among_split (j - i) (drop i s)) in
-    or_assoc found (among 0 (take (j - i) (drop i s))) (among 0 (drop j s)) ∙ ap (λ b. found || b) left ∙ e
+-- ---- blocks
+
+-- what whole blocks of 16 bytes leave
+abbrev pub after_blocks : List ℕ → List ℕ
+after_blocks s = drop (length s - length s % 16) s
+
+-- one was found, or stands in what is left
+abbrev pub NullLeft : List ℕ → List ℕ → Bool → Type 0
+NullLeft s left found = (found || among 0 left) ≡ among 0 s
+
+pub after_block : (b s : List ℕ) → length b ≡ 16 → after_blocks (b ++ s) ≡ after_blocks s
+after_block b s h =
+    let e : length (b ++ s) - length (b ++ s) % 16 ≡ length b + (length s - length s % 16) = rw (length-append b s) (omega arith) in
+    rw (e, drop-append-add b s) refl
+
+pub after_all : (s : List ℕ) → length s < 16 → after_blocks s ≡ s
+after_all s h = let e : length s - length s % 16 ≡ 0 = omega arith in rw e refl
+
+pub null_block : (s b left : List ℕ) (found : Bool) → NullLeft s (b ++ left) found → NullLeft s left (found || among 0 b)
+null_block s b left found e = or_assoc found (among 0 b) (among 0 left) ∙ rw (among_append b left) at e
 
 -- what stands in both parts counts once
 both : (x m d : Bool) → ((x || m) || (m || d)) ≡ ((x || m) || d)

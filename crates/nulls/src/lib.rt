@@ -2,7 +2,7 @@
 // compiler knows, so it turns each into one vector instruction.
 #![tactic(auto)]
 
-ghost use Rattle.std.specs.Prelude.{◌≡◌, ◌||◌, ◌≤◌, ◌*◌, length, eqb};
+ghost use Rattle.std.specs.Prelude.{◌≡◌, ◌≤◌, ◌*◌, length};
 ghost use Rattle.sizes.specs.Basics.{among};
 
 // The bytes that are looked through at a time in a long part.
@@ -11,29 +11,15 @@ const BLOCK: usize = 16;
 // A longer part is halved.
 const LONG: usize = 4096;
 
-fn or_null(found: bool, b: u8) -> bool
-    ensures { result ≡ (found || eqb 0 b) }
-{
-    if found { true } else { 0 == b }
-}
-
 // All are looked at, with no way out of the loop: so the compiler turns it into vector instructions.
 fn any_null(s: &[u8]) -> bool
     ensures { result ≡ among 0 s.now }
 {
     let mut found = false;
-    let mut i = 0;
-    while i < s.len() {
-        found = or_null(found, s[i]);
-        i += 1;
+    for b in s {
+        found |= 0 == *b;
     }
     found
-}
-
-fn or_else(a: bool, b: bool) -> bool
-    ensures { result ≡ (a || b) }
-{
-    if a { true } else { b }
 }
 
 // The first k bytes and the last k are all there are.
@@ -42,9 +28,7 @@ fn null_at_ends(s: &[u8], k: usize) -> bool
     ensures { result ≡ among 0 s.now }
 {
     let last = s.len() - k;
-    let front = any_null(&s[..k]);
-    let back = any_null(&s[last..]);
-    or_else(front, back)
+    any_null(&s[..k]) | any_null(&s[last..])
 }
 
 fn null_in_short(s: &[u8]) -> bool
@@ -64,13 +48,12 @@ fn null_in_blocks(s: &[u8]) -> bool
     ensures { result ≡ among 0 s.now }
 {
     let mut found = false;
-    let mut at = 0;
-    while BLOCK <= s.len() - at {
-        let next = at + BLOCK;
-        found = or_else(found, any_null(&s[at..next]));
-        at = next;
+    let blocks = s.chunks_exact(BLOCK);
+    let rest = blocks.remainder();
+    for block in blocks {
+        found |= any_null(block);
     }
-    or_else(found, null_in_short(&s[at..]))
+    found | null_in_short(rest)
 }
 
 // By halves, down to parts that are not long. A function that calls itself is not put into those that call it: so the readers of strings
@@ -82,16 +65,14 @@ fn null_in_halves(s: &[u8]) -> bool
         return null_in_blocks(s);
     }
     let half = s.len() / 2;
-    let front = null_in_halves(&s[..half]);
-    let back = null_in_halves(&s[half..]);
-    or_else(front, back)
+    null_in_halves(&s[..half]) | null_in_halves(&s[half..])
 }
 
 // One of the bytes is 0. Many strings are empty.
 pub fn has_null(s: &[u8]) -> bool
     ensures { result ≡ among 0 s.now }
 {
-    if s.len() == 0 {
+    if s.is_empty() {
         false
     } else if s.len() < BLOCK {
         null_in_short(s)

@@ -1,69 +1,77 @@
 -- The walk over the nodes: what it has still to find, after the leaf indexes seen so far; and records one at a time.
-use mathlib.Core.Path.{◌≡◌, sym, ◌∙◌}
-use mathlib.Core.Bool.{Bool, true, false}
+use mathlib.Core.Path.{◌≡◌, refl, sym, ◌∙◌}
+use mathlib.Core.Bool.{Bool, true, false, ◌||◌}
 use mathlib.Core.Option.{none, some}
 use mathlib.Core.List.{List, [], ◌∷◌}
 use Prim.Native.Nat.{ℕ, zero, suc, ◌+◌, ◌-◌, ◌*◌, ◌<◌}
-use native.Mathlib.Numerals.{sub-one}
 use native.Mathlib.Omega.{arith}
-use borrow.Author.Tests.{eq-eqb, ne_eqb}
-use Rattle.sizes.specs.Sizes.{node_words}
+use lib.Dec.{eqb}
+use Rattle.std.specs.List.{list_any, range_with_len}
 use Rattle.sizes.specs.Basics.{among, pick}
 use Rattle.grammar.specs.RecordWords.{word, is_leaf, leaf, leaves, firsts}
 use Rattle.grammar.specs.Once.{fresh, first_bad}
 
-module _ (ws : List ℕ) (i : ℕ) where
-  pub at_leaf : (k : ℕ) → 0 < k → word ws (node_words * i) ≡ 0 → leaves ws i k ≡ leaf ws i ∷ leaves ws (i + 1) (k - 1)
-  unfolding leaves is_leaf pick
-  at_leaf zero h e = absurd (omega arith)
-  at_leaf (suc k) h e = rw (eq-eqb (word ws (node_words * i)) 0 e, sub-one)
+-- ---- nodes
 
-  pub at_group : (k : ℕ) → 0 < k → (word ws (node_words * i) ≡ 0 → ⊥) → leaves ws i k ≡ leaves ws (i + 1) (k - 1)
-  unfolding leaves is_leaf pick
-  at_group zero h n = absurd (omega arith)
-  at_group (suc k) h n = rw (ne_eqb (word ws (node_words * i)) 0 n, sub-one)
+-- the nodes from node i to before node e
+module _ (ws : List ℕ) (i e : ℕ) (h : i < e) where
+  one_left : e - i ≡ suc (e - (i + 1))
+  one_left = omega arith
 
-pub at_first : (step : ℕ) (ws : List ℕ) (k : ℕ) → 0 < k → firsts step ws k ≡ word ws (step * (k - 1)) ∷ firsts step ws (k - 1)
-unfolding firsts
-at_first step ws zero h = absurd (omega arith)
-at_first step ws (suc k) h = rw sub-one
+  pub at_leaf : is_leaf ws i ≡ true → leaves ws i (e - i) ≡ leaf ws i ∷ leaves ws (i + 1) (e - (i + 1))
+  unfolding leaves pick
+  at_leaf l = rw (one_left, l)
 
--- a search for x in a list of which y comes first, where b is what the whole search has to find
-pub found : {x y : ℕ} {l rest : List ℕ} {b : Bool} → among x l ≡ b → l ≡ y ∷ rest → y ≡ x → true ≡ b
-unfolding among
-found {x} {y} {l} {rest} {b} i e h = rw (e, eq-eqb x y (sym h)) at i
+  pub at_group : is_leaf ws i ≡ false → leaves ws i (e - i) ≡ leaves ws (i + 1) (e - (i + 1))
+  unfolding leaves pick
+  at_group g = rw (one_left, g)
 
-pub passed : {x y : ℕ} {l rest : List ℕ} {b : Bool} → among x l ≡ b → l ≡ y ∷ rest → (y ≡ x → ⊥) → among x rest ≡ b
-unfolding among
-passed {x} {y} {l} {rest} {b} i e n = rw (e, ne_eqb x y (λ h. n (sym h))) at i
+-- ---- records one at a time
+
+or_swap : (a b c : Bool) → (a || (b || c)) ≡ (b || (a || c))
+or_swap true true c = refl
+or_swap true false c = refl
+or_swap false b c = refl
+
+one_more : (test : ℕ → Bool) (a n : ℕ) → list_any test (range_with_len a (suc n)) ≡ (test (a + n) || list_any test (range_with_len a n))
+one_more test a zero = grind arith
+one_more test a (suc n) = let e : a + 1 + n ≡ a + suc n = omega arith in rw (one_more test (a + 1) n, e) (or_swap (test a) _ _)
+
+-- a search for x from the first record on finds what one from the last on does
+pub among_firsts : (step : ℕ) (ws : List ℕ) (x n : ℕ) → list_any (λ i. eqb x (word ws (step * i))) (range_with_len 0 n) ≡ among x (firsts step ws n)
+unfolding firsts among
+among_firsts step ws x zero = refl
+among_firsts step ws x (suc n) =
+    let z : 0 + n ≡ n = omega arith in
+    rw (one_more (λ i. eqb x (word ws (step * i))) 0 n, z, among_firsts step ws x n)
 
 -- ---- what the code knows of the leaf indexes seen so far, and that what is left has the answer of the whole
 
-pub record Walking (Known : List ℕ → Type 0) (ws : List ℕ) (n first k i left : ℕ) : Type 0 where
+pub record Walking (Known : List ℕ → Type 0) (ws : List ℕ) (n first k i e : ℕ) : Type 0 where
   pub seen : List ℕ
   pub known : Known seen
-  pub same : first_bad n seen (leaves ws i left) ≡ first_bad n [] (leaves ws first k)
+  pub same : first_bad n seen (leaves ws i (e - i)) ≡ first_bad n [] (leaves ws first k)
 
 module _ {Known : List ℕ → Type 0} {ws : List ℕ} {n first k : ℕ} where
-  pub at_start : {i left : ℕ} → Known [] → i ≡ first → left ≡ k → Walking Known ws n first k i left
-  at_start h e e' = record { seen = []; known = h; same = rw (e, e') }
+  pub at_start : Known [] → Walking Known ws n first k first (first + k)
+  at_start h = let z : first + k - first ≡ k = omega arith in record { seen = []; known = h; same = rw z }
 
-  module _ {i left : ℕ} (w : Walking Known ws n first k i left) where
-    pub at_end : left ≡ 0 → first_bad n [] (leaves ws first k) ≡ none
+  module _ {i e : ℕ} (w : Walking Known ws n first k i e) where
+    pub at_end : e ≡ i → first_bad n [] (leaves ws first k) ≡ none
     unfolding leaves first_bad
-    at_end z = sym w.same ∙ rw z
+    at_end z = let none_left : e - i ≡ 0 = omega arith in sym w.same ∙ rw none_left
 
-    module _ (h : 0 < left) where
-      pub past_group : (word ws (node_words * i) ≡ 0 → ⊥) → Walking Known ws n first k (i + 1) (left - 1)
-      past_group g = record { seen = w.seen; known = w.known; same = rw (at_group ws i left h g) at w.same }
+    module _ (h : i < e) where
+      pub past_group : is_leaf ws i ≡ false → Walking Known ws n first k (i + 1) e
+      past_group g = record { seen = w.seen; known = w.known; same = rw (at_group ws i e h g) at w.same }
 
-      module _ (l : word ws (node_words * i) ≡ 0) (x : ℕ) (e : x ≡ (leaf ws i).0) where
+      module _ (l : is_leaf ws i ≡ true) (x : ℕ) (q : x ≡ (leaf ws i).0) where
         by_leaf : (b : Bool) → fresh n w.seen x ≡ b
-            → pick b (first_bad n (x ∷ w.seen) (leaves ws (i + 1) (left - 1))) (some (leaf ws i).1) ≡ first_bad n [] (leaves ws first k)
+            → pick b (first_bad n (x ∷ w.seen) (leaves ws (i + 1) (e - (i + 1)))) (some (leaf ws i).1) ≡ first_bad n [] (leaves ws first k)
         unfolding first_bad
-        by_leaf b f = rw (← f, e) (rw (at_leaf ws i left h l) at w.same)
+        by_leaf b f = rw (← f, q) (rw (at_leaf ws i e h l) at w.same)
 
-        pub fresh_leaf : fresh n w.seen x ≡ true → {Known' : List ℕ → Type 0} → Known' (x ∷ w.seen) → Walking Known' ws n first k (i + 1) (left - 1)
+        pub fresh_leaf : fresh n w.seen x ≡ true → {Known' : List ℕ → Type 0} → Known' (x ∷ w.seen) → Walking Known' ws n first k (i + 1) e
         unfolding pick
         fresh_leaf f h' = record { seen = x ∷ w.seen; known = h'; same = by_leaf true f }
 

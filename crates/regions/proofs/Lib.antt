@@ -1,2 +1,4 @@
 mod Rooms
 mod Many
+mod Closing
+mod Ranges

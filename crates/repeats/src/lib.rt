@@ -11,7 +11,6 @@ ghost use Rattle.repeats.specs.Laws.Repeats.{Compared, ByMarks};
 ghost use Rattle.repeats.specs.Laws.Places.{PlaceTrees, Empty, buckets};
 ghost use Rattle.repeats.specs.Laws.Places as spec;
 
-use layout::number::at_most;
 use once::word;
 use sizes::{MOST_CELLS, NODE_WORDS};
 
@@ -41,252 +40,206 @@ pub struct Repeat {
     pub steps: u64,
 }
 
-// Whether a number stands at an earlier place, and how many steps it took to find out.
+impl Repeat {
+    // The same, found after so many steps more.
+    fn after(self, steps: u64) -> Repeat
+        requires { steps + self.steps ≤ repeat_steps * most_cells }
+        ensures { (result.at ≡ self.at) × (result.steps ≡ steps + self.steps) }
+    {
+        Repeat {
+            at: self.at,
+            steps: steps + self.steps,
+        }
+    }
+}
+
+// The first words of the first `count` records of so many words.
 #[derive(Clone, Copy)]
-struct Looked {
-    pub old: bool,
-    pub steps: u64,
+struct Numbers<'a> {
+    words: &'a [u32],
+    step: usize,
+    count: usize,
+    ghost short: { step ≤ node_words },
+    ghost few: { count ≤ most_cells },
 }
 
-// Whether numbers are in strictly ascending order, and how many steps it took to find out.
-#[derive(Clone, Copy)]
-struct Ascending {
-    pub holds: bool,
-    pub steps: u64,
-}
-
-// The first repeat where all numbers up to it are small, and how many steps it took.
-#[derive(Clone, Copy)]
-struct Marked {
-    pub small: bool,
-    pub at: usize,
-    pub steps: u64,
-}
-
-// The number at place j.
-fn nth(words: &[u32], step: usize, j: usize) -> u32
-    requires { (step ≤ node_words) × (j ≤ most_cells) }
-    ensures { result ≡ strided step words.now j }
-{
-    word(words, step * j)
-}
-
-// ---- in ascending order
-
-// Whether the m numbers are in strictly ascending order: then none repeats another.
-fn order(words: &[u32], step: usize, m: usize) -> Ascending
-    requires { (step ≤ node_words) × (m ≤ most_cells) }
-    ensures few { result.steps ≤ m }
-    ensures none { result.holds ≡ true → Answered (strided step words.now) m 1 m result.steps }
-{
-    let mut last = nth(words, step, 0);
-    let mut j = 1;
-    let mut steps: u64 = 0;
-    while j < m {
-        let x = nth(words, step, j);
-        steps += 1; // the comparison with the number before
-        if x <= last {
-            return Ascending {
-                holds: false,
-                steps,
-            };
-        }
-        last = x;
-        j += 1;
+impl<'a> Numbers<'a> {
+    // The number at place j.
+    fn nth(&self, j: usize) -> u32
+        requires { j ≤ most_cells }
+        ensures { result ≡ strided self.now.step self.now.words.now j }
+    {
+        word(self.words, self.step * j)
     }
-    Ascending { holds: true, steps }
-}
 
-// ---- small numbers
+    // ---- in ascending order
 
-// The first repeat among m numbers that have marks, none of which is set; or a number that has none comes first.
-fn by_marks(words: &[u32], step: usize, m: usize, marks: &mut [u8]) -> Marked
-    requires { (step ≤ node_words) × (m ≤ most_cells) × Marks (length marks.old) marks.old [] }
-    ensures { ByMarks (strided step words.now) m result.small result.at result.steps }
-{
-    let mut k = 0;
-    let mut steps: u64 = 0;
-    while k < m {
-        let x = nth(words, step, k) as usize;
-        steps += 1; // the comparison with the number of marks
-        if marks.len() <= x {
-            return Marked {
-                small: false,
-                at: k,
-                steps,
-            };
+    // Whether they are in strictly ascending order, so that none repeats another; and how many steps it took to find out.
+    fn ascend(&self) -> (bool, u64)
+        ensures few { result.1 ≤ self.now.count }
+        ensures none { result.0 ≡ true → Answered (strided self.now.step self.now.words.now) self.now.count 1 self.now.count result.1 }
+    {
+        let mut last = self.nth(0);
+        let mut steps: u64 = 0;
+        for j in 1..self.count {
+            let x = self.nth(j);
+            steps += 1; // the comparison with the number before
+            if x <= last {
+                return (false, steps);
+            }
+            last = x;
         }
-        steps += 1; // the look for its mark
-        if marks[x] != 0 {
-            return Marked {
-                small: true,
-                at: k,
-                steps,
-            };
-        }
-        steps += 1; // the store of its mark
-        marks[x] = 1;
-        k += 1;
+        (true, steps)
     }
-    Marked {
-        small: true,
-        at: m,
-        steps,
+
+    // ---- small numbers
+
+    // The first repeat, by marks of which none is set; or the place of a number that has no mark, where that comes first. And how many
+    // steps it took.
+    fn by_marks(&self, marks: &mut [u8]) -> (Result<usize, usize>, u64)
+        requires { Marks (length marks.old) marks.old [] }
+        ensures { ByMarks (strided self.now.step self.now.words.now) self.now.count result.0 result.1 }
+    {
+        let mut steps: u64 = 0;
+        for k in 0..self.count {
+            let x = self.nth(k) as usize;
+            steps += 1; // the comparison with the number of marks
+            if marks.len() <= x {
+                return (Err(k), steps);
+            }
+            steps += 1; // the look for its mark
+            if marks[x] != 0 {
+                return (Ok(k), steps);
+            }
+            steps += 1; // the store of its mark
+            marks[x] = 1;
+        }
+        (Ok(self.count), steps)
+    }
+
+    // ---- few numbers
+
+    // Whether x is one of the first k, which are compared one after the other; and how many steps it took.
+    fn compare(&self, k: usize, x: u32) -> (bool, u64)
+        requires { k ≤ most_cells }
+        ensures { Compared (strided self.now.step self.now.words.now) k x result.0 result.1 }
+    {
+        let mut steps: u64 = 0;
+        for i in 0..k {
+            steps += 1; // the comparison with an earlier number
+            if self.nth(i) == x {
+                return (true, steps);
+            }
+        }
+        (false, steps)
+    }
+
+    // The first repeat among few numbers, where every pair is compared.
+    fn by_pairs(&self) -> Repeat
+        requires { self.now.count ≤ 34 }
+        ensures { Answered (strided self.now.step self.now.words.now) self.now.count 34 result.at result.steps }
+    {
+        let mut steps: u64 = 0;
+        for k in 0..self.count {
+            let (old, more) = self.compare(k, self.nth(k));
+            steps += more;
+            if old {
+                return Repeat { at: k, steps };
+            }
+        }
+        Repeat {
+            at: self.count,
+            steps,
+        }
+    }
+
+    // ---- many numbers
+
+    // Whether x is in the trees of the first k places, where place k is put if it is new; and how many steps it took.
+    fn look(&self, k: usize, x: u32, slots: &mut [u16]) -> (bool, u64)
+        requires { (k < most_cells) × (buckets + 4 * k + 4 ≤ length slots.old) × PlaceTrees (strided self.now.step self.now.words.now) k slots.old }
+        ensures { spec.Looked (strided self.now.step self.now.words.now) k x slots.new result.0 result.1 }
+    {
+        let mut slot = bucket(x);
+        let mut rest = x;
+        let mut steps: u64 = 0;
+        loop {
+            let next = slots[slot] as usize;
+            steps += 1; // the look for the next place
+            if next == 0 {
+                steps += 1; // the store of place k
+                slots[slot] = (k + 1) as u16;
+                return (false, steps);
+            }
+            let at = next - 1;
+            steps += 1; // the comparison with its number
+            if self.nth(at) == x {
+                return (true, steps);
+            }
+            slot = BUCKETS + 4 * at + (rest % 4) as usize;
+            rest /= 4;
+        }
+    }
+
+    // The first repeat, by trees of the places before.
+    fn by_trees(&self, slots: &mut [u16]) -> Repeat
+        requires { Empty (strided self.now.step self.now.words.now) self.now.count slots.old }
+        ensures { Answered (strided self.now.step self.now.words.now) self.now.count 34 result.at result.steps }
+    {
+        let mut steps: u64 = 0;
+        for place in 0..self.count {
+            let (old, more) = self.look(place, self.nth(place), slots);
+            steps += more;
+            if old {
+                return Repeat { at: place, steps };
+            }
+        }
+        Repeat {
+            at: self.count,
+            steps,
+        }
+    }
+
+    // ---- lists
+
+    fn with_marks<const MARKS: usize>(&self) -> (Result<usize, usize>, u64)
+        requires { MARKS ≤ LONG_MARKS }
+        ensures { ByMarks (strided self.now.step self.now.words.now) self.now.count result.0 result.1 }
+    {
+        let mut marks = [0u8; MARKS];
+        self.by_marks(&mut marks)
+    }
+
+    fn with_slots<const SLOTS: usize>(&self) -> Repeat
+        requires { (buckets + 4 * self.now.count ≤ SLOTS) × (SLOTS ≤ LONG_SLOTS) }
+        ensures { Answered (strided self.now.step self.now.words.now) self.now.count 34 result.at result.steps }
+    {
+        let mut slots = [0u16; SLOTS];
+        self.by_trees(&mut slots)
+    }
+
+    // The first repeat: the marks tell, or the numbers are compared. Each list is in a function of its own, so that the slots can have the
+    // place of the marks.
+    fn with_lists<const MARKS: usize, const SLOTS: usize>(&self) -> Repeat
+        requires { (MARKS ≤ LONG_MARKS) × (buckets + 4 * self.now.count ≤ SLOTS) × (SLOTS ≤ LONG_SLOTS) }
+        ensures { Answered (strided self.now.step self.now.words.now) self.now.count 37 result.at result.steps }
+    {
+        let (marked, steps) = self.with_marks::<MARKS>();
+        if let Ok(at) = marked {
+            return Repeat { at, steps };
+        }
+        if self.count <= FEW {
+            return self.by_pairs().after(steps);
+        }
+        self.with_slots::<SLOTS>().after(steps)
     }
 }
-
-// ---- few numbers
-
-// Looks for the number x at the first k places, one after the other.
-fn compare(words: &[u32], step: usize, k: usize, x: u32) -> Looked
-    requires { (step ≤ node_words) × (k ≤ most_cells) }
-    ensures { Compared (strided step words.now) k x result.old result.steps }
-{
-    let mut i = 0;
-    let mut steps: u64 = 0;
-    while i < k {
-        steps += 1; // the comparison with an earlier number
-        if nth(words, step, i) == x {
-            return Looked { old: true, steps };
-        }
-        i += 1;
-    }
-    Looked { old: false, steps }
-}
-
-// The first repeat among few numbers, where every pair is compared.
-fn by_pairs(words: &[u32], step: usize, m: usize) -> Repeat
-    requires { (step ≤ node_words) × (m ≤ 34) }
-    ensures { Answered (strided step words.now) m 34 result.at result.steps }
-{
-    let mut k = 0;
-    let mut steps: u64 = 0;
-    while k < m {
-        let p = compare(words, step, k, nth(words, step, k));
-        steps += p.steps;
-        if p.old {
-            return Repeat { at: k, steps };
-        }
-        k += 1;
-    }
-    Repeat { at: m, steps }
-}
-
-// ---- many numbers
 
 // The slot for the first place of the tree in which the number x is looked for: the high bits of a product.
 fn bucket(x: u32) -> usize
     ensures { result ≡ spec.bucket x }
 {
     (x as u64 * 2654435769 % 4294967296 / 1048576) as usize
-}
-
-// Looks for the number x in the trees of the first k places, and puts place k there if it is new.
-fn look(words: &[u32], step: usize, k: usize, x: u32, slots: &mut [u16]) -> Looked
-    requires { (step ≤ node_words) × (k < most_cells) × (buckets + 4 * k + 4 ≤ length slots.old) × PlaceTrees (strided step words.now) k slots.old }
-    ensures { spec.Looked (strided step words.now) k x slots.new result.old result.steps }
-{
-    let mut slot = bucket(x);
-    let mut rest = x;
-    let mut steps: u64 = 0;
-    loop {
-        let next = slots[slot] as usize;
-        steps += 1; // the look for the next place
-        if next == 0 {
-            steps += 1; // the store of place k
-            slots[slot] = (k + 1) as u16;
-            return Looked { old: false, steps };
-        }
-        let at = next - 1;
-        steps += 1; // the comparison with its number
-        if nth(words, step, at) == x {
-            return Looked { old: true, steps };
-        }
-        slot = BUCKETS + 4 * at + (rest % 4) as usize;
-        rest = rest / 4;
-    }
-}
-
-// The first repeat among numbers, by trees of the places before.
-fn by_trees(words: &[u32], step: usize, m: usize, slots: &mut [u16]) -> Repeat
-    requires { (step ≤ node_words) × (m ≤ most_cells) × Empty (strided step words.now) m slots.old }
-    ensures { Answered (strided step words.now) m 34 result.at result.steps }
-{
-    let mut place = 0;
-    let mut steps: u64 = 0;
-    while place < m {
-        let p = look(words, step, place, nth(words, step, place), slots);
-        steps += p.steps;
-        if p.old {
-            return Repeat { at: place, steps };
-        }
-        place += 1;
-    }
-    Repeat { at: m, steps }
-}
-
-// ---- all numbers
-
-// The answer r, found after so many steps.
-fn after_steps(steps: u64, r: Repeat) -> Repeat
-    requires { steps + r.steps ≤ repeat_steps * most_cells }
-    ensures { (result.at ≡ r.at) × (result.steps ≡ steps + r.steps) }
-{
-    Repeat {
-        at: r.at,
-        steps: steps + r.steps,
-    }
-}
-
-// The first repeat among at most 512 numbers: their marks tell, or they are compared.
-fn with_short_lists(words: &[u32], step: usize, m: usize) -> Repeat
-    requires { (step ≤ node_words) × (m ≤ 512) }
-    ensures { Answered (strided step words.now) m 37 result.at result.steps }
-{
-    let mut marks = [0u8; SHORT_MARKS];
-    let b = by_marks(words, step, m, &mut marks);
-    if b.small {
-        return Repeat {
-            at: b.at,
-            steps: b.steps,
-        };
-    }
-    if m <= FEW {
-        return after_steps(b.steps, by_pairs(words, step, m));
-    }
-    let mut slots = [0u16; SHORT_SLOTS];
-    after_steps(b.steps, by_trees(words, step, m, &mut slots))
-}
-
-fn with_long_marks(words: &[u32], step: usize, m: usize) -> Marked
-    requires { (step ≤ node_words) × (m ≤ most_cells) }
-    ensures { ByMarks (strided step words.now) m result.small result.at result.steps }
-{
-    let mut marks = [0u8; LONG_MARKS];
-    by_marks(words, step, m, &mut marks)
-}
-
-fn with_long_slots(words: &[u32], step: usize, m: usize) -> Repeat
-    requires { (step ≤ node_words) × (m ≤ most_cells) }
-    ensures { Answered (strided step words.now) m 34 result.at result.steps }
-{
-    let mut slots = [0u16; LONG_SLOTS];
-    by_trees(words, step, m, &mut slots)
-}
-
-// The same among all numbers. Each long list is in a function of its own, so that the slots can have the place of the marks.
-fn with_long_lists(words: &[u32], step: usize, m: usize) -> Repeat
-    requires { (step ≤ node_words) × (m ≤ most_cells) }
-    ensures { Answered (strided step words.now) m 37 result.at result.steps }
-{
-    let b = with_long_marks(words, step, m);
-    if b.small {
-        return Repeat {
-            at: b.at,
-            steps: b.steps,
-        };
-    }
-    after_steps(b.steps, with_long_slots(words, step, m))
 }
 
 // The first repeat among the first words of the first m records of so many words: their order tells, or their marks, or they are compared.
@@ -297,17 +250,20 @@ pub fn first_repeat(words: &[u32], step: usize, m: usize) -> Repeat
     if MOST_CELLS < m {
         return first_repeat(words, step, MOST_CELLS);
     }
-    let step = at_most(step, NODE_WORDS);
-    let o = order(words, step, m);
-    if o.holds {
-        return Repeat {
-            at: m,
-            steps: o.steps,
-        };
+    let numbers = Numbers {
+        words,
+        step: step.min(NODE_WORDS),
+        count: m,
+    };
+    let (ordered, steps) = numbers.ascend();
+    if ordered {
+        return Repeat { at: m, steps };
     }
     if m <= SHORT_UP_TO {
-        after_steps(o.steps, with_short_lists(words, step, m))
+        numbers
+            .with_lists::<SHORT_MARKS, SHORT_SLOTS>()
+            .after(steps)
     } else {
-        after_steps(o.steps, with_long_lists(words, step, m))
+        numbers.with_lists::<LONG_MARKS, LONG_SLOTS>().after(steps)
     }
 }

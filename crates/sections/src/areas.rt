@@ -1,11 +1,12 @@
 // Areas.
-ghost use Rattle.grammar.specs.Conventions as notation;
 ghost use Rattle.layout.specs.Reads.{Reads};
 ghost use Rattle.grammar.specs.Sections as grammar;
 
+use crate::optional::in_version_3;
 use layout::number::{any, boolean, fixed};
 use layout::run::skip;
 use layout::{LITTLE, Step};
+use regions::production::Production;
 use regions::region::string;
 
 fn font(s: &[u8], st: Step, index: u64) -> Step
@@ -31,26 +32,24 @@ fn colors(s: &[u8], st: Step) -> Step
     string(s, st, LITTLE, 4)
 }
 
-fn four_margins(s: &[u8], st: Step) -> Step
-    ensures { Reads grammar.AreaMargins s.now st result }
-{
-    let st = any(s, st, 4);
-    let st = any(s, st, 4);
-    let st = any(s, st, 4);
-    any(s, st, 4)
-}
+#[derive(Clone, Copy)]
+struct Margins;
 
-fn margins(s: &[u8], st: Step, version: u64) -> Step
-    ensures { Reads (notation.v3 version grammar.AreaMargins) s.now st result }
-{
-    let there = version == 3;
-    if there { four_margins(s, st) } else { st }
+impl Production for Margins {
+    ghost layout = { λ _. grammar.AreaMargins };
+
+    fn read(&self, s: &[u8], st: Step) -> Step {
+        let st = any(s, st, 4);
+        let st = any(s, st, 4);
+        let st = any(s, st, 4);
+        any(s, st, 4)
+    }
 }
 
 fn area(s: &[u8], st: Step, index: u64, version: u64) -> Step
     ensures { Reads (grammar.Area version index) s.now st result }
 {
-    margins(s, colors(s, font(s, st, index)), version)
+    in_version_3(s, colors(s, font(s, st, index)), &Margins, version)
 }
 
 fn eight(s: &[u8], st: Step, version: u64) -> Step

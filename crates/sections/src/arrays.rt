@@ -1,77 +1,84 @@
 // Arrays of rows of numbers, skipped without visiting each.
-ghost use Rattle.grammar.specs.Layout.{times};
 ghost use Rattle.grammar.specs.Conventions as notation;
 ghost use Rattle.layout.specs.Reads.{Reads};
 ghost use Rattle.grammar.specs.Sections as grammar;
 
-use layout::number::{any, peek};
+use layout::number::any;
 use layout::{BIG, LITTLE, Step};
-use regions::rows::{fitting, rows};
+use regions::production::Production;
+use regions::rows::{Row, counted};
 
-fn triple(s: &[u8], st: Step) -> Step
-    ensures { Reads grammar.Border s.now st result }
-{
-    let st = any(s, st, 4);
-    let st = any(s, st, 4);
-    any(s, st, 4)
+// A Border; a PointKeep is laid out the same.
+#[derive(Clone, Copy)]
+struct Triple;
+
+impl Production for Triple {
+    ghost layout = { λ _. grammar.Border };
+
+    fn read(&self, s: &[u8], st: Step) -> Step {
+        let st = any(s, st, 4);
+        let st = any(s, st, 4);
+        any(s, st, 4)
+    }
 }
 
-fn all_triples(s: &[u8], st: Step, n: u64) -> Step
-    ensures { Reads (times n grammar.Border) s.now st result }
-{
-    let k = fitting(s, st, n, 12);
-    let at = rows(s, st, n, 12);
-    if k == n { at } else { triple(s, at) }
+impl Row for Triple {
+    fn size(&self) -> usize {
+        12
+    }
 }
 
-// A count and as many Borders; a PointKeep is laid out the same.
+// A count and as many Borders.
 pub fn triples(s: &[u8], st: Step) -> Step
     ensures { Reads (notation.bemany grammar.Border) s.now st result }
 {
-    let n = peek(s, st, BIG, 4);
-    all_triples(s, any(s, st, 4), n)
+    counted(s, st, BIG, &Triple)
 }
 
-fn pair(s: &[u8], st: Step) -> Step
-    ensures { Reads grammar.Keep s.now st result }
-{
-    let st = any(s, st, 4);
-    any(s, st, 4)
+#[derive(Clone, Copy)]
+struct Pair;
+
+impl Production for Pair {
+    ghost layout = { λ _. grammar.Keep };
+
+    fn read(&self, s: &[u8], st: Step) -> Step {
+        let st = any(s, st, 4);
+        any(s, st, 4)
+    }
 }
 
-fn all_pairs(s: &[u8], st: Step, n: u64) -> Step
-    ensures { Reads (times n grammar.Keep) s.now st result }
-{
-    let k = fitting(s, st, n, 8);
-    let at = rows(s, st, n, 8);
-    if k == n { at } else { pair(s, at) }
+impl Row for Pair {
+    fn size(&self) -> usize {
+        8
+    }
 }
 
 pub fn pairs(s: &[u8], st: Step) -> Step
     ensures { Reads grammar.Keeps s.now st result }
 {
-    let n = peek(s, st, BIG, 4);
-    all_pairs(s, any(s, st, 4), n)
+    counted(s, st, BIG, &Pair)
 }
 
-fn style_map(s: &[u8], st: Step) -> Step
-    ensures { Reads grammar.StyleMap s.now st result }
-{
-    let st = any(s, st, 8);
-    any(s, st, 2)
+#[derive(Clone, Copy)]
+struct StyleMap;
+
+impl Production for StyleMap {
+    ghost layout = { λ _. grammar.StyleMap };
+
+    fn read(&self, s: &[u8], st: Step) -> Step {
+        let st = any(s, st, 8);
+        any(s, st, 2)
+    }
 }
 
-fn all_style_maps(s: &[u8], st: Step, n: u64) -> Step
-    ensures { Reads (times n grammar.StyleMap) s.now st result }
-{
-    let k = fitting(s, st, n, 10);
-    let at = rows(s, st, n, 10);
-    if k == n { at } else { style_map(s, at) }
+impl Row for StyleMap {
+    fn size(&self) -> usize {
+        10
+    }
 }
 
 pub fn style_maps(s: &[u8], st: Step) -> Step
     ensures { Reads (notation.many grammar.StyleMap) s.now st result }
 {
-    let n = peek(s, st, LITTLE, 4);
-    all_style_maps(s, any(s, st, 4), n)
+    counted(s, st, LITTLE, &StyleMap)
 }

@@ -1,13 +1,14 @@
 // Formats.
-ghost use Rattle.grammar.specs.Layout.{◌▸◌, times, little, optional, region};
+ghost use Rattle.grammar.specs.Layout.{◌▸◌, little, optional, region};
 ghost use Rattle.grammar.specs.Conventions as notation;
 ghost use Rattle.layout.specs.Reads.{Reads};
 ghost use Rattle.grammar.specs.Sections as grammar;
 ghost use Rattle.grammar.specs.Value as values;
 
 use crate::arrays::style_maps;
-use layout::number::{any, boolean, fixed, peek};
+use layout::number::{any, boolean, fixed};
 use layout::{LITTLE, Step};
+use regions::production::{Production, counted, times};
 use regions::region::{bytes, close, close_open, close_optional, many_strings, part, string};
 use regions::rows::{fields, many};
 use value::style_pair;
@@ -39,50 +40,36 @@ fn x1_start(s: &[u8], st: Step) -> Step
     any(s, st, 4)
 }
 
-fn zeros(s: &[u8], st: Step, n: u64) -> Step
-    ensures { Reads (times n (notation.fixed 0x00)) s.now st result }
-{
-    let mut at = st;
-    let mut k = n;
-    while 0 < k {
-        if let Err(_) = at {
-            return at;
-        }
-        at = fixed(s, at, LITTLE, 1, 0x00);
-        k -= 1;
+// A byte 00.
+#[derive(Clone, Copy)]
+struct Zero;
+
+impl Production for Zero {
+    ghost layout = { λ _. notation.fixed 0x00 };
+
+    fn read(&self, s: &[u8], st: Step) -> Step {
+        fixed(s, st, LITTLE, 1, 0x00)
     }
-    at
 }
 
 fn x1(s: &[u8], st: Step) -> Step
     ensures { Reads grammar.X1 s.now st result }
 {
     let st = x1_start(s, st);
-    let st = zeros(s, st, 17);
+    let st = times(s, st, &Zero, 17);
     let st = boolean(s, st);
     boolean(s, st)
 }
 
-fn all_styles(s: &[u8], st: Step, n: u64) -> Step
-    ensures { Reads (times n values.StylePair) s.now st result }
-{
-    let mut at = st;
-    let mut k = n;
-    while 0 < k {
-        if let Err(_) = at {
-            return at;
-        }
-        at = style_pair(s, at);
-        k -= 1;
-    }
-    at
-}
+#[derive(Clone, Copy)]
+struct StylePair;
 
-fn styles(s: &[u8], st: Step) -> Step
-    ensures { Reads (notation.many values.StylePair) s.now st result }
-{
-    let n = peek(s, st, LITTLE, 4);
-    all_styles(s, any(s, st, 4), n)
+impl Production for StylePair {
+    ghost layout = { λ _. values.StylePair };
+
+    fn read(&self, s: &[u8], st: Step) -> Step {
+        style_pair(s, st)
+    }
 }
 
 fn two_numbers(s: &[u8], st: Step) -> Step
@@ -103,7 +90,7 @@ fn x2(s: &[u8], st: Step) -> Step
 {
     let st = many(s, st, LITTLE, 4);
     let st = style_maps(s, st);
-    let st = styles(s, st);
+    let st = counted(s, st, LITTLE, &StylePair);
     ending(s, st)
 }
 
@@ -187,8 +174,7 @@ fn x0_region(s: &[u8], st: Step) -> Step
 fn end(s: &[u8], st: Step, version: u64) -> Step
     ensures { Reads (grammar.FormatsEnd version) s.now st result }
 {
-    let old = version == 1;
-    if old {
+    if version == 1 {
         return x0_region(s, st);
     }
     outer(s, st)

@@ -1,17 +1,38 @@
-// A Value that may be there.
+// What may be there: a Value, and what stands in version 3 alone.
 ghost use Rattle.grammar.specs.Conventions as notation;
 ghost use Rattle.layout.specs.Reads.{Reads};
 ghost use Rattle.grammar.specs.Value as values;
 
-use layout::number::{one_of_two, peek};
-use layout::{LITTLE, Step};
+use layout::Step;
+use regions::production::{Production, optional};
 use value::value;
+
+// A Value, in a member of that version.
+#[derive(Clone, Copy)]
+struct Value {
+    version: u64,
+}
+
+impl Production for Value {
+    ghost layout = { λ x. values.Value x.version };
+
+    fn read(&self, s: &[u8], st: Step) -> Step {
+        value(s, st, self.version)
+    }
+}
 
 pub fn optional_value(s: &[u8], st: Step, version: u64) -> Step
     ensures { Reads (notation.if31 (values.Value version)) s.now st result }
 {
-    let x = peek(s, st, LITTLE, 1);
-    let at = one_of_two(s, st, 0x31, 0x58);
-    let present = x == 0x31;
-    if present { value(s, at, version) } else { at }
+    optional(s, st, &Value { version })
+}
+
+pub fn in_version_3<P: Production>(s: &[u8], st: Step, production: &P, version: u64) -> Step
+    ensures { Reads (notation.v3 version (P.layout production.now)) s.now st result }
+{
+    if version == 3 {
+        production.read(s, st)
+    } else {
+        st
+    }
 }

@@ -4,8 +4,10 @@ ghost use Rattle.layout.specs.Reads.{Reads};
 ghost use Rattle.grammar.specs.Sections as grammar;
 
 use crate::arrays::{pairs, triples};
+use crate::optional::in_version_3;
 use layout::number::{any, boolean, fixed};
 use layout::{BIG, LITTLE, Step};
+use regions::production::Production;
 use regions::region::{bytes, close, close_open, part, string};
 use regions::rows::many;
 
@@ -40,25 +42,23 @@ fn flags(s: &[u8], st: Step) -> Step
     any(s, st, 1)
 }
 
-fn content(s: &[u8], st: Step) -> Step
-    ensures { Reads grammar.TableSettingsContent s.now st result }
-{
-    let st = flags(s, st);
-    let st = breaks(s, st);
-    let st = string(s, st, BIG, 4);
-    string(s, st, BIG, 4)
-}
+#[derive(Clone, Copy)]
+struct Content;
 
-fn content_of(s: &[u8], st: Step, version: u64) -> Step
-    ensures { Reads (notation.v3 version grammar.TableSettingsContent) s.now st result }
-{
-    let there = version == 3;
-    if there { content(s, st) } else { st }
+impl Production for Content {
+    ghost layout = { λ _. grammar.TableSettingsContent };
+
+    fn read(&self, s: &[u8], st: Step) -> Step {
+        let st = flags(s, st);
+        let st = breaks(s, st);
+        let st = string(s, st, BIG, 4);
+        string(s, st, BIG, 4)
+    }
 }
 
 pub fn table_settings(s: &[u8], st: Step, version: u64) -> Step
     ensures { Reads (grammar.TableSettings version) s.now st result }
 {
     let p = part(s, st, LITTLE, 4);
-    close_open(p, content_of(bytes(s, p), Ok(0), version))
+    close_open(p, in_version_3(bytes(s, p), Ok(0), &Content, version))
 }

@@ -1,11 +1,13 @@
 -- Bytes that were copied into a buffer from a position on, and the bytes of a number.
 use mathlib.Core.Path.{◌≡◌, refl, ap}
-use mathlib.Core.List.{List, [], ◌∷◌, ◌++◌, reverse, append-nil}
+use mathlib.Core.List.{List, ◌∷◌, reverse}
 use Prim.Native.Nat.{ℕ, zero, suc, ◌+◌, ◌-◌, ◌/◌, ◌%◌, ◌≤◌}
 use native.Mathlib.Omega.{arith}
-use lib.ListN.{length, take, drop, length-drop, drop_of_length-le}
-use lib.Seq.{take_all, take-length, drop-drop}
-use borrow.Rule.Slice.PartMut.{mid_of, post_of, put_mid}
+use lib.ListN.{length, take, drop}
+use lib.Seq.{drop-drop}
+use borrow.Rule.Slice.PartMut.{put_mid}
+use Rattle.std.specs.Int.{w64, to_le_bytes, to_be_bytes}
+use Rattle.std.proofs.Math.Nat.{div-div-eq-div-mul}
 use Rattle.sizes.specs.Basics.{le}
 use Rattle.grammar.specs.Layout.{little, big, digits}
 use Rattle.store.specs.Put.{stored}
@@ -18,6 +20,14 @@ put_all b at xs ys h e =
     rw (k, e, drop-drop)
 
 -- of the eight bytes of a number the first w, lowest first, or the last w, highest first
+pub le_bytes_are : (v : ℕ) → to_le_bytes w64 v ≡ le 8 v
+unfolding le
+le_bytes_are v = simp div-div-eq-div-mul
+
+pub be_bytes_are : (v : ℕ) → to_be_bytes w64 v ≡ reverse (le 8 v)
+unfolding le
+be_bytes_are v = simp div-div-eq-div-mul
+
 pub low_bytes : (w v : ℕ) → w ≤ 8 → take w (le 8 v) ≡ digits little w v
 unfolding digits le
 low_bytes w v h = take_le w 8 v h

@@ -1,7 +1,8 @@
 -- What is written into a buffer first, and handed over once nothing can be refused any more: so a refusal leaves the output as it was.
-use Rattle.std.specs.Prelude.{◌≡◌, List, ◌++◌, ℕ, min, length, take, drop, leb}
+use Rattle.std.specs.Prelude.{◌≡◌, List, ◌++◌, ℕ, Result, Ok, Err, min, length, take, drop, leb}
+use Rattle.refusals.specs.declared.Refusal.{Refusal}
+use Rattle.refusals.specs.Numbers.{by_number}
 use Rattle.layout.specs.Step.{Step}
-use Rattle.std.specs.Prelude.{Ok, Err}
 use Rattle.sizes.specs.Basics.{pick}
 use Rattle.layout.specs.Reads.{chain}
 use Rattle.store.specs.Written.{Written}
@@ -21,7 +22,11 @@ answer (Ok n) = Ok n
 answer (Err (n, p)) = Err (n, p)
 
 -- the bytes of a buffer b up to a position st, or nothing after a refusal; a position past its end is its end
-pub record Delivers (b : List ℕ) (st : Step) (out : List ℕ) (r : Step) (out' : List ℕ) : Type 0 where
+pub record DeliversTo (b : List ℕ) (st : Step) (out : List ℕ) (r : Step) (out' : List ℕ) : Type 0 where
   pub answers : r ≡ chain st (λ n. ending (length out) (min n (length b)))
   pub holds : (n : ℕ) → st ≡ Ok n → out' ≡ output r (take n b) out
   pub keeps : (n p : ℕ) → st ≡ Err (n, p) → out' ≡ out
+
+-- the same of what code has
+abbrev pub Delivers : List ℕ → Result ℕ Refusal → List ℕ → Result ℕ Refusal → List ℕ → Type 0
+Delivers b st out r out' = DeliversTo b (by_number st) out (by_number r) out'

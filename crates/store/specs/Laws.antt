@@ -1,4 +1,5 @@
 -- The laws of writing by a layout.
+pub mod Refusals
 pub mod Verdicts
 pub mod Exactly
 pub mod Stored

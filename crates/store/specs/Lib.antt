@@ -5,5 +5,6 @@ pub mod Check
 pub mod Unwritable
 pub mod Fit
 pub mod Puts
+pub mod Written
 pub mod Deliver
 pub mod Laws

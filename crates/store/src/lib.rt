@@ -9,12 +9,10 @@ pub mod verdict; // tests that only looks have
 pub mod words; // runs of words
 pub mod write; // fields
 
-// What writing answers: how many bytes were written, or the refusal's number and place.
-#[derive(Clone, Copy)]
-pub enum Written {
-    Length(usize),
-    Refused(u32, usize),
-}
+use refusals::Refusal;
+
+// What writing answers: how many bytes were written, or a refusal.
+pub type Written = Result<usize, Refusal>;
 
 // A name by its place and its length.
 #[derive(Clone, Copy)]

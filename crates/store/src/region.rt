@@ -1,27 +1,27 @@
 // The count of a region: its four bytes are left out until the content is written, and then stored.
 ghost use Rattle.std.specs.Prelude.{◌≡◌, ◌+◌, ◌-◌};
+ghost use Rattle.refusals.specs.Numbers.{by_number};
 ghost use Rattle.layout.specs.Reads.{order};
 ghost use Rattle.store.specs.Put.{opened};
 ghost use Rattle.store.specs.Puts.{Closes};
 
 use crate::write::number;
 use layout::Step;
+use layout::number::left;
+use refusals::{Reason, Refusal};
 
 // Past the count of a region that starts at a position.
 pub fn start(buf: &[u8], st: Step) -> Step
-    ensures { result ≡ (opened buf.now st).1 }
+    ensures { by_number result ≡ (opened buf.now (by_number st)).1 }
 {
-    let Ok(at) = st else {
-        return st;
-    };
-    if at <= buf.len() {
-        if 4 <= buf.len() - at {
-            Ok(at + 4)
-        } else {
-            Err(Refusal { reason: Reason::DoesNotFit, place: at })
-        }
+    let at = st?;
+    if 4 <= left(buf, at) {
+        Ok(at + 4)
     } else {
-        Err(Refusal { reason: Reason::DoesNotFit, place: at })
+        Err(Refusal {
+            reason: Reason::DoesNotFit,
+            place: at,
+        })
     }
 }
 
@@ -29,12 +29,7 @@ pub fn start(buf: &[u8], st: Step) -> Step
 fn content_length(at: usize, p: usize) -> usize
     ensures { result ≡ p - (at + 4) }
 {
-    if at <= p {
-        let n = p - at;
-        if 4 <= n { n - 4 } else { 0 }
-    } else {
-        0
-    }
+    p.saturating_sub(at).saturating_sub(4)
 }
 
 // The count of a region that starts at a position and whose content ends at another.
@@ -44,11 +39,7 @@ pub fn end(buf: &mut [u8], first: Step, last: Step, high: bool) -> Step
     let Ok(at) = first else {
         return last;
     };
-    let Ok(p) = last else {
-        return last;
-    };
-    match number(buf, first, high, 4, content_length(at, p) as u64, 0) {
-        Ok(_) => Ok(p),
-        Err(refusal) => Err(refusal),
-    }
+    let p = last?;
+    number(buf, first, high, 4, content_length(at, p) as u64, Ok(()))?;
+    Ok(p)
 }

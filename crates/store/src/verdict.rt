@@ -1,26 +1,26 @@
-// The refusal that a number gets by a test, or 0.
+// The verdicts of tests that only looks have.
 ghost use Rattle.std.specs.Prelude.{◌≡◌, [], ◌∷◌};
 ghost use Rattle.grammar.specs.Layout.{a_color, a_version};
+ghost use Rattle.refusals.specs.Verdicts.{code};
 ghost use Rattle.layout.specs.Reads.{verdict};
 
-use layout::number::unless_either;
+use layout::number::{unless, unless_either};
+use refusals::{Reason, Verdict};
 
-pub fn high_byte(v: u64) -> u32
-    ensures { result ≡ verdict a_color v }
+pub fn high_byte(v: u64) -> Verdict
+    ensures { code result ≡ verdict a_color v }
 {
-    let none = v < 16777216;
-    if none { 0 } else { 14 }
+    unless(v < 16777216, Reason::Color)
 }
 
-pub fn known_one(v: u64, a: u64) -> u32
-    ensures { result ≡ verdict (a_version (a ∷ [])) v }
+pub fn known_one(v: u64, a: u64) -> Verdict
+    ensures { code result ≡ verdict (a_version (a ∷ [])) v }
 {
-    let known = v == a;
-    if known { 0 } else { 4 }
+    unless(v == a, Reason::Version)
 }
 
-pub fn known_two(v: u64, a: u64, b: u64) -> u32
-    ensures { result ≡ verdict (a_version (a ∷ b ∷ [])) v }
+pub fn known_two(v: u64, a: u64, b: u64) -> Verdict
+    ensures { code result ≡ verdict (a_version (a ∷ b ∷ [])) v }
 {
-    unless_either(v, a, b, 4)
+    unless_either(v, a, b, Reason::Version)
 }

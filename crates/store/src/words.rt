@@ -2,24 +2,21 @@
 ghost use Rattle.store.specs.Puts.{PutsWords};
 
 use layout::Step;
+use refusals::{Reason, Refusal};
 
-// Words from a position on, one after the other, and the position after them.
+// Words from a position on, one after the other, and the position after them. The words that fit are stored.
 pub fn put(out: &mut [u32], st: Step, words: &[u32]) -> Step
     ensures { PutsWords words.now out.old st out.new result }
 {
-    let Ok(at) = st else {
-        return st;
-    };
-    let mut at = at;
-    let mut i = 0;
-    while i < words.len() {
-        if at < out.len() {
-            out[at] = words[i];
-        } else {
-            return Err(Refusal { reason: Reason::DoesNotFit, place: at });
-        }
-        at += 1;
-        i += 1;
+    let at = st?;
+    let start = at.min(out.len());
+    let n = words.len().min(out.len() - start);
+    out[start..start + n].copy_from_slice(&words[..n]);
+    if n < words.len() {
+        return Err(Refusal {
+            reason: Reason::DoesNotFit,
+            place: at + n,
+        });
     }
-    Ok(at)
+    Ok(at + n)
 }

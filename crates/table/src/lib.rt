@@ -1,34 +1,37 @@
 // Dimensions and their categories: a walk that stores each node's record in a list of words.
 #![tactic(auto)]
 
-ghost use Rattle.std.specs.Prelude.{◌≡◌, true, [], ◌∷◌, ◌≤◌, ◌<◌, ◌-◌, ◌*◌, length, set, drop};
+ghost use Rattle.std.specs.Prelude.{◌≡◌, ◌≤◌, ◌-◌, drop, IfSome, Ok};
 ghost use Rattle.std.proofs.lemmas.List.Edits.{sets};
-ghost use Rattle.sizes.specs.Sizes.{member_bytes, most_nodes, node_words};
+ghost use Rattle.sizes.specs.Sizes.{most_nodes};
+ghost use Rattle.refusals.specs.Numbers.{by_number};
+ghost use Rattle.refusals.specs.Verdicts.{code};
 ghost use Rattle.grammar.specs.Layout.{little, one_of};
 ghost use Rattle.grammar.specs.Conventions as notation;
 ghost use Rattle.grammar.specs.Laws.Layout.Read.{read};
-ghost use Rattle.std.specs.Prelude.{Ok, Err};
 ghost use Rattle.layout.specs.Reads.{Reads, verdict};
 ghost use Rattle.grammar.specs.Value.{Value};
 ghost use Rattle.grammar.specs.Laws.Layout.Check.{check};
 ghost use Rattle.layout.specs.Keeps.{Keeps, Each};
 ghost use Rattle.layout.specs.Words.{word32};
 ghost use Rattle.grammar.specs.Table as grammar;
-ghost use Rattle.grammar.specs.Records.{Head, node_record};
+ghost use Rattle.grammar.specs.Records.{Head};
 ghost use Rattle.grammar.specs.Rules.{category_rule, categories_rule};
-ghost use Rattle.table.specs.Laws.Heads.{HeadRead, node_of};
-ghost use Rattle.table.specs.Laws.OwnPart.{own_part, OwnIs};
+ghost use Rattle.table.specs.Laws.Heads.{HeadRead, node_of, start_of, own_kind, own_word, own_children};
+ghost use Rattle.table.specs.Laws.OwnPart.{OwnIs};
 ghost use Rattle.table.specs.Laws.Nodes as spec;
 
-use layout::number::{any, between, field, fixed, left, peek};
-use layout::slice::whole;
+use layout::number::{any, between, field, fixed, left, peek, unless_either};
 use layout::{LITTLE, Step};
-use sizes::{MOST_NODES, NODE_SIZE, NODE_WORDS};
+use refusals::{Reason, Refusal, Verdict};
+use sizes::{MOST_NODES, NODE_WORDS};
 use value::value;
 
+mod bytes; // the bytes of a member
 mod dimension; // dimensions
 
-pub use dimension::{dimensions, most_node_words};
+pub use bytes::Member;
+pub use dimension::{Section, dimensions, most_node_words};
 
 // The number -1, as four bytes spell it.
 const MINUS_ONE: u64 = 4294967295;
@@ -39,122 +42,102 @@ const OWN_PART: usize = 15;
 // The bytes that a category takes at least.
 pub const LEAST_CATEGORY: usize = 16;
 
-// What a walk gives: the next position and the number of nodes so far; or the refusal's number and place.
-#[derive(Clone, Copy)]
-pub enum Walk {
-    On(usize, usize),
-    Refused(u32, usize),
+// What a walk gives: the next position and the number of nodes so far; or the refusal.
+pub type Walk = Result<(usize, usize), Refusal>;
+
+// What the bytes after a category's name say: the index of a leaf, or how many categories are below a group.
+#[derive(Clone, Copy, Debug, PartialEq, Eq)]
+enum Own {
+    Leaf(u64),
+    Group(u64),
 }
 
-// What a section gives: the next position, how many dimensions there are, and how many nodes they have; or the refusal.
-#[derive(Clone, Copy)]
-pub enum Section {
-    Of(usize, usize, usize),
-    Refused(u32, usize),
+impl Own {
+    // 0 for a leaf or 1 for a group.
+    fn kind(self) -> u32
+        ensures { result ≡ own_kind self }
+    {
+        match self {
+            Own::Leaf(_) => 0,
+            Own::Group(_) => 1,
+        }
+    }
+
+    // The last word of its record but one.
+    fn word(self) -> u32
+        ensures { result ≡ word32 (own_word self) }
+    {
+        let (Own::Leaf(n) | Own::Group(n)) = self;
+        (n % 4294967296) as u32
+    }
+
+    // How many categories are below it.
+    fn children(self) -> u64
+        ensures { result ≡ own_children self }
+    {
+        match self {
+            Own::Leaf(_) => 0,
+            Own::Group(n) => n,
+        }
+    }
 }
 
-// What a category begins with: 0 for a leaf or 1 for a group, the length of its name, its last word, how many categories are below it
-// and where they start; or the refusal.
-#[derive(Clone, Copy)]
-enum NodeStart {
-    Node(u32, u32, u32, u64, usize),
-    Refused(u32, usize),
+// What a category begins with: its own part, the length of its name, and where the categories below it start.
+#[derive(Clone, Copy, Debug, PartialEq, Eq)]
+struct NodeStart {
+    pub own: Own,
+    pub size: u32,
+    pub next: usize,
 }
 
-// What the bytes after a category's name say, where they are `good`: 0 for a leaf or 1 for a group, its last word, and how many categories
-// are below it.
-#[derive(Clone, Copy)]
-struct Own {
-    pub good: bool,
-    pub kind: u32,
-    pub word: u64,
-    pub children: u64,
+// Where categories stand: how many levels of them are allowed, their dimension, and the node that they are below.
+#[derive(Clone, Copy, Debug, PartialEq, Eq)]
+struct Level {
+    pub depth: usize,
+    pub dimension: u32,
+    pub parent: u32,
 }
 
 // ---- words
 
-// The word x at place i, where there is such a place.
-fn put(words: &mut [u32], i: usize, x: u32)
-    ensures { words.new ≡ set words.old i x }
+// Words from place i on, where there are such places: after one test where there are all.
+pub fn put<const N: usize>(words: &mut [u32], i: usize, values: &[u32; N])
+    ensures { words.new ≡ sets words.old i values.now }
 {
     if i < words.len() {
-        words[i] = x;
-    }
-}
-
-// Three words from place i on, where there are such places: after one test where there are all.
-pub fn put_three(words: &mut [u32], i: usize, a: u32, b: u32, c: u32)
-    ensures { words.new ≡ sets words.old i (a ∷ b ∷ c ∷ []) }
-{
-    if i < words.len() {
-        if 2 < words.len() - i {
-            words[i] = a;
-            words[i + 1] = b;
-            words[i + 2] = c;
-            return;
+        let room = words.len() - i;
+        if N <= room {
+            words[i..i + N].copy_from_slice(values);
+        } else {
+            words[i..].copy_from_slice(&values[..room]);
         }
-        put(words, i, a);
-        put(words, i + 1, b);
-        put(words, i + 2, c);
     }
 }
 
-// The record of node i, where there are such places: after one test where there are all.
-fn store_node(
-    nodes: &mut [u32],
-    i: usize,
-    kind: u32,
-    dimension: u32,
-    parent: u32,
-    place: u32,
-    size: u32,
-    word: u32,
-    many: u32,
-)
-    requires { i < most_nodes }
-    ensures { nodes.new ≡ sets nodes.old (node_words * i) (node_record kind dimension parent place size word many) }
+// The lowest 32 bits of a number.
+fn word(n: usize) -> u32
+    ensures { result ≡ word32 n }
 {
-    let at = NODE_WORDS * i;
-    if at + NODE_SIZE < nodes.len() {
-        nodes[at] = kind;
-        nodes[at + 1] = dimension;
-        nodes[at + 2] = parent;
-        nodes[at + 3] = place;
-        nodes[at + 4] = size;
-        nodes[at + 5] = word;
-        nodes[at + NODE_SIZE] = many;
-        return;
-    }
-    put_three(nodes, at, kind, dimension, parent);
-    put_three(nodes, at + 3, place, size, word);
-    put(nodes, at + NODE_SIZE, many);
+    (n % 4294967296) as u32
 }
 
 // How many lie from a up to e, as a word.
 pub fn length(a: usize, e: usize) -> u32
     ensures { result ≡ word32 (e - a) }
 {
-    (between(a, e) % 4294967296) as u32
+    word(between(a, e))
 }
 
 // ---- what a category begins with
 
 // The verdict on the three bytes after a category's name.
-fn known_kind(v: u64) -> u32
-    ensures { result ≡ verdict (one_of grammar.kinds) v }
+fn known_kind(v: u64) -> Verdict
+    ensures { code result ≡ verdict (one_of grammar.kinds) v }
 {
-    let leaf = v == 0;
-    let group = v == 0x01_00_00;
-    let merged = v == 0x01_00_01;
-    if leaf {
-        0
-    } else if group {
-        0
-    } else if merged {
-        0
-    } else {
-        3
+    if v == 0 {
+        return Ok(());
     }
+    unless_either(v, 0x01_00_00, 0x01_00_01, Reason::FixedDiffers)
 }
 
 // The three bytes after a category's name, as one field.
@@ -164,221 +147,148 @@ fn kind_field(s: &[u8], st: Step) -> Step
     field(s, st, 3, known_kind(peek(s, st, LITTLE, 3)))
 }
 
-// A node, once its name ends at `name` and its own part at `end`.
-fn node(kind: u32, at: usize, name: Step, word: u64, children: u64, end: Step) -> NodeStart
-    ensures { result ≡ node_of kind at name word children end }
+// A node whose name goes from `at` to `name`, once its own part ends at `end`.
+fn node(own: Own, at: usize, name: usize, end: Step) -> Result<NodeStart, Refusal>
+    ensures { start_of result ≡ node_of (own_kind own) at (Ok name) (own_word own) (own_children own) (by_number end) }
 {
-    match end {
-        Err(refusal) => NodeStart::Refused(r, p),
-        Ok(next) => match name {
-            Err(refusal) => NodeStart::Refused(r, p),
-            Ok(e) => {
-                let size = length(at, e);
-                NodeStart::Node(kind, size, (word % 4294967296) as u32, children, next)
-            }
-        },
-    }
+    Ok(NodeStart {
+        own,
+        size: length(at, name),
+        next: end?,
+    })
 }
 
 // What follows the name of a category, field by field: its name ends at `name`.
-fn after_name(s: &[u8], at: usize, name: Step, version: u64) -> NodeStart
-    requires { (length s.now ≤ member_bytes) × Reads (Value version) s.now (Ok at) name }
-    ensures { HeadRead version s.now at (read (Head version) (drop at s.now) at) result }
+fn after_name(member: Member, at: usize, name: usize) -> Result<NodeStart, Refusal>
+    requires { Reads (Value member.version) member.bytes.now (Ok at) (Ok name) }
+    ensures { HeadRead member.entry.version member.entry.bytes.now at (read (Head member.entry.version) (drop at member.entry.bytes.now) at) (start_of result) }
 {
-    let kind = peek(s, name, LITTLE, 3);
-    let st = kind_field(s, name);
-    let is_leaf = kind == 0;
-    if is_leaf {
+    let s = member.bytes;
+    let kind = peek(s, Ok(name), LITTLE, 3);
+    let st = kind_field(s, Ok(name));
+    if kind == 0 {
         let a = fixed(s, st, LITTLE, 4, 2);
         let index = peek(s, a, LITTLE, 4);
         let end = fixed(s, any(s, a, 4), LITTLE, 4, 0);
-        node(0, at, name, index, 0, end)
+        node(Own::Leaf(index), at, name, end)
     } else {
         let a = any(s, st, 4);
         let b = fixed(s, a, LITTLE, 4, MINUS_ONE);
         let n = peek(s, b, LITTLE, 4);
         let end = any(s, b, 4);
-        node(1, at, name, n, n, end)
+        node(Own::Group(n), at, name, end)
     }
 }
 
 // What the bytes after a category's name say, in a part of their size, where they are as they must be.
-fn own_part(bytes: &[u8]) -> Own
-    ensures { result.good ≡ true → OwnIs bytes.now result.kind result.word result.children }
+fn own_part(bytes: &[u8]) -> Option<Own>
+    ensures { IfSome result (λ o. OwnIs bytes.now (own_kind o) (own_word o) (own_children o)) }
 {
     let kind = peek(bytes, Ok(0), LITTLE, 3);
     let first = peek(bytes, Ok(3), LITTLE, 4);
     let second = peek(bytes, Ok(7), LITTLE, 4);
     let third = peek(bytes, Ok(11), LITTLE, 4);
     if kind == 0 {
-        if first == 2 {
-            if third == 0 {
-                return Own {
-                    good: true,
-                    kind: 0,
-                    word: second,
-                    children: 0,
-                };
-            }
+        if first == 2 && third == 0 {
+            return Some(Own::Leaf(second));
         }
-    } else if known_kind(kind) == 0 {
-        if second == MINUS_ONE {
-            return Own {
-                good: true,
-                kind: 1,
-                word: third,
-                children: third,
-            };
-        }
+    } else if known_kind(kind).is_ok() && second == MINUS_ONE {
+        return Some(Own::Group(third));
     }
-    Own {
-        good: false,
-        kind: 0,
-        word: 0,
-        children: 0,
-    }
-}
-
-// Where a name ends; the end of the bytes after a refusal.
-fn end_in(s: &[u8], name: Step) -> usize
-    ensures { own_part ≤ length s.now - result → name ≡ Ok result }
-{
-    match name {
-        Ok(e) => e,
-        Err(_) => s.len(),
-    }
+    None
 }
 
 // A category without what is below it. Where all the bytes after its name are there, as many for a leaf as for a group, they are looked at
 // after one test, in a part of that size; where one of them is not as it must be, field by field.
-fn head(s: &[u8], at: usize, version: u64) -> NodeStart
-    requires { length s.now ≤ member_bytes }
-    ensures { HeadRead version s.now at (read (Head version) (drop at s.now) at) result }
+fn head(member: Member, at: usize) -> Result<NodeStart, Refusal>
+    ensures { HeadRead member.entry.version member.entry.bytes.now at (read (Head member.entry.version) (drop at member.entry.bytes.now) at) (start_of result) }
 {
-    let name = value(s, Ok(at), version);
-    let e = end_in(s, name);
-    if OWN_PART <= left(s, e) {
-        let next = e + OWN_PART;
-        let own = own_part(&s[e..next]);
-        if own.good {
-            return node(own.kind, at, name, own.word, own.children, Ok(next));
+    let s = member.bytes;
+    let name = value(s, Ok(at), member.version)?;
+    if OWN_PART <= left(s, name) {
+        let next = name + OWN_PART;
+        if let Some(own) = own_part(&s[name..next]) {
+            return node(own, at, name, Ok(next));
         }
     }
-    after_name(s, at, name, version)
+    after_name(member, at, name)
 }
 
 // ---- categories
 
-// A category, `depth` levels of which are allowed, and its nodes from the number `used` on. Its own record is stored once those below it
-// are read, since it says how many nodes they are.
+// A category, and its nodes from the number `used` on. Its own record is stored once those below it are read, since it says how many nodes
+// they are.
 #[cycle(below_categories_category)]
-fn category(
-    s: &[u8],
-    at: usize,
-    depth: usize,
-    dimension: u32,
-    parent: u32,
-    used: usize,
-    nodes: &mut [u32],
-    version: u64,
-) -> Walk
-    requires { (length s.now ≤ member_bytes) × (used ≤ most_nodes) }
-    ensures { Keeps s.now (spec.Node version depth dimension parent at (used, nodes.old)) (check (category_rule version depth used) (drop at s.now) at) (spec.walked result nodes.new) }
+fn category(member: Member, at: usize, level: Level, used: usize, nodes: &mut [u32]) -> Walk
+    requires { used ≤ most_nodes }
+    ensures { Keeps member.entry.bytes.now (spec.Node member.entry.version level.depth level.dimension level.parent at (used, nodes.old)) (check (category_rule member.entry.version level.depth used) (drop at member.entry.bytes.now) at) (spec.walked (by_number result) nodes.new) }
 {
-    if depth == 0 {
-        return Err(Refusal { reason: Reason::Limit, place: at });
+    if level.depth == 0 || MOST_NODES <= used {
+        return Err(Refusal {
+            reason: Reason::Limit,
+            place: at,
+        });
     }
-    if MOST_NODES <= used {
-        return Err(Refusal { reason: Reason::Limit, place: at });
-    }
-    match head(s, at, version) {
-        NodeStart::Refused(r, p) => Err(refusal),
-        NodeStart::Node(kind, size, word, children, next) => match below(
-            s,
-            next,
-            depth - 1,
-            dimension,
-            used as u32,
-            children,
-            used + 1,
-            nodes,
-            version,
-        ) {
-            Err(refusal) => Err(refusal),
-            Ok((p, u)) => {
-                let place = (at % 4294967296) as u32;
-                let many = length(used, u);
-                store_node(
-                    nodes, used, kind, dimension, parent, place, size, word, many,
-                );
-                Ok((p, u))
-            }
-        },
-    }
+    let start = head(member, at)?;
+    let own = start.own;
+    let inner = Level {
+        depth: level.depth - 1,
+        dimension: level.dimension,
+        parent: used as u32,
+    };
+    let (end, after) = below(member, start.next, inner, own.children(), used + 1, nodes)?;
+    put(
+        nodes,
+        NODE_WORDS * used,
+        &[
+            own.kind(),
+            level.dimension,
+            level.parent,
+            word(at),
+            start.size,
+            own.word(),
+            length(used, after),
+        ],
+    );
+    Ok((end, after))
 }
 
 // The categories below one: a leaf has none, and no call is made for it.
 #[cycle(below_categories_category)]
 fn below(
-    s: &[u8],
+    member: Member,
     at: usize,
-    depth: usize,
-    dimension: u32,
-    parent: u32,
+    level: Level,
     count: u64,
     used: usize,
     nodes: &mut [u32],
-    version: u64,
 ) -> Walk
-    requires { (length s.now ≤ member_bytes) × (used ≤ most_nodes) }
-    ensures { Keeps s.now (Each (spec.Node version depth dimension parent) at (used, nodes.old)) (check (categories_rule version depth used count) (drop at s.now) at) (spec.walked result nodes.new) }
+    requires { used ≤ most_nodes }
+    ensures { Keeps member.entry.bytes.now (Each (spec.Node member.entry.version level.depth level.dimension level.parent) at (used, nodes.old)) (check (categories_rule member.entry.version level.depth used count) (drop at member.entry.bytes.now) at) (spec.walked (by_number result) nodes.new) }
 {
     if count == 0 {
         return Ok((at, used));
     }
-    categories(
-        whole(s),
-        at,
-        depth,
-        dimension,
-        parent,
-        count,
-        used,
-        nodes,
-        version,
-    )
+    categories(member, at, level, count, used, nodes)
 }
 
 // As many categories as `count` says, one after the other.
 #[cycle(below_categories_category)]
 fn categories(
-    s: &[u8],
+    member: Member,
     at: usize,
-    depth: usize,
-    dimension: u32,
-    parent: u32,
+    level: Level,
     count: u64,
     used: usize,
     nodes: &mut [u32],
-    version: u64,
 ) -> Walk
-    requires { (length s.now ≤ member_bytes) × (used ≤ most_nodes) }
-    ensures { Keeps s.now (Each (spec.Node version depth dimension parent) at (used, nodes.old)) (check (categories_rule version depth used count) (drop at s.now) at) (spec.walked result nodes.new) }
+    requires { used ≤ most_nodes }
+    ensures { Keeps member.entry.bytes.now (Each (spec.Node member.entry.version level.depth level.dimension level.parent) at (used, nodes.old)) (check (categories_rule member.entry.version level.depth used count) (drop at member.entry.bytes.now) at) (spec.walked (by_number result) nodes.new) }
 {
     let mut at = at;
     let mut used = used;
-    let mut i = 0;
-    while i < count {
-        match category(s, at, depth, dimension, parent, used, nodes, version) {
-            Err(refusal) => {
-                return Err(refusal);
-            }
-            Ok((a, u)) => {
-                at = a;
-                used = u;
-            }
-        }
-        i += 1;
+    for _ in 0..count {
+        (at, used) = category(member, at, level, used, nodes)?;
     }
     Ok((at, used))
 }

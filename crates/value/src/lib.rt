@@ -1,5 +1,6 @@
-// The readers of a Value. Those of a value, of a template and of its arguments call each other: the depth that is left falls. In a loop the bytes
-// that are left fall: each Value and each argument takes a byte or more, and a refusal ends it. So a count costs no more than the bytes that are there.
+// The readers of a Value. Those of a value, of a template and of its arguments call each other: the depth that is left falls. A loop ends with its
+// count, or with a refusal: each Value and each argument takes a byte or more. So a count costs no more than the bytes that are there. The two
+// loops stand in that cycle, where a call of regions::production::times got no proof.
 #![tactic(auto)]
 
 ghost use Rattle.std.specs.Prelude.{◌≡◌};
@@ -12,6 +13,7 @@ use layout::number::{any, boolean, field, fixed, peek};
 use layout::run::past;
 use layout::slice::whole;
 use layout::{LITTLE, Step};
+use refusals::Reason;
 use regions::region::{nothing, string};
 use sizes::{BELOW_VALUE, VALUE_DEPTH};
 
@@ -97,14 +99,13 @@ fn raw_value(s: &[u8], at: usize, depth: usize, version: u64) -> Step
         5 => form_05(s, next, version),
         6 => form_06(s, next, version),
         0x31 => {
-            let without = version == 1;
-            if without {
-                return field(s, st, 1, 4);
+            if version == 1 {
+                return field(s, st, 1, Err(Reason::Version));
             }
             template(s, modifiers(s, next), depth, version)
         }
         0x58 => template(s, next, depth, version),
-        _ => field(s, st, 1, 3),
+        _ => field(s, st, 1, Err(Reason::FixedDiffers)),
     }
 }
 
@@ -124,10 +125,7 @@ fn value_at(s: &[u8], at: usize, depth: usize, version: u64) -> Step
 fn value_in(s: &[u8], st: Step, depth: usize, version: u64) -> Step
     ensures { Reads (grammar.ValueIn version depth) s.now st result }
 {
-    match st {
-        Ok(at) => value_at(s, at, depth, version),
-        Err(refusal) => Err(refusal),
-    }
+    value_at(s, st?, depth, version)
 }
 
 #[cycle(argument_arguments_arguments_at_raw_value_template_value_at_value_in_values)]
@@ -144,16 +142,11 @@ fn template(s: &[u8], st: Step, depth: usize, version: u64) -> Step
 fn arguments_at(s: &[u8], at: usize, n: u64, depth: usize, version: u64) -> Step
     ensures { Reads (times n (grammar.Argument version depth)) s.now (Ok at) result }
 {
-    let mut at = Ok(at);
-    let mut k = n;
-    while 0 < k {
-        if let Err(_) = at {
-            return at;
-        }
-        at = argument(s, at, depth, version);
-        k -= 1;
+    let mut at = at;
+    for _ in 0..n {
+        at = argument(s, Ok(at), depth, version)?;
     }
-    at
+    Ok(at)
 }
 
 // The same after a step. Most templates have none.
@@ -161,15 +154,11 @@ fn arguments_at(s: &[u8], at: usize, n: u64, depth: usize, version: u64) -> Step
 pub fn arguments(s: &[u8], st: Step, n: u64, depth: usize, version: u64) -> Step
     ensures { Reads (times n (grammar.Argument version depth)) s.now st result }
 {
-    match st {
-        Ok(at) => {
-            if n == 0 {
-                return Ok(at);
-            }
-            arguments_at(whole(s), at, n, depth, version)
-        }
-        Err(refusal) => Err(refusal),
+    let at = st?;
+    if n == 0 {
+        return Ok(at);
     }
+    arguments_at(whole(s), at, n, depth, version)
 }
 
 #[cycle(argument_arguments_arguments_at_raw_value_template_value_at_value_in_values)]
@@ -178,8 +167,7 @@ pub fn argument(s: &[u8], st: Step, depth: usize, version: u64) -> Step
 {
     let x = peek(s, st, LITTLE, 4);
     let at = any(s, st, 4);
-    let one = x == 0;
-    if one {
+    if x == 0 {
         return value_in(s, at, depth, version);
     }
     values(s, fixed(s, at, LITTLE, 4, 0), x, depth, version)
@@ -189,16 +177,11 @@ pub fn argument(s: &[u8], st: Step, depth: usize, version: u64) -> Step
 fn values(s: &[u8], st: Step, n: u64, depth: usize, version: u64) -> Step
     ensures { Reads (times n (grammar.ValueIn version depth)) s.now st result }
 {
-    let mut at = st;
-    let mut k = n;
-    while 0 < k {
-        if let Err(_) = at {
-            return at;
-        }
-        at = value_in(s, at, depth, version);
-        k -= 1;
+    let mut at = st?;
+    for _ in 0..n {
+        at = value_in(s, Ok(at), depth, version)?;
     }
-    at
+    Ok(at)
 }
 
 // A Value, in a member of that version.
@@ -212,8 +195,7 @@ pub fn value(s: &[u8], st: Step, version: u64) -> Step
 pub fn cell_zeros(version: u64) -> usize
     ensures { result ≡ grammar.cell_zeros version }
 {
-    let one_more = version == 1;
-    if one_more { 5 } else { 4 }
+    if version == 1 { 5 } else { 4 }
 }
 
 // The Value of a cell at a position, with all the bytes 00 before it. Most are numbers.
@@ -232,8 +214,5 @@ fn cell_value_at(s: &[u8], at: usize, version: u64) -> Step
 pub fn cell_value(s: &[u8], st: Step, version: u64) -> Step
     ensures { Reads (grammar.CellValue version) s.now st result }
 {
-    match st {
-        Ok(at) => cell_value_at(s, at, version),
-        Err(refusal) => Err(refusal),
-    }
+    cell_value_at(s, st?, version)
 }

@@ -8,69 +8,49 @@ ghost use Rattle.grammar.specs.Value as value;
 use layout::number::{any, boolean, fixed, one_of_two, one_of_two_but, peek};
 use layout::slice::whole;
 use layout::{LITTLE, Step};
-use regions::region::{bytes, close, close_optional, many_strings, part, string};
+use regions::production::{Production, optional};
+use regions::region::{Text, bytes, close, close_optional, many_strings, part, string};
 use regions::rows::many;
 
-fn font_style(s: &[u8], st: Step) -> Step
-    ensures { Reads value.FontStyle s.now st result }
-{
-    let st = boolean(s, st);
-    let st = boolean(s, st);
-    let st = boolean(s, st);
-    let st = boolean(s, st);
-    let st = string(s, st, LITTLE, 4);
-    let st = string(s, st, LITTLE, 4);
-    let st = string(s, st, LITTLE, 4);
-    any(s, st, 1)
+#[derive(Clone, Copy)]
+struct FontStyle;
+
+impl Production for FontStyle {
+    ghost layout = { λ _. value.FontStyle };
+
+    fn read(&self, s: &[u8], st: Step) -> Step {
+        let st = boolean(s, st);
+        let st = boolean(s, st);
+        let st = boolean(s, st);
+        let st = boolean(s, st);
+        let st = string(s, st, LITTLE, 4);
+        let st = string(s, st, LITTLE, 4);
+        let st = string(s, st, LITTLE, 4);
+        any(s, st, 1)
+    }
 }
 
-fn cell_style(s: &[u8], st: Step) -> Step
-    ensures { Reads value.CellStyle s.now st result }
-{
-    let st = any(s, st, 4);
-    let st = any(s, st, 4);
-    let st = any(s, st, 8);
-    let st = any(s, st, 2);
-    let st = any(s, st, 2);
-    let st = any(s, st, 2);
-    any(s, st, 2)
-}
+#[derive(Clone, Copy)]
+struct CellStyle;
 
-fn optional_font(s: &[u8], st: Step) -> Step
-    ensures { Reads (grammar.if31 value.FontStyle) s.now st result }
-{
-    let x = peek(s, st, LITTLE, 1);
-    let at = one_of_two(s, st, 0x31, 0x58);
-    let present = x == 0x31;
-    if present { font_style(s, at) } else { at }
-}
+impl Production for CellStyle {
+    ghost layout = { λ _. value.CellStyle };
 
-fn optional_cell(s: &[u8], st: Step) -> Step
-    ensures { Reads (grammar.if31 value.CellStyle) s.now st result }
-{
-    let x = peek(s, st, LITTLE, 1);
-    let at = one_of_two(s, st, 0x31, 0x58);
-    let present = x == 0x31;
-    if present { cell_style(s, at) } else { at }
+    fn read(&self, s: &[u8], st: Step) -> Step {
+        let st = any(s, st, 4);
+        let st = any(s, st, 4);
+        let st = any(s, st, 8);
+        let st = any(s, st, 2);
+        let st = any(s, st, 2);
+        let st = any(s, st, 2);
+        any(s, st, 2)
+    }
 }
 
 pub fn style_pair(s: &[u8], st: Step) -> Step
     ensures { Reads value.StylePair s.now st result }
 {
-    optional_cell(s, optional_font(s, st))
-}
-
-fn optional_id(s: &[u8], st: Step) -> Step
-    ensures { Reads (grammar.if31 grammar.lestring) s.now st result }
-{
-    let x = peek(s, st, LITTLE, 1);
-    let at = one_of_two(s, st, 0x31, 0x58);
-    let present = x == 0x31;
-    if present {
-        string(s, at, LITTLE, 4)
-    } else {
-        at
-    }
+    optional(s, optional(s, st, &FontStyle), &CellStyle)
 }
 
 fn prefix_content(s: &[u8], st: Step) -> Step
@@ -79,8 +59,7 @@ fn prefix_content(s: &[u8], st: Step) -> Step
     let st = fixed(s, st, LITTLE, 4, 0);
     let x = peek(s, st, LITTLE, 1);
     let at = one_of_two(s, st, 0x58, 0x31);
-    let absent = x == 0x58;
-    if absent {
+    if x == 0x58 {
         at
     } else {
         fixed(s, at, LITTLE, 1, 0x55)
@@ -97,7 +76,11 @@ fn template_prefix(s: &[u8], st: Step) -> Step
 fn template_content(s: &[u8], st: Step) -> Step
     ensures { Reads (value.TemplatePrefix ▸ grammar.if31 grammar.lestring) s.now st result }
 {
-    optional_id(s, template_prefix(s, st))
+    let id = Text {
+        high: LITTLE,
+        width: 4,
+    };
+    optional(s, template_prefix(s, st), &id)
 }
 
 fn template_string(s: &[u8], st: Step) -> Step
@@ -133,24 +116,16 @@ fn modifiers_at(s: &[u8], at: usize) -> Step
 pub fn modifiers(s: &[u8], st: Step) -> Step
     ensures { Reads value.Modifiers s.now st result }
 {
-    match st {
-        Ok(at) => modifiers_at(whole(s), at),
-        Err(refusal) => Err(refusal),
-    }
+    modifiers_at(whole(s), st?)
 }
 
 pub fn value_mod(s: &[u8], st: Step, version: u64) -> Step
     ensures { Reads (value.ValueMod version) s.now st result }
 {
     let x = peek(s, st, LITTLE, 1);
-    let without = version == 1;
-    let at = one_of_two_but(s, st, 0x31, 0x58, without);
-    let present = x == 0x31;
-    if present {
-        match at {
-            Ok(p) => modifiers_at(whole(s), p),
-            Err(refusal) => Err(refusal),
-        }
+    let at = one_of_two_but(s, st, 0x31, 0x58, version == 1);
+    if x == 0x31 {
+        modifiers_at(whole(s), at?)
     } else {
         at
     }

@@ -11,12 +11,12 @@ use Rattle.std.specs.Prelude.{Ok, Err}
 use Rattle.contents.specs.declared.Contents.{Contents}
 use Rattle.contents.specs.declared.Argument.{Argument}
 use Rattle.contents.specs.Answers.{ValueAnswers, ArgumentAnswers, refused, refused_argument_answer}
-use Rattle.store.specs.Puts.{PutsWords}
+use Rattle.store.specs.Puts.{PutsWordsTo}
 use Rattle.store.specs.Laws.Puts.{with_room, without_room}
 use Rattle.value_words.specs.Values.{value_words, argument_words, ValueRead, ArgumentRead}
 
 module _ (version : ℕ) (bytes answer : List ℕ) where
-  pub with_value : (x : Contents) {answer' : List ℕ} {r : Step} → leb value_answer_words (length answer) ≡ true → ValueAnswers version bytes x → PutsWords (value_words x) answer (Ok 0) answer' r
+  pub with_value : (x : Contents) {answer' : List ℕ} {r : Step} → leb value_answer_words (length answer) ≡ true → ValueAnswers version bytes x → PutsWordsTo (value_words x) answer (Ok 0) answer' r
       → ValueRead version bytes answer value_answer_words answer'
   unfolding value_words
   with_value x t a p = record { contents = x; is_read = λ _. a; words = with_room value_answer_words (value_words x) answer refl t p }
@@ -29,7 +29,7 @@ module _ (version : ℕ) (bytes answer : List ℕ) where
   }
 
   pub with_argument : (x : Argument) {answer' : List ℕ} {r : Step} → leb argument_answer_words (length answer) ≡ true → ArgumentAnswers version bytes x
-      → PutsWords (argument_words x) answer (Ok 0) answer' r → ArgumentRead version bytes answer argument_answer_words answer'
+      → PutsWordsTo (argument_words x) answer (Ok 0) answer' r → ArgumentRead version bytes answer argument_answer_words answer'
   with_argument x t a p = record { contents = x; is_read = λ _. a; words = with_room argument_answer_words (argument_words x) answer refl t p }
 
   pub without_argument : leb argument_answer_words (length answer) ≡ false → ArgumentRead version bytes answer 0 answer

@@ -10,7 +10,7 @@ use Rattle.layout.specs.Step.{Step}
 use Rattle.std.specs.Prelude.{Ok, Err}
 use Rattle.sizes.specs.Basics.{pick}
 use Rattle.layout.specs.Words.{word32}
-use Rattle.store.specs.Puts.{PutsWords}
+use Rattle.store.specs.Puts.{PutsWordsTo}
 use Rattle.store.specs.Laws.Puts.{with_room, without_room}
 use Rattle.codepages.specs.declared.Answer.{Answer}
 use Rattle.codepages.specs.Answer.{answer as answer_of}
@@ -33,11 +33,11 @@ three (written v) = refl
 
 module _ (o : Outcome) (out answer : List ℕ) where
   pub with_answer : (a : Answer) {out' answer' : List ℕ} {r : Step} → leb write_answer_words (length answer) ≡ true → (a ≡ answer_of o) × (out' ≡ after o out)
-      → PutsWords (stored a) answer (Ok 0) answer' r → Converted o out answer write_answer_words out' answer'
+      → PutsWordsTo (stored a) answer (Ok 0) answer' r → Converted o out answer write_answer_words out' answer'
   unfolding pick
   with_answer a {out'} {answer'} {r} t e x =
-      let y : PutsWords (stored (answer_of o)) answer (Ok 0) answer' r = rw e.0 at x in
-      let z : PutsWords (outcome_words o) answer (Ok 0) answer' r = rw (stored_same o) at y in
+      let y : PutsWordsTo (stored (answer_of o)) answer (Ok 0) answer' r = rw e.0 at x in
+      let z : PutsWordsTo (outcome_words o) answer (Ok 0) answer' r = rw (stored_same o) at y in
       record { words = with_room write_answer_words (outcome_words o) answer (three o) t z; out_area = rw t e.1 }
 
   pub without_answer : leb write_answer_words (length answer) ≡ false → Converted o out answer 0 out answer

@@ -12,7 +12,7 @@ use Rattle.std.proofs.Math.Dec.{eqb}
 use borrow.Author.Tests.{eqb-true}
 use Rattle.sizes.specs.Sizes.{most_dimensions}
 use Rattle.layout.specs.Step.{Step}
-use Rattle.std.specs.Prelude.{Ok, Err}
+use Rattle.std.specs.Prelude.{Result, Ok, Err}
 use Rattle.sizes.specs.Basics.{pick}
 use Rattle.grammar.specs.Layout.{little, any_number, passes, Layout, ◌▸◌, times, Tree, spell, Bytes, size}
 use Rattle.grammar.specs.Conventions.{int32}
@@ -33,8 +33,7 @@ use Rattle.grammar.specs.Once.{fresh}
 use Rattle.grammar.specs.Table.{Axes}
 use Rattle.grammar.specs.Records.{entry_index, rows_words, axis_layers, axis_rows, axis_columns, axis_entries}
 use Rattle.grammar.specs.Rules.{entry_rule, three_rule, counts_rule}
-use Rattle.axes.specs.declared.AxisCounts.{AxisCounts}
-use Rattle.axes.specs.declared.AxisCounts.TheVariants as counts
+use Rattle.axes.specs.declared.AxesRead.{AxesRead}
 use Rattle.axes.specs.Laws.Rows.{Kind, Row, Rows, all_rows, after}
 
 -- ---- an entry
@@ -84,14 +83,9 @@ pub record Order : Type 0 where
   pub order : List ℕ
 
 -- an answer of the code
-abbrev pub axes_out : AxisCounts → List ℕ → Out Order
-axes_out (counts.Of l r c p) os = on p record { layers = l; rows = r; columns = c; order = os }
-axes_out (counts.Refused r p) os = off r p
-
--- after a refusal the order is cleared
-abbrev pub Cleared : AxisCounts → List ℕ → Type 0
-Cleared (counts.Of l r c p) os = Unit {0}
-Cleared (counts.Refused r p) os = os ≡ replicate most_dimensions 0
+abbrev pub axes_out : Result AxesRead (ℕ × ℕ) → Out Order
+axes_out (Ok a) = on a.end record { layers = a.layers; rows = a.rows; columns = a.columns; order = a.order }
+axes_out (Err (r, p)) = off r p
 
 pub record AllAxes (t : Tree Axes) (p : ℕ) (y : Order) : Type 0 where
   pub layers : y.layers ≡ axis_layers t

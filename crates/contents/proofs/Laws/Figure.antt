@@ -12,7 +12,7 @@ use Rattle.grammar.specs.Conventions.{choose}
 use Rattle.grammar.specs.Laws.Layout as laws
 use Rattle.grammar.specs.Laws.Layout.Read.{Got, got, no, read}
 use Rattle.layout.specs.Reads.{chain, step, peek, skip}
-use Rattle.fields.specs.Gives.{Shows}
+use Rattle.fields.specs.Gives.{ShowsTo}
 use Rattle.fields.specs.Laws.Shows.{number_shows}
 use Rattle.store.specs.Fields.{Fields, placed}
 use Rattle.layout.specs.Steps.Runs.{begins}
@@ -61,7 +61,7 @@ module _ (version : ℕ) {s : List ℕ} (bs : Bytes s) where
 
   -- one that is read
   pub figure_read : {q r : Step} {n : ℕ} {y : RawValue} {z : Figure} → unread version s ≡ 0 → n ≡ cell_zeros version
-      → Shows (Raw version) (said (Raw version) (raw_says version (ValueIn version below_value))) s q r y → q ≡ skip 0 n s (Ok 0)
+      → ShowsTo (Raw version) (said (Raw version) (raw_says version (ValueIn version below_value))) s q r y → q ≡ skip 0 n s (Ok 0)
       → z ≡ outcome (λ p x. figure x) (λ n p. no_figure) r y → z ≡ figure (value_answer version s).raw
   unfolding figure_with among pick
   figure_read {q} {r} {n} {y} known e h f i =
@@ -77,7 +77,7 @@ module _ (version : ℕ) {s : List ℕ} (bs : Bytes s) where
   unfolding CellValue RawValueOf begins contents raw_says placed answer_of pick figure_with among
   figure_other {q} {n} {x} known e f g a b i = i ∙ go (eqb (unread version s) 0) (read (CellValue version) s 0) refl
     where
-      first : Shows (CellValue version) (after_run 0 (cell_zeros version) (Raw version) (λ t at. t.0)) s (Ok 0) (chain q (step (Raw version) s)) (position_of q, x)
+      first : ShowsTo (CellValue version) (after_run 0 (cell_zeros version) (Raw version) (λ t at. t.0)) s (Ok 0) (chain q (step (Raw version) s)) (position_of q, x)
       first = leading_shows refl (number_shows (record { is = refl }) g) (rw e at f)
 
       go : (c : Bool) (y : Got (Tree (CellValue version))) → read (CellValue version) s 0 ≡ y

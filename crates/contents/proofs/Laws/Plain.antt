@@ -12,7 +12,7 @@ use Rattle.grammar.specs.Laws.Layout.Read.{read_number, lead}
 use Rattle.layout.specs.Reads.{ReadsTo, peek, field, skip}
 use Rattle.layout.specs.Steps.Chain.{empty_of}
 use Rattle.layout.specs.Steps.Numbers.{free_of, arm_of}
-use Rattle.fields.specs.Gives.{Shows}
+use Rattle.fields.specs.Gives.{ShowsTo}
 use Rattle.fields.specs.Laws.Shows.{◌&◌, shows_nothing, shows_of}
 use Rattle.fields.specs.Laws.Gives.{to_shows, number_gives}
 use Rattle.store.specs.Fields.{placed}
@@ -75,7 +75,7 @@ module _ (version : ℕ) {s : List ℕ} (p : Plain version s) where
       arm_of {test = one_of_but (0x31 ∷ 0x58 ∷ []) (left_out version)} {k = λ n. pick (eqb n 0x31) Modifiers empty} {n = 0x58} refl (short_passes (without_long_form version)) empty_of p.second
       (free_of (field_next 1 1 s (omega (arith, p.long))))
 
-  plain_shows : (v : Layout) → Shows (RawValueOf version v) (said (RawValueOf version v) (raw_says version v)) s (Ok 0) (Ok 14) (plain_raw s)
+  plain_shows : (v : Layout) → ShowsTo (RawValueOf version v) (said (RawValueOf version v) (raw_says version v)) s (Ok 0) (Ok 14) (plain_raw s)
   unfolding Form01 says_01 placed chosen either pick among
   plain_shows v =
       form_shows version v {n = 1} refl refl refl

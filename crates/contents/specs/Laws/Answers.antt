@@ -14,7 +14,7 @@ use Rattle.layout.specs.Reads.{forget, step, chain, ReadsTo, peek, skip}
 use Rattle.grammar.specs.Laws.Layout as laws
 use Rattle.grammar.proofs.Laws.Layout as exactly
 use Rattle.layout.specs.Steps.Runs.{begins, leading_of}
-use Rattle.fields.specs.Gives.{Found, Shows}
+use Rattle.fields.specs.Gives.{Found, ShowsTo}
 use Rattle.fields.specs.Laws.Shows.{Read, tree_of, number_shows}
 use Rattle.store.specs.Fields.{placed}
 use Rattle.grammar.specs.Value.{cell_zeros, CellValue, RawValueOf, ValueIn}
@@ -50,8 +50,8 @@ module _ {A : Type 0} {b n : ℕ} {a : Layout} {f : Tree a → ℕ → A} where
         is = rw y.is;
       }
 
-  pub leading_shows : {s : List ℕ} {st q r : Step} {x : A} → begins a ≡ true → Shows a f s q r x → q ≡ skip b n s st
-      → Shows (leading b n a) (after_run b n a f) s st r (position_of q, x)
+  pub leading_shows : {s : List ℕ} {st q r : Step} {x : A} → begins a ≡ true → ShowsTo a f s q r x → q ≡ skip b n s st
+      → ShowsTo (leading b n a) (after_run b n a f) s st r (position_of q, x)
   unfolding skip
   leading_shows {s} {st} {q} {r} h y e =
       let reads = leading_of h y.reads e in
@@ -78,7 +78,7 @@ answers_unread e z h = record {
 }
 
 -- what was read is the derivation in front
-pub derived_in_front : {B : Type 0} {g : Layout} {f : Tree g → ℕ → B} {s : List ℕ} {r : Step} {y : B} → Bytes s → Shows g f s (Ok 0) r y
+pub derived_in_front : {B : Type 0} {g : Layout} {f : Tree g → ℕ → B} {s : List ℕ} {r : Step} {y : B} → Bytes s → ShowsTo g f s (Ok 0) r y
     → (t : Tree g) (rest : List ℕ) → Spells g s t rest → (r ≡ Ok (size g t)) × (f t 0 ≡ y)
 unfolding step chain size
 derived_in_front {g = g} {f = f} {s} {r} bs h t rest sp =
@@ -97,7 +97,7 @@ failed {g} {s} bs h n p e =
     h.is ∙ ap forget i
 
 pub answers_read : {A B : Type 0} {version : ℕ} {g : Layout} {f : Tree g → ℕ → B} {says : Tree g → A} {refused : ℕ → ℕ → A} {s : List ℕ} {r : Step} {y : B} {x : A} (K : ℕ → B → A)
-    → unread version s ≡ 0 → Bytes s → Shows g f s (Ok 0) r y → ((t : Tree g) → K (size g t) (f t 0) ≡ says t) → x ≡ outcome K refused r y → Answers version g says refused s x
+    → unread version s ≡ 0 → Bytes s → ShowsTo g f s (Ok 0) r y → ((t : Tree g) → K (size g t) (f t 0) ≡ says t) → x ≡ outcome K refused r y → Answers version g says refused s x
 answers_read K known bs h same is = record {
   not_read = λ n i z. absurd (z (sym i ∙ known));
   derived = λ _ t rest sp. let d = derived_in_front bs h t rest sp in is ∙ rw (d.0, ← d.1) (same t);
@@ -111,7 +111,7 @@ module _ (version : ℕ) where
   value_of p y = record { refusal = 0; place = 0; length = p; zeros = y.0; raw = y.1 }
 
   pub value_answers : {s : List ℕ} {q r : Step} {n : ℕ} {y : RawValue} {x : Contents} → unread version s ≡ 0 → Bytes s → n ≡ cell_zeros version
-      → Shows (Raw version) (said (Raw version) (raw_says version (ValueIn version below_value))) s q r y → q ≡ skip 0 n s (Ok 0) → x ≡ outcome value_of refused r (position_of q, y)
+      → ShowsTo (Raw version) (said (Raw version) (raw_says version (ValueIn version below_value))) s q r y → q ≡ skip 0 n s (Ok 0) → x ≡ outcome value_of refused r (position_of q, y)
       → ValueAnswers version s x
   unfolding CellValue RawValueOf begins contents placed
   value_answers known bs e h f is =

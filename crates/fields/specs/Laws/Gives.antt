@@ -1,7 +1,7 @@
 -- The laws by which a reader that gives the fields is proved from what its callees ensure.
-use Rattle.std.specs.Prelude.{◌≡◌, refl, ◌⊎◌, Bool, true, false, ◌||◌, List, [], ◌∷◌, ℕ, zero, suc, ◌+◌, ◌-◌, ◌≤◌, ◌<◌, take, drop, eqb, leb}
+use Rattle.std.specs.Prelude.{◌≡◌, refl, ◌⊎◌, Bool, true, false, ◌||◌, List, [], ◌∷◌, ℕ, zero, suc, ◌+◌, ◌-◌, ◌≤◌, ◌<◌, take, drop, replicate, eqb, leb}
 use Rattle.std.proofs.Math.Path.{ap}
-use Rattle.std.proofs.Common.{sym, ◌∙◌, inl, inr, sub-one, arith, length-drop, length-take-le}
+use Rattle.std.proofs.Common.{sym, ◌∙◌, inl, inr, sub-one, add-one, arith, length-drop, length-take-le}
 use Rattle.std.proofs.Math.Logic.{⊎_elim}
 use Rattle.std.proofs.lemmas.Bool.{false≢true}
 use Rattle.std.proofs.Math.Nat.{add-sub_cancel_left}
@@ -21,25 +21,25 @@ use Rattle.layout.specs.Steps.Chain.{empty_of, times_none, times_more}
 use Rattle.store.specs.declared.Name.{Name}
 use Rattle.store.specs.Values.{bit}
 use Rattle.store.specs.Fields.{lent, Fields, placed_all, placed}
-use Rattle.fields.specs.Gives.{Found, Shows, Gives, GivesValue, name_at}
+use Rattle.fields.specs.Gives.{Found, ShowsTo, GivesTo, GivesValueTo, name_at}
 use Rattle.fields.specs.Laws.Shows.{Read, tree_of, between, Numbered, numbered_of, peeked, switch_shows, shows_of, never_next}
 use Rattle.fields.specs.Laws.Shows as shows
 
 -- the fields are something that is said of a tree
-pub to_shows : {g : Layout} {s : List ℕ} {st r : Step} {f : Fields g} → Gives g s st r f → Shows g (placed g) s st r f
+pub to_shows : {g : Layout} {s : List ℕ} {st r : Step} {f : Fields g} → GivesTo g s st r f → ShowsTo g (placed g) s st r f
 to_shows x = record { reads = x.reads; found = x.found }
 
-of_shows : {g : Layout} {s : List ℕ} {st r : Step} {f : Fields g} → Shows g (placed g) s st r f → Gives g s st r f
+of_shows : {g : Layout} {s : List ℕ} {st r : Step} {f : Fields g} → ShowsTo g (placed g) s st r f → GivesTo g s st r f
 of_shows x = record { reads = x.reads; found = x.found }
 
 -- ---- one after the other
 
 infixl 20 ◌⟩◌
-pub ◌⟩◌ : {a b : Layout} {s : List ℕ} {st q r : Step} {f : Fields a} {h : Fields b} → Gives a s st q f → Gives b s q r h → Gives (a ▸ b) s st r (f, h)
+pub ◌⟩◌ : {a b : Layout} {s : List ℕ} {st q r : Step} {f : Fields a} {h : Fields b} → GivesTo a s st q f → GivesTo b s q r h → GivesTo (a ▸ b) s st r (f, h)
 unfolding placed
 ◌⟩◌ {a} {b} x y = of_shows (shows.◌&◌ {a = a} {b = b} (to_shows x) (to_shows y))
 
-pub empty_gives : {s : List ℕ} {st : Step} → Gives empty s st st tt
+pub empty_gives : {s : List ℕ} {st : Step} → GivesTo empty s st st tt
 unfolding read placed
 empty_gives {s} {st} = record {
   reads = empty_of;
@@ -61,7 +61,7 @@ first_of_two {a = a} {n = n} x e = eqb-true n a (go (eqb n a) (rw e at x.passed)
 
 -- a number alone, whose value is known
 found_number : {o : Order} {w : ℕ} {test : Test} {s : List ℕ} {st r : Step} {v : ℕ} → ReadsTo (number o w test (λ _. empty)) s st r
-    → ((at n : ℕ) → st ≡ Ok at → Numbered o w test (drop at s) at n → n ≡ v) → Gives (number o w test (λ _. empty)) s st r (v, tt)
+    → ((at n : ℕ) → st ≡ Ok at → Numbered o w test (drop at s) at n → n ≡ v) → GivesTo (number o w test (λ _. empty)) s st r (v, tt)
 unfolding placed
 found_number {o} {w} {test} {s} {v = v} h k = record {
   reads = h;
@@ -72,11 +72,11 @@ found_number {o} {w} {test} {s} {v = v} h k = record {
 }
 
 pub number_gives : {o : Order} {w : ℕ} {test : Test} {s : List ℕ} {st r : Step} {v : ℕ} → ReadsTo (number o w test (λ _. empty)) s st r → v ≡ peek o w s st
-    → Gives (number o w test (λ _. empty)) s st r (v, tt)
+    → GivesTo (number o w test (λ _. empty)) s st r (v, tt)
 number_gives {s = s} h e = found_number h (λ at n i x. peeked s at x i e)
 
 pub fixed_gives : {o : Order} {w n : ℕ} {s : List ℕ} {st r : Step} → ReadsTo (number o w (the_number n) (λ _. empty)) s st r
-    → Gives (number o w (the_number n) (λ _. empty)) s st r (n, tt)
+    → GivesTo (number o w (the_number n) (λ _. empty)) s st r (n, tt)
 unfolding passes
 fixed_gives {n = n} h = found_number h (λ at m i x. eqb-true m n x.passed)
 
@@ -92,7 +92,7 @@ bit_of false = refl
 
 -- a bool, which is 0 or 1
 pub bool_gives : {o : Order} {w : ℕ} {s : List ℕ} {st r : Step} {v : ℕ} → ReadsTo (number o w a_bool (λ _. empty)) s st r → v ≡ peek o w s st
-    → Gives (number o w a_bool (λ _. empty)) s st r (bit (eqb v 1), tt)
+    → GivesTo (number o w a_bool (λ _. empty)) s st r (bit (eqb v 1), tt)
 unfolding passes
 bool_gives {s = s} {v = v} h e =
     found_number h (λ at n i x. one_bit n (leb-true n 1 x.passed) ∙ ap (λ (m : ℕ). bit (eqb m 1)) (peeked s at x i e))
@@ -100,14 +100,14 @@ bool_gives {s = s} {v = v} h e =
 -- a number, which is n where it is read, and then what n asks for
 pub switch_known : {o : Order} {w : ℕ} {test : Test} (k : ℕ → Layout) {s : List ℕ} {st q r : Step} {n : ℕ} {f : Fields (k n)}
     → ((at m : ℕ) → st ≡ Ok at → Numbered o w test (drop at s) at m → m ≡ n) → ReadsTo (number o w test (λ _. empty)) s st q
-    → Gives (k n) s q r f → Gives (number o w test k) s st r (n, f)
+    → GivesTo (k n) s q r f → GivesTo (number o w test k) s st r (n, f)
 unfolding placed
 switch_known k {n = n} {f = f} known h y =
     of_shows (switch_shows k (λ m t at. (m, placed (k m) t at)) known h (shows_of (λ (f : Fields (k n)). (n, f)) (λ t at. refl) (to_shows y)))
 
 -- the same, where v is the number that comes next
 pub switch_gives : {o : Order} {w : ℕ} {test : Test} (k : ℕ → Layout) {s : List ℕ} {st q r : Step} {v : ℕ} {f : Fields (k v)}
-    → v ≡ peek o w s st → ReadsTo (number o w test (λ _. empty)) s st q → Gives (k v) s q r f → Gives (number o w test k) s st r (v, f)
+    → v ≡ peek o w s st → ReadsTo (number o w test (λ _. empty)) s st q → GivesTo (k v) s q r f → GivesTo (number o w test k) s st r (v, f)
 switch_gives k {s = s} e h y = switch_known k (λ at m i x. peeked s at x i e) h y
 
 -- ---- a value alone, and after a refusal
@@ -132,18 +132,18 @@ refused_peek o w test s (Ok at) r h n p e = go (read_number o w (drop at s) at) 
         absurd (let z : ◌≡◌ {A = ℕ} 0 1 = cc in omega arith)
 
 -- what is refused has no fields
-pub refused_gives : {g : Layout} {s : List ℕ} {st r : Step} {f : Fields g} {n p : ℕ} → r ≡ Err (n, p) → ReadsTo g s st r → Gives g s st r f
+pub refused_gives : {g : Layout} {s : List ℕ} {st r : Step} {f : Fields g} {n p : ℕ} → r ≡ Err (n, p) → ReadsTo g s st r → GivesTo g s st r f
 refused_gives e h = record { reads = h; found = λ bs at q i j. never_next j e }
 
 big_not_one : {v k : ℕ} → v ≡ k → leb k 1 ≡ false → v ≡ 1 → ⊥
 big_not_one {v} {k} e z j = omega (arith, leb-false k 1 z)
 
 -- what is read is no refusal
-pub next_value : {A : Type 0} {g : Layout} {s : List ℕ} {st r : Step} {f : Fields g} {v zero : A} {p : ℕ} → r ≡ Ok p → Gives g s st r f → GivesValue g s st r f v zero
+pub next_value : {A : Type 0} {g : Layout} {s : List ℕ} {st r : Step} {f : Fields g} {v zero : A} {p : ℕ} → r ≡ Ok p → GivesTo g s st r f → GivesValueTo g s st r f v zero
 next_value e h = record { gives = h; none = λ n q i. never_next e i }
 
 module _ {o : Order} {w : ℕ} {s : List ℕ} {st r : Step} {v : ℕ} where
-  pub any_value : ReadsTo (number o w any_number (λ _. empty)) s st r → v ≡ peek o w s st → GivesValue (number o w any_number (λ _. empty)) s st r (v, tt) v 0
+  pub any_value : ReadsTo (number o w any_number (λ _. empty)) s st r → v ≡ peek o w s st → GivesValueTo (number o w any_number (λ _. empty)) s st r (v, tt) v 0
   unfolding passes
   any_value h e = record {
     gives = number_gives h e;
@@ -151,19 +151,19 @@ module _ {o : Order} {w : ℕ} {s : List ℕ} {st r : Step} {v : ℕ} where
   }
 
   pub bool_value : ReadsTo (number o w a_bool (λ _. empty)) s st r → v ≡ peek o w s st
-      → GivesValue (number o w a_bool (λ _. empty)) s st r (bit (eqb v 1), tt) (eqb v 1) false
+      → GivesValueTo (number o w a_bool (λ _. empty)) s st r (bit (eqb v 1), tt) (eqb v 1) false
   unfolding passes
   bool_value h e = record {
     gives = bool_gives h e;
     none = λ n p i. ⊎_elim (λ z. ne_eqb v 1 (λ j. omega arith)) (λ z. ne_eqb v 1 (λ j. big_not_one e z j)) (refused_peek o w a_bool s st r h n p i);
   }
 
-pub refused_value : {A : Type 0} {g : Layout} {s : List ℕ} {st r : Step} {f : Fields g} {v : A} {n p : ℕ} → r ≡ Err (n, p) → ReadsTo g s st r → GivesValue g s st r f v v
+pub refused_value : {A : Type 0} {g : Layout} {s : List ℕ} {st r : Step} {f : Fields g} {v : A} {n p : ℕ} → r ≡ Err (n, p) → ReadsTo g s st r → GivesValueTo g s st r f v v
 refused_value e h = record { gives = refused_gives e h; none = λ n p i. refl }
 
 -- ---- that many times
 
-pub none_gives : {a : Layout} {s : List ℕ} {st : Step} → Gives (times 0 a) s st st []
+pub none_gives : {a : Layout} {s : List ℕ} {st : Step} → GivesTo (times 0 a) s st st []
 unfolding read read_times placed placed_all
 none_gives {a} {s} {st} = record {
   reads = times_none 0 (omega arith);
@@ -183,14 +183,19 @@ found_more {a} {s} {n} {at} {m} {p} bs x y =
       is = rw (← place, x.is, y.is);
     }
 
-pub more_gives : {a : Layout} {s : List ℕ} {n : ℕ} {st q r : Step} {f : Fields a} {fs : List (Fields a)} → Gives a s st q f → Gives (times n a) s q r fs
-    → Gives (times (suc n) a) s st r (f ∷ fs)
+pub more_gives : {a : Layout} {s : List ℕ} {n : ℕ} {st q r : Step} {f : Fields a} {fs : List (Fields a)} → GivesTo a s st q f → GivesTo (times n a) s q r fs
+    → GivesTo (times (suc n) a) s st r (f ∷ fs)
 more_gives {a} {n = n} x y = record {
   reads = times_more (suc n) (omega arith) x.reads (rw sub-one y.reads);
   found = λ bs at p e e'.
       let m = between y.reads e' in
       found_more {a = a} bs (x.found bs at m.0 e m.1) (y.found bs m.0 p m.1 e');
 }
+
+-- so many of the same value
+pub same_gives : {a : Layout} {s : List ℕ} {n m : ℕ} {st q r : Step} {f : Fields a} → n ≡ m + 1 → GivesTo a s st q f → GivesTo (times m a) s q r (replicate m f)
+    → GivesTo (times n a) s st r (replicate n f)
+same_gives e x y = rw (e, add-one) (more_gives x y)
 
 -- ---- names
 
@@ -220,7 +225,7 @@ named o w c s at t r p e pos = go (counted_view o w (drop at s) at) e
     go too_few i = absurd (let z : ◌≡◌ {A = ℕ} 0 1 = cc in omega arith)
 
 pub string_gives : {o : Order} {w : ℕ} {c : Content} {s : List ℕ} {st r : Step} {p : Span} {n : Name} → 0 < w → ReadsTo (string o w c) s st r → p ≡ part o w s st
-    → n ≡ name_at s p → Gives (string o w c) s st r (lent n)
+    → n ≡ name_at s p → GivesTo (string o w c) s st r (lent n)
 unfolding placed
 string_gives {o} {w} {c} {s} {st} {r} {p} {n} h y a e = record {
   reads = y;
@@ -229,6 +234,29 @@ string_gives {o} {w} {c} {s} {st} {r} {p} {n} h y a e = record {
       let k : p ≡ part o w s (Ok at) = rw i at a in
       record { tree = x.tree; reads = x.is; is = ap lent (sym (named o w c s at x.tree (drop q s) q x.is h) ∙ sym (e ∙ rw k)) };
 }
+
+-- a part that was announced does not end before it begins, and has its bytes
+start_of : Span → ℕ
+start_of (Ok (b, e)) = b
+start_of (Err (n, p)) = 0
+
+end_of : Span → ℕ
+end_of (Ok (b, e)) = e
+end_of (Err (n, p)) = 0
+
+pub part_length : (o : Order) (w : ℕ) (s : List ℕ) (st : Step) (b e : ℕ) → 0 < w → ◌≡◌ {A = Span} (Ok (b, e)) (part o w s st)
+    → (b ≤ e) × (length (bytes s (Ok (b, e))) ≡ e - b)
+unfolding part start_of end_of
+part_length o w s (Err (n, p)) b e pos i = absurd (let z : ◌≡◌ {A = ℕ} 0 1 = cc in omega arith)
+part_length o w s (Ok at) b e pos i = go (counted_view o w (drop at s) at) i
+  where
+    go : {x : Got (List ℕ)} → Announced w (drop at s) at x → ◌≡◌ {A = Span} (Ok (b, e)) (span_of x) → (b ≤ e) × (length (bytes s (Ok (b, e))) ≡ e - b)
+    go (announced n l) j =
+        let short : length (take n (drop w (drop at s))) ≡ n = announced_length w n (drop at s) l in
+        let b_is : b ≡ at + w = ap start_of j in
+        let e_is : e ≡ at + w + n = ap end_of j ∙ ap (λ (k : ℕ). at + w + k) short in
+        rw (b_is, e_is) (omega arith, bytes_length s (at + w) n (omega (arith, length-drop at s)) ∙ sym (add-sub_cancel_left (at + w) n))
+    go too_few j = absurd (let z : ◌≡◌ {A = ℕ} 0 1 = cc in omega arith)
 
 -- where a string that was read ends
 ended : {A : Type 0} (b : Bool) (c t : A) (r r' : List ℕ) (p p' n : ℕ) → pick b (got c r p) (no zero_byte n) ≡ got t r' p' → p ≡ p'
@@ -257,7 +285,7 @@ module _ {o : Order} {w : ℕ} {c : Content} {s : List ℕ} {st r : Step} {at p 
       omega (arith, string_end o w c s at x.tree (drop p s) p x.is)
 
   -- the same by where it ends
-  pub string_to : Gives (string o w c) s st r (lent (record { place = at + w; length = p - at - w }))
+  pub string_to : GivesTo (string o w c) s st r (lent (record { place = at + w; length = p - at - w }))
   unfolding placed
   string_to = record {
     reads = y;
@@ -275,7 +303,7 @@ module _ {o : Order} {w : ℕ} {c : Content} {s : List ℕ} {st r : Step} {at p 
   }
 
 -- a value is a field
-pub of_value_lem : {A : Type 0} {g : Layout} {s : List ℕ} {st r : Step} {f : Fields g} {v zero : A} → GivesValue g s st r f v zero → Gives g s st r f
+pub of_value_lem : {A : Type 0} {g : Layout} {s : List ℕ} {st r : Step} {f : Fields g} {v zero : A} → GivesValueTo g s st r f v zero → GivesTo g s st r f
 of_value_lem x = x.gives
 
 -- a straight line of calls: `search gives` finds the chain

@@ -1,12 +1,17 @@
 -- Letters compared one by one, as one number.
-use Rattle.std.specs.Prelude.{◌≡◌, Bool, List, ℕ, ◌+◌, ◌-◌, ◌≤◌, ◌<◌, length, take, drop, get_or, eqb}
+use Rattle.std.specs.Prelude.{◌≡◌, refl, Bool, List, [], leb, ℕ, ◌+◌, ◌-◌, ◌≤◌, ◌<◌, length, take, drop, get_or, eqb}
 use Rattle.std.proofs.Common.{sym, ap, ◌∙◌, arith, length-drop, ext_get_or, length-take-le, get_or-take, get_or-drop}
 use Rattle.std.proofs.Math.Bool.{true, false}
-use borrow.Author.Tests.{le-leb, lt-leb, eq-eqb, ne_eqb}
+use Rattle.std.proofs.lemmas.Bool.{false≢true}
+use Rattle.std.proofs.lemmas.Bool.Decides.{Decides-eqb}
+use Rattle.std.proofs.lemmas.Slice.Eq.{slice_eq-Decides}
+use Rattle.std.specs.Cmp.Lexicographic.{pointwise}
+use borrow.Author.Tests.{le-leb, lt-leb, eq-eqb, ne_eqb, leb-false}
 use Rattle.std.specs.Prelude.{Ok, Err}
 use Rattle.sizes.specs.Basics.{pick}
 use Rattle.grammar.specs.Layout.{Order, Test, passes, empty, number, Bytes, undigits}
 use Rattle.grammar.specs.Laws.Layout.Read.{bind, read_number, read, refusal}
+use Rattle.grammar.specs.Part.{part_of}
 use Rattle.layout.specs.Reads.{step, chain, ReadsTo}
 use Rattle.grammar.specs.Laws.Layout.Spelt.{same_letters}
 use Rattle.layout.specs.Steps.Slices.{drop_bytes, take_bytes}
@@ -34,6 +39,24 @@ module _ (s text : List ℕ) (at : ℕ) (fits : length text ≤ length s - at) w
       sym (ne_eqb _ _ (λ e.
       let same : take (length text) (drop at s) ≡ text = same_letters o _ text (take_bytes (length text) (drop_bytes at hs)) ht part_length e in
       ne (sym (part_at k l) ∙ ap (λ (x : List ℕ). get_or x k 0) same)))
+
+-- ---- comparing the part where they would stand
+
+pub part_here : (s : List ℕ) (at n : ℕ) → n ≤ length s - at → part_of s at n ≡ take n (drop at s)
+unfolding part_of pick
+part_here s at n h = go (leb (at + n) (length s)) refl
+  where
+    go : (b : Bool) → leb (at + n) (length s) ≡ b → pick b (take n (drop at s)) [] ≡ take n (drop at s)
+    go true e = refl
+    go false e =
+        let l = leb-false (at + n) (length s) e in
+        let z : n ≡ 0 = omega arith in
+        rw z
+
+pub slices_same : (o : Order) (xs ys : List ℕ) → Bytes xs → Bytes ys → length xs ≡ length ys → (b : Bool) → b ≡ pointwise eqb xs ys
+    → b ≡ eqb (undigits o xs) (undigits o ys)
+slices_same o xs ys hx hy l true e = sym (eq-eqb _ _ (ap (undigits o) ((slice_eq-Decides Decides-eqb xs ys true e).0 refl)))
+slices_same o xs ys hx hy l false e = sym (ne_eqb _ _ (λ i. false≢true ((slice_eq-Decides Decides-eqb xs ys false e).1 (same_letters o xs ys hx hy l i))))
 
 -- ---- a number that is tested, at a position: it does not fit, or does not pass, or is read
 

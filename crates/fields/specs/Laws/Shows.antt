@@ -15,7 +15,7 @@ use Rattle.grammar.specs.Laws.Layout.IfGot.{IfGot, is_got, is_no, bind_got, pick
 use Rattle.layout.specs.Reads.{forget, step, chain, ReadsTo, peek}
 use Rattle.layout.specs.Steps.Chain.{then}
 use Rattle.layout.specs.Steps.Numbers.{switch_of}
-use Rattle.fields.specs.Gives.{Found, Shows}
+use Rattle.fields.specs.Gives.{Found, ShowsTo}
 
 -- a reading that ends at a position has a tree
 pub record Read (g : Layout) (s : List ℕ) (at p : ℕ) : Type 0 where
@@ -62,7 +62,7 @@ module _ {A B : Type 0} {a b : Layout} {f : Tree a → ℕ → A} {h : Tree b �
       }
 
   infixl 20 ◌&◌
-  pub ◌&◌ : {s : List ℕ} {st q r : Step} {x : A} {y : B} → Shows a f s st q x → Shows b h s q r y → Shows (a ▸ b) (both a b f h) s st r (x, y)
+  pub ◌&◌ : {s : List ℕ} {st q r : Step} {x : A} {y : B} → ShowsTo a f s st q x → ShowsTo b h s q r y → ShowsTo (a ▸ b) (both a b f h) s st r (x, y)
   x & y = record {
     reads = then y.reads x.reads;
     found = λ bs at p e e'.
@@ -72,7 +72,7 @@ module _ {A B : Type 0} {a b : Layout} {f : Tree a → ℕ → A} {h : Tree b �
 
 -- of something that is made from what is said
 pub shows_of : {A B : Type 0} {g : Layout} {f : Tree g → ℕ → A} {h : Tree g → ℕ → B} {s : List ℕ} {st r : Step} {x : A} (k : A → B)
-    → ((t : Tree g) (at : ℕ) → k (f t at) ≡ h t at) → Shows g f s st r x → Shows g h s st r (k x)
+    → ((t : Tree g) (at : ℕ) → k (f t at) ≡ h t at) → ShowsTo g f s st r x → ShowsTo g h s st r (k x)
 shows_of k e y = record {
   reads = y.reads;
   found = λ bs at p i j.
@@ -84,14 +84,14 @@ shows_of k e y = record {
 abbrev pub unsaid : (g : Layout) → Tree g → ℕ → Unit {0}
 unsaid g t at = tt
 
-pub shows_nothing : {g : Layout} {s : List ℕ} {st r : Step} → ReadsTo g s st r → Shows g (unsaid g) s st r tt
+pub shows_nothing : {g : Layout} {s : List ℕ} {st r : Step} → ReadsTo g s st r → ShowsTo g (unsaid g) s st r tt
 shows_nothing h = record {
   reads = h;
   found = λ bs at p i j. let x = tree_of h i j in record { tree = x.tree; reads = x.is; is = refl };
 }
 
 -- something is said of its place alone
-pub shows_at : {A : Type 0} {g : Layout} {s : List ℕ} {st r : Step} {x : A} (f : ℕ → A) → ReadsTo g s st r → ((at : ℕ) → st ≡ Ok at → f at ≡ x) → Shows g (λ t at. f at) s st r x
+pub shows_at : {A : Type 0} {g : Layout} {s : List ℕ} {st r : Step} {x : A} (f : ℕ → A) → ReadsTo g s st r → ((at : ℕ) → st ≡ Ok at → f at ≡ x) → ShowsTo g (λ t at. f at) s st r x
 shows_at f h e = record {
   reads = h;
   found = λ bs at p i j. let x = tree_of h i j in record { tree = x.tree; reads = x.is; is = e at i };
@@ -101,7 +101,7 @@ shows_at f h e = record {
 pub never_next : {A : Type 0} {r : Step} {p n q : ℕ} → r ≡ Ok p → r ≡ Err (n, q) → A
 never_next e f = absurd (let z : ◌≡◌ {A = ℕ} 0 1 = cc in omega arith)
 
-pub refused_shows : {A : Type 0} {g : Layout} {f : Tree g → ℕ → A} {s : List ℕ} {st r : Step} {x : A} {n p : ℕ} → r ≡ Err (n, p) → ReadsTo g s st r → Shows g f s st r x
+pub refused_shows : {A : Type 0} {g : Layout} {f : Tree g → ℕ → A} {s : List ℕ} {st r : Step} {x : A} {n p : ℕ} → r ≡ Err (n, p) → ReadsTo g s st r → ShowsTo g f s st r x
 refused_shows e h = record { reads = h; found = λ bs at q i j. never_next j e }
 
 -- ---- numbers
@@ -152,7 +152,7 @@ peeked s at x i e = sym (e ∙ rw (i, x.number_is))
 
 -- a number is said, and nothing of what it asks for
 pub number_shows : {o : Order} {w : ℕ} {test : Test} {k : ℕ → Layout} {s : List ℕ} {st r : Step} {v : ℕ} → ReadsTo (number o w test k) s st r → v ≡ peek o w s st
-    → Shows (number o w test k) (λ t at. t.0) s st r v
+    → ShowsTo (number o w test k) (λ t at. t.0) s st r v
 number_shows {o} {w} {test} {k} {s} h e = record {
   reads = h;
   found = λ bs at p i j.
@@ -195,7 +195,7 @@ module _ {A : Type 0} {o : Order} {w : ℕ} {test : Test} (k : ℕ → Layout) (
       let e : n ≡ peek o w s st = peeked s a.0 z a.1 refl in
       rw (← e) y
 
-  pub switch_shows : {r : Step} {x : A} → Shows (k n) (F n) s q r x → Shows (number o w test k) switched s st r x
+  pub switch_shows : {r : Step} {x : A} → ShowsTo (k n) (F n) s q r x → ShowsTo (number o w test k) switched s st r x
   switch_shows y = record {
     reads = switch_of {k = k} (switch_reads q refl y.reads) refl h;
     found = λ bs at p i i'.

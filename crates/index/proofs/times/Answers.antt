@@ -5,5 +5,5 @@ use mir.Facts.{Fits-le, Fits-lit}
 use Rattle.sizes.specs.Sizes.{most_places}
 use Rattle.index.proofs.times.Goals as goal
 
-pub overflow_mul-q : goal.overflow_mul-q
-overflow_mul-q c = Fits-le (mul-le-mul {m₂ = most_places} c.requires (omega arith)) (Fits-lit tt)
+pub overflow_mul-p : goal.overflow_mul-p
+overflow_mul-p c = Fits-le (mul-le-mul {m₂ = most_places} c.requires (omega arith)) (Fits-lit tt)

@@ -4,7 +4,7 @@ use Rattle.std.proofs.Common.{subst}
 use Rattle.layout.specs.Step.{Step}
 use Rattle.grammar.specs.Layout.{Tree}
 use Rattle.store.specs.Fields.{Fields, placed}
-use Rattle.fields.specs.Gives.{Shows, Gives}
+use Rattle.fields.specs.Gives.{ShowsTo, GivesTo}
 use Rattle.fields.specs.Laws.Gives.{to_shows}
 use Rattle.fields.specs.Laws.Shows.{shows_of}
 use Rattle.look.specs.declared.Separator as border
@@ -28,8 +28,8 @@ of_border NotDrawn = refl
 of_border (Drawn color style width) = refl
 
 -- what is said of the separator that was read
-pub shows_listed : {s : List ℕ} {st r : Step} (x : border.Separator) → Gives Separator s st r (values.separator x) → Shows Separator (λ t at. listed_separator t) s st r (listed_border x)
+pub shows_listed : {s : List ℕ} {st r : Step} (x : border.Separator) → GivesTo Separator s st r (values.separator x) → ShowsTo Separator (λ t at. listed_separator t) s st r (listed_border x)
 unfolding placed
 shows_listed {s} {st} {r} x h =
-    subst (λ (b : Bool). Shows Separator (λ t at. listed_separator t) s st r b) (of_border x)
+    subst (λ (b : Bool). ShowsTo Separator (λ t at. listed_separator t) s st r b) (of_border x)
     (shows_of (λ (f : Fields Separator). fields_listed (eqb f.0 1) f.1) (λ t at. of_tree (eqb t.0 1) t.1 (at + 1)) (to_shows h))

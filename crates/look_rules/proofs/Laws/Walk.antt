@@ -14,7 +14,7 @@ use Rattle.layout.specs.Reads.{forget, step, chain, ReadsTo, peek}
 use Rattle.layout.specs.Steps.Chain.{then, forget_map, chain_next}
 use Rattle.layout.specs.Steps.Slices.{drop_bytes}
 use Rattle.store.specs.Fields.{Fields, placed}
-use Rattle.fields.specs.Gives.{Shows, Gives, GivesValue}
+use Rattle.fields.specs.Gives.{ShowsTo, GivesTo, GivesValueTo}
 use Rattle.fields.specs.Laws.Shows.{numbered_of, peeked, shows_of}
 use Rattle.fields.specs.Laws.Gives.{to_shows}
 use Rattle.look_rules.specs.StyleRule.{◌▹◌, each, asks}
@@ -53,10 +53,10 @@ pub of_reads : {g : Layout} {s : List ℕ} {st r : Step} → ReadsTo g s st r �
 unfolding check step
 of_reads h = record { is = λ bs. h.is }
 
-pub gives_reads : {g : Layout} {s : List ℕ} {st r : Step} {f : Fields g} → Gives g s st r f → ReadsTo g s st r
+pub gives_reads : {g : Layout} {s : List ℕ} {st r : Step} {f : Fields g} → GivesTo g s st r f → ReadsTo g s st r
 gives_reads h = h.reads
 
-pub value_reads : {A : Type 0} {g : Layout} {s : List ℕ} {st r : Step} {f : Fields g} {v zero : A} → GivesValue g s st r f v zero → ReadsTo g s st r
+pub value_reads : {A : Type 0} {g : Layout} {s : List ℕ} {st r : Step} {f : Fields g} {v zero : A} → GivesValueTo g s st r f v zero → ReadsTo g s st r
 value_reads h = h.gives.reads
 
 -- ---- that many times
@@ -139,7 +139,7 @@ switch_of {o} {w} {test} k {s} {st} {v = v} e h y = record {
 
 -- b is the test of what was read from st to q
 pub asks_of : {g : Layout} {n : ℕ} {test : Tree g → Bool} {s : List ℕ} {st q r : Step} {b good : Bool}
-    → Shows g (λ t at. test t) s st q b → good ≡ b → r ≡ told st q good n → Checks (asks g n test) s st r
+    → ShowsTo g (λ t at. test t) s st q b → good ≡ b → r ≡ told st q good n → Checks (asks g n test) s st r
 unfolding check judge step told chain bind pick
 asks_of {g} {n} {test} {s} {st} {q} {r} {b} h i e = record { is = λ bs. e ∙ rw i (go bs st refl h.reads.is) }
   where
@@ -168,7 +168,7 @@ asks_of {g} {n} {test} {s} {st} {q} {r} {b} h i e = record { is = λ bs. e ∙ r
 
 -- of a number alone, by its value
 pub asks_number : {o : Order} {w : ℕ} {t : Test} (ok : ℕ → Bool) {n : ℕ} {s : List ℕ} {st q r : Step} {v : ℕ} {good : Bool}
-    → Gives (number o w t (λ _. empty)) s st q (v, tt) → good ≡ ok v → r ≡ told st q good n → Checks (asks (number o w t (λ _. empty)) n (λ x. ok x.0)) s st r
+    → GivesTo (number o w t (λ _. empty)) s st q (v, tt) → good ≡ ok v → r ≡ told st q good n → Checks (asks (number o w t (λ _. empty)) n (λ x. ok x.0)) s st r
 unfolding placed
 asks_number {o} {w} {t} ok h i e = asks_of (shows_of (λ (f : Fields (number o w t (λ _. empty))). ok f.0) (λ x at. refl) (to_shows h)) i e
 

@@ -1,11 +1,6 @@
--- The loop keeps whether a 0 was found: that, or that one stands from i on, is that one stands among them.
-use Prim.Native.Nat.{◌-◌}
-use lib.ListN.{length}
+-- The loop keeps whether a 0 was found: that, or that one stands from the next byte on, is that one stands among them.
 use Rattle.nulls.proofs.NullBytes.{NullFrom}
 use Rattle.nulls.proofs.any_null.Given as goal
 
-abbrev pub invariant-loop-i : goal.invariant-loop-i
-invariant-loop-i l = NullFrom l.s l.i l.found
-
-abbrev pub decreases-loop-i : goal.decreases-loop-i
-decreases-loop-i l = length l.s - l.i
+abbrev pub invariant-loop-b : goal.invariant-loop-b
+invariant-loop-b l = NullFrom l.s l.b-index l.found

@@ -1,4 +1,4 @@
-use mathlib.Core.Path.{sym, ◌∙◌}
+use mathlib.Core.Path.{sym}
 use lib.Seq.{length-take-le}
 use native.Mathlib.Omega.{arith}
 use Rattle.nulls.proofs.NullBytes.{null_ends}
@@ -10,4 +10,4 @@ slice_bounds-any_null-end c = sym (length-take-le _ _ (omega arith))
 pub returns : goal.returns
 returns c =
     let a = c.args in
-    c.or_else.ensures ∙ rw (c.any_null-front.ensures, c.any_null-back.ensures) (null_ends a.s.now a.k (omega arith) (omega arith))
+    rw (c.any_null.ensures, c.any_null-2.ensures) (null_ends a.s.now a.k (omega arith) (omega arith))

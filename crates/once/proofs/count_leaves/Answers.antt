@@ -1,33 +1,29 @@
-use Prim.Native.Nat.{◌<◌}
-use mathlib.Core.Path.{◌≡◌, sym, ap, ◌∙◌}
-use native.Mathlib.Omega.{arith}
-use lib.ListN.{length}
+use Rattle.std.proofs.Common.{sym, ap, ◌∙◌, ◌+◌, ◌-◌, ◌≡◌, length, zero-add, arith}
 use Rattle.grammar.specs.RecordWords as spec
-use native.Mathlib.Nat.{zero-add}
 use Rattle.once.proofs.Walk.{at_leaf, at_group}
 use Rattle.once.proofs.count_leaves.Goals as goal
-use Rattle.once.proofs.count_leaves.Goals.{then-word-eq0, else-word-eq0}
+use Rattle.once.proofs.count_leaves.Goals.{then-is_leaf, else-is_leaf}
 
-pub loop-left-init : goal.loop-left-init
-unfolding spec.leaves
-loop-left-init c = (omega arith, omega arith, simp (zero-add, c.at_most-i.ensures, c.at_most-left.ensures))
+pub loop-i-init : goal.loop-i-init
+loop-i-init c = let z : c.args.first + c.args.k - c.args.first ≡ c.args.k = omega arith in (omega arith, rw (zero-add, z))
 
-pub loop-left-preserved : goal.loop-left-preserved
-unfolding spec.leaves
-loop-left-preserved c =
+pub loop-i-preserved : goal.loop-i-preserved
+loop-i-preserved c =
     let ws = c.args.nodes.now in
-    let h : 0 < c.loop-left.left = omega arith in
-    elim c.if-word-eq0.branch [
-      | then-word-eq0 w ↦
-          let e = ap length (at_leaf ws c.loop-left.i c.loop-left.left h (sym c.word.ensures ∙ w.if-word-eq0.true)) in
-          (omega arith, omega arith, omega (arith, c.loop-left.invariant.2, e))
-      | else-word-eq0 w ↦
-          let e = ap length (at_group ws c.loop-left.i c.loop-left.left h (λ z. w.if-word-eq0.false (c.word.ensures ∙ z))) in
-          (omega arith, omega arith, omega (arith, c.loop-left.invariant.2, e))
+    let end = c.args.first + c.args.k in
+    let i = c.loop-i.invariant in
+    let h = c.loop-i-test.true in
+    elim c.if-is_leaf.branch [
+      | then-is_leaf w ↦
+          let e = ap length (at_leaf ws c.loop-i.i end h (sym c.is_leaf.ensures ∙ w.if-is_leaf.true)) in
+          (omega arith, omega (arith, i.1, e))
+      | else-is_leaf w ↦
+          let e = ap length (at_group ws c.loop-i.i end h (sym c.is_leaf.ensures ∙ w.if-is_leaf.false)) in
+          (omega arith, omega (arith, i.1, e))
     ]
 
 pub returns : goal.returns
 unfolding spec.leaves
 returns c =
-    let z : c.loop-left.left ≡ 0 = omega arith in
-    omega (arith, rw z at c.loop-left.invariant.2)
+    let z : c.args.first + c.args.k - c.loop-i.i ≡ 0 = omega arith in
+    omega (arith, rw z at c.loop-i.invariant.1)

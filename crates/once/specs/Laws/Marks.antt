@@ -22,13 +22,6 @@ higher h (all_more {x = x} l r) = all_more {x = x} (omega arith) (higher h r)
 
 -- ---- marks
 
--- how many there are where there are few numbers, and where there are more
-abbrev pub short_marks : ℕ
-short_marks = 1024
-
-abbrev pub long_marks : ℕ
-long_marks = 16384
-
 -- the mark at x is 0 exactly where x was not seen
 pub record Marks (m : ℕ) (marks seen : List ℕ) : Type 0 where
   pub long : length marks ≡ m

@@ -9,6 +9,7 @@ use Rattle.grammar.specs.Laws.Layout.Read.{Got, got, no, lead}
 use Rattle.grammar.specs.Laws.Member.Checked.{ended}
 use Rattle.layout.specs.Step.{Step}
 use Rattle.std.specs.Prelude.{Ok, Err}
+use Rattle.opening.specs.Laws.Refusals.{same_number, same_place}
 use Rattle.layout.specs.Keeps.{Keeps, on, off, keeps_on, keeps_off}
 use Rattle.layout.specs.Steps.Keeping.{kept_on}
 
@@ -36,7 +37,7 @@ module _ {A : Type 0} (s : List ℕ) (q : ℕ) (t : A) where
       → ((p : ℕ) → st ≡ Ok p → ended (got t (drop q s) q) ≡ got t (drop q s) q) × ((n p : ℕ) → st ≡ Err (n, p) → ended (got t (drop q s) q) ≡ no n p)
   unfolding ended pick
   by_end true e st h = (λ p f. rw e, λ n p f. absurd (let z : ◌≡◌ {A = ℕ} 0 1 = cc in omega arith))
-  by_end false e st h = (λ p f. absurd (let z : ◌≡◌ {A = ℕ} 0 1 = cc in omega arith), λ n p f. let a : 11 ≡ n = cc in let c : q + lead_01 ≡ p = cc in rw (e, a, c))
+  by_end false e st h = (λ p f. absurd (let z : ◌≡◌ {A = ℕ} 0 1 = cc in omega arith), λ n p f. let r : ◌≡◌ {A = Step} (Err (11, q + lead_01)) (Err (n, p)) = cc in let a = same_number r in let c = same_place r in rw (e, a, c))
 
   pub ended_on : {p : ℕ} → end_at s q ≡ Ok p → ended (got t (drop q s) q) ≡ got t (drop q s) q
   unfolding end_at

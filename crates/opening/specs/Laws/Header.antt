@@ -15,6 +15,7 @@ use Rattle.grammar.specs.Laws.Layout.Binds.{bind_assoc}
 use Rattle.layout.specs.Steps.Spelt.{read_on, read_off, stays_inside}
 use Rattle.grammar.specs.Sections.{HeaderStart, versions}
 use Rattle.opening.specs.Head.{Head}
+use Rattle.opening.specs.Laws.Refusals.{same_number, same_place}
 use Rattle.grammar.specs.Member.{Body, body_at}
 use Rattle.grammar.specs.Refused.{body_rule, member_rule}
 
@@ -78,9 +79,9 @@ module _ {s : List ℕ} (b : Bytes s) {st st' : Step} {v : ℕ} (h : ReadsTo Hea
     where
       go : (st : Step) → ReadsTo HeaderStart s (Ok 0) st → ReadsTo (field little 4 (a_version versions)) s st st' → check member_rule s 0 ≡ no n p
       go (Err (m, q)) h k =
-          let i : Err (m, q) ≡ Err (n, p) = sym k.is ∙ e in
-          let m_is : m ≡ n = cc in
-          let q_is : q ≡ p = cc in
+          let i = sym k.is ∙ e in
+          let m_is : m ≡ n = same_number i in
+          let q_is : q ≡ p = same_place i in
           rw (read_off h refl, m_is, q_is)
       go (Ok q) h k =
           let start = read_on b h refl in

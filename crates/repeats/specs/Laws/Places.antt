@@ -10,7 +10,6 @@ use native.Mathlib.Omega.{arith}
 use borrow.Author.Count.{below_more}
 use Rattle.std.proofs.lemmas.List.{length-replicate}
 use Rattle.std.proofs.Math.Seq.{get_or-set_same, get_or-set_other}
-use Rattle.sizes.specs.Sizes.{most_cells}
 use Rattle.sizes.specs.Basics.{pick}
 use Rattle.grammar.specs.Repeat.{Before}
 
@@ -30,13 +29,6 @@ in_bucket x = omega arith
 -- the slot after place p for the digit e
 abbrev pub after : ℕ → ℕ → ℕ
 after p e = buckets + 4 * p + e
-
--- how many slots there are where there are few numbers, and where there are more
-abbrev pub short_slots : ℕ
-short_slots = buckets + 4 * 512
-
-abbrev pub long_slots : ℕ
-long_slots = buckets + 4 * most_cells
 
 -- what slot s has: a place and 1, or 0 for none
 abbrev pub held : List ℕ → ℕ → ℕ

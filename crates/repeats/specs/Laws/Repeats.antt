@@ -1,7 +1,7 @@
 -- The laws by which the first repeat is found: what stands before a place is among the first words before it. There is one (`grammar`).
 use Rattle.std.proofs.Math.Path.{◌≡◌, refl}
 use Rattle.std.proofs.Common.{sym, ◌∙◌, arith, add-one, eqb-true, eq-eqb, ne_eqb, below_more}
-use Rattle.std.specs.Prelude.{Bool, true, false, not, ◌||◌, List, eqb, get_or, set}
+use Rattle.std.specs.Prelude.{Bool, true, false, not, ◌||◌, List, eqb, get_or, set, Result, Ok, MatchResult, IfOk}
 use Rattle.std.proofs.lemmas.Bool.{false≢true, eqb-false, not-true}
 use Prim.Native.Nat.{ℕ, zero, suc, ◌+◌, ◌*◌, ◌≤◌, ◌<◌}
 use Rattle.sizes.specs.Basics.{among}
@@ -138,20 +138,21 @@ module _ (step : ℕ) (ws : List ℕ) (n k x : ℕ) (marks : List ℕ) (v : Mark
   unfolding firsts
   one_marked = rw (add-one k, ← e) (marked n marks (firsts step ws k) x v h)
 
--- m numbers were looked for by their marks, up to the first that is too large for one. Each before it took three steps: the comparison
--- with the number of marks, the look for its mark, the store of its mark
-pub record ByMarks (w : ℕ → ℕ) (m : ℕ) (small : Bool) (at steps : ℕ) : Type 0 where
+-- m numbers were looked for by their marks, up to the first that stands before (or all), or up to one that is too large for a mark. Each
+-- before it took three steps: the comparison with the number of marks, the look for its mark, the store of its mark
+pub record ByMarks (w : ℕ → ℕ) (m : ℕ) (marked : Result ℕ ℕ) (steps : ℕ) : Type 0 where
   pub few : steps ≤ 3 * m
-  pub counted : 3 * at ≤ steps
-  pub found : small ≡ true → Answered w m 3 at steps
+  pub counted : MatchResult marked (λ at. 3 * at ≤ steps) (λ at. 3 * at ≤ steps)
+  pub found : IfOk marked (λ at. Answered w m 3 at steps)
 
 -- Marked: they tell, or another way does after them
-module _ {w : ℕ → ℕ} {m at steps : ℕ} {small : Bool} (b : ByMarks w m small at steps) where
-  pub marks_tell : small ≡ true → Answered w m 37 at steps
-  marks_tell e = allowed (b.found e) (omega arith) (omega (arith, b.few))
+module _ {w : ℕ → ℕ} {m steps : ℕ} where
+  pub marks_tell : {at : ℕ} → ByMarks w m (Ok at) steps → Answered w m 37 at steps
+  marks_tell b = allowed b.found (omega arith) (omega (arith, b.few))
 
-  pub after_marks : {at' steps' a s : ℕ} → Answered w m 34 at' steps' → (a ≡ at') × (s ≡ steps + steps') → Answered w m 37 a s
-  after_marks r e = rw e.0 (allowed r (omega (arith, e.1)) (omega (arith, e.1, b.few, r.few)))
+  pub after_marks : {marked : Result ℕ ℕ} → ByMarks w m marked steps → {at' steps' a s : ℕ} → Answered w m 34 at' steps' → (a ≡ at') × (s ≡ steps + steps')
+      → Answered w m 37 a s
+  after_marks b r e = rw e.0 (allowed r (omega (arith, e.1)) (omega (arith, e.1, b.few, r.few)))
 
 -- Ordered: they are not, and that took a step for each number at most
 pub after_order : {w : ℕ → ℕ} {m steps at' steps' a s : ℕ} → steps ≤ m → Answered w m 37 at' steps' → (a ≡ at') × (s ≡ steps + steps')

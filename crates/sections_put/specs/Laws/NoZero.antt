@@ -12,7 +12,7 @@ use Rattle.grammar.specs.Part.{part_of}
 use Rattle.store.specs.declared.Name.{Name}
 use Rattle.store.specs.Fields.{lent, letters, bytes_of}
 use Rattle.store.specs.Put.{content_verdict, text_verdict}
-use Rattle.store.specs.Puts.{PutsPlain}
+use Rattle.store.specs.Puts.{PutsPlainTo}
 use Rattle.sections_put.specs.Fields.{digit, hex}
 use Rattle.sections_put.specs.Names.{has_zero}
 use Rattle.sections_put.specs.Laws.Puts.{string_puts}
@@ -44,7 +44,7 @@ module _ (s : List ℕ) (n : Name) where
 -- ---- a writer's own letters
 
 pub letters_puts : {o : Order} {w : ℕ} {xs b : List ℕ} {st : Step} {b' : List ℕ} {r : Step} → among 0 xs ≡ false
-    → PutsPlain (string o w any_bytes) (letters xs) b st b' r → PutsPlain (string o w no_zero) (letters xs) b st b' r
+    → PutsPlainTo (string o w any_bytes) (letters xs) b st b' r → PutsPlainTo (string o w no_zero) (letters xs) b st b' r
 unfolding text_verdict content_verdict suits pick
 letters_puts e x = record { any = λ s. string_puts (rw e) (x.any s) }
 

@@ -12,9 +12,10 @@ use Rattle.layout.specs.Reads.{chain}
 use Rattle.store.specs.Fields.{Fields, bytes_in}
 use Rattle.store.specs.Put.{stored}
 use Rattle.store.specs.Check.{place_of, check}
-use Rattle.store.specs.Puts.{Puts}
+use Rattle.store.specs.Puts.{PutsTo}
 use Rattle.store.specs.Written.{Written}
-use Rattle.store.specs.Deliver.{ending, output, answer, Delivers}
+use Rattle.store.specs.Deliver.{ending, output, answer, DeliversTo}
+use Rattle.store.specs.Laws.Refusals.{same_refusal}
 use Rattle.store.specs.Laws.Exactly.{writable_exactly}
 use Rattle.store.specs.Laws.Lands.{Lands, put_lands}
 use Rattle.store.specs.Laws.Puts.{long}
@@ -22,7 +23,7 @@ use Rattle.store.specs.Laws.Puts.{long}
 -- what an answer says is said by no other
 pub is_refused : (r : Written) (n p : ℕ) → answer r ≡ Err (n, p) → r ≡ Err (n, p)
 is_refused (Ok m) n p e = absurd (let z : ◌≡◌ {A = ℕ} 0 1 = cc in omega arith)
-is_refused (Err (m, q)) n p e = let a : m ≡ n = cc in let b : q ≡ p = cc in rw (a, b)
+is_refused (Err (m, q)) n p e = let same : (m ≡ n) × (q ≡ p) = same_refusal e in rw (same.0, same.1)
 
 pub is_length : (r : Written) (n : ℕ) → answer r ≡ Ok n → r ≡ Ok n
 is_length (Ok m) n e = let a : m ≡ n = cc in rw a
@@ -44,7 +45,7 @@ pub part_long : {n : ℕ} (b : List ℕ) → n ≤ length b → n ≡ length (ta
 part_long {n} b h = sym (length-take-le n b h)
 
 module _ (b out : List ℕ) {st : Step} where
-  pub delivers_nothing : {n p : ℕ} → st ≡ Err (n, p) → Delivers b st out (Err (n, p)) out
+  pub delivers_nothing : {n p : ℕ} → st ≡ Err (n, p) → DeliversTo b st out (Err (n, p)) out
   unfolding chain
   delivers_nothing {n} {p} e = record {
     answers = rw e;
@@ -53,7 +54,7 @@ module _ (b out : List ℕ) {st : Step} where
   }
 
   module _ {at : ℕ} (e : st ≡ Ok at) where
-    pub delivers_short : {n : ℕ} → n ≡ min at (length b) → leb n (length out) ≡ false → Delivers b st out (Err (15, 0)) out
+    pub delivers_short : {n : ℕ} → n ≡ min at (length b) → leb n (length out) ≡ false → DeliversTo b st out (Err (15, 0)) out
     unfolding chain ending output pick
     delivers_short i f = record {
       answers = rw (e, ← i, f);
@@ -62,7 +63,7 @@ module _ (b out : List ℕ) {st : Step} where
     }
 
     pub delivers_done : {n : ℕ} {out' : List ℕ} → n ≡ min at (length b) → leb n (length out) ≡ true
-        → out' ≡ take (length (take n b)) (take n b) ++ drop (length (take n b)) out → Delivers b st out (Ok n) out'
+        → out' ≡ take (length (take n b)) (take n b) ++ drop (length (take n b)) out → DeliversTo b st out (Ok n) out'
     unfolding chain ending output pick
     delivers_done {n} {out'} i f o =
         let l : length (take n b) ≡ n = sym (part_long b (omega (arith, i))) in
@@ -77,7 +78,7 @@ module _ (b out : List ℕ) {st : Step} where
 
 -- the fields of a layout, written into a buffer that they fit, and handed over: the length or the first refusal, then 15; and their bytes
 module _ (g : Layout) (s : List ℕ) (f : Fields g) {b b' out out' : List ℕ} {r r' : Step} (room : place_of (check g s f 0) ≤ length b)
-    (wrote : Puts g s f b (Ok 0) b' r) (gives : Delivers b' r out r' out') where
+    (wrote : PutsTo g s f b (Ok 0) b' r) (gives : DeliversTo b' r out r' out') where
   lands : Lands b 0 (bytes_in g s f) (check g s f 0) (b', r)
   lands = rw wrote.is (put_lands g s f b 0 room)
 

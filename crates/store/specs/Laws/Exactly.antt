@@ -1,5 +1,5 @@
 -- A writer of fields refuses exactly what can't be written (Unwritable.antt), by that number and at that place: for every layout.
-use Rattle.std.specs.Prelude.{◌≡◌, ◌↔◌, true, false, List, [], ◌∷◌, ℕ, ◌+◌, ◌≤◌, length, eqb}
+use Rattle.std.specs.Prelude.{◌≡◌, ◌↔◌, true, List, [], ◌∷◌, ℕ, ◌+◌, ◌≤◌, length, eqb}
 use Rattle.std.proofs.Common.{sym, ap, ◌∙◌, subst, arith, length-append}
 use Rattle.std.proofs.lemmas.Bool.{false≢true}
 use Rattle.std.proofs.Math.Option.{none, some}
@@ -15,6 +15,7 @@ use Rattle.store.specs.Fields.{Text, FieldsIn, Fields, text_of, resolve_all, res
 use Rattle.store.specs.Put.{text_verdict, free_verdict, run_verdict}
 use Rattle.store.specs.Check.{place_of, judged, check_all, check_in, check}
 use Rattle.store.specs.Unwritable.{Writable, Unwritable, number_wrong, number_then, text_long, text_outside, text_wrong, first, second, here, later, run_long, run_then, content, optional_content, open_content, free_outside}
+use Rattle.store.specs.Laws.Refusals.{same_refusal}
 use Rattle.store.specs.Laws.Verdicts.{NumberCase, number_good, number_bad, number_case, TextCase, text_good, text_longer, text_out, text_bad, text_case, FreeCase, free_good, free_out, free_case, RunCase, run_good, run_longer, run_case, long_verdict, out_verdict, bad_verdict, free_verdict_lem, longer_run, good_run, not_outside}
 
 -- ---- how many bytes fields have
@@ -235,7 +236,7 @@ unwritable_exactly g s f at n p = (λ e. go (answers g s f at) e, refused)
   where
     go : {c : Step} → Answers g s f at c → c ≡ Err (n, p) → Unwritable s g f at n p
     go (can q v i) e = absurd (let z : ◌≡◌ {A = ℕ} 0 1 = cc in omega arith)
-    go (can_not {n = m} {p = q} u) e = let a : m ≡ n = cc in let b : q ≡ p = cc in rw (← a, ← b) u
+    go (can_not {n = m} {p = q} u) e = let same : (m ≡ n) × (q ≡ p) = same_refusal e in rw (← same.0, ← same.1) u
 
 -- Forward: neither is before the first byte
 pub forward : (g : Layout) (s : List ℕ) (f : Fields g) (at : ℕ) → at ≤ place_of (check g s f at)

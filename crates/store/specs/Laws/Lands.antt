@@ -172,7 +172,7 @@ judged_reach : (c n at m : ℕ) → judged c n at ≡ Ok m → m ≡ at + n
 unfolding judged pick
 judged_reach c n at m = go (eqb c 0)
   where
-    go : (u : Bool) → pick u (Ok (at + n)) (Err (c, at)) ≡ Ok m → m ≡ at + n
+    go : (u : Bool) → pick {X = Step} u (Ok (at + n)) (Err (c, at)) ≡ Ok m → m ≡ at + n
     go true e = cc
     go false e = absurd (let z : ◌≡◌ {A = ℕ} 0 1 = cc in omega arith)
 

@@ -7,7 +7,7 @@ use Rattle.std.proofs.Math.Option.{none, some}
 use mathlib.Core.List.{List, [], ◌∷◌, ◌++◌, append_assoc}
 use Rattle.std.proofs.Math.ListN.{length}
 use Rattle.std.proofs.lemmas.List.{length-replicate}
-use Rattle.std.specs.Prelude.{Ok, Err}
+use Rattle.std.specs.Prelude.{Ok}
 use Rattle.grammar.specs.Layout.{Order, Fill, exact, optional, open_ended, Filled, Layout, empty, number, string, ◌▸◌, times, leading, region, nothing, Tree, digits, spell_all, spell_fill, spell, Bytes, All, all_none, all_more, ValidFill, Valid}
 use Rattle.grammar.specs.Laws.Layout as laws
 use Rattle.layout.specs.Steps.Slices.{drop_bytes, take_bytes}

@@ -1,27 +1,20 @@
-use mathlib.Core.Path.{◌≡◌}
-use Prim.Native.Nat.{◌+◌, ◌-◌}
-use native.Mathlib.Omega.{arith}
-use Rattle.layout.specs.Steps.Slices.{bytes_of}
+use Rattle.std.proofs.Common.{◌≡◌, ap, ◌+◌, ◌-◌, arith}
+use Rattle.std.proofs.lemmas.Result.{err_from_is_err_and}
+use Rattle.refusals.specs.Numbers.{by_number}
+use Rattle.table.specs.Laws.InMember.{in_member}
+use Rattle.table.specs.Laws.Heads.{no_name}
 use Rattle.table.specs.Laws.OwnPart.{own_part, own_there}
 use Rattle.table.proofs.head.Goals as goal
 
-pub overflow_add-next : goal.overflow_add-next
-overflow_add-next c = omega (arith, c.left.ensures)
+pub returns-in_err-name : goal.returns-in_err-name
+returns-in_err-name c =
+    let p = err_from_is_err_and c.from_residual.result c.from_residual.ensures.1 in
+    rw (p.1, p.2) (no_name _ c.value.ensures (ap by_number c.in_err-name.was))
 
-pub slice_bounds-own_part-end : goal.slice_bounds-own_part-end
-slice_bounds-own_part-end c = omega (arith, c.left.ensures)
-
-pub returns-then-own : goal.returns-then-own
-returns-then-own c =
-    let e = c.end_in-e.result in
-    let n = c.end_in-e.ensures (omega (arith, c.left.ensures)) in
+pub returns-in-Some : goal.returns-in-Some
+returns-in-Some c =
+    let e = c.in_ok-name.name in
     let z : e + own_part - e ≡ own_part = omega arith in
-    rw (c.node.ensures, n)
-    (own_there _ (bytes_of _ c.type_inv.s) (omega arith) (rw n at c.value-name.ensures) (omega (arith, c.left.ensures))
-    (rw z at (c.own_part-own.ensures c.if-own.true)))
-
-pub after_name-requires : goal.after_name-requires
-after_name-requires c = (omega arith, c.value-name.ensures)
-
-pub returns : goal.returns
-returns c = c.after_name.ensures
+    rw c.node.ensures
+    (own_there _ (in_member c.args.member.are_bytes) (omega (arith, c.args.member.short)) (rw c.in_ok-name.was at c.value.ensures) (omega (arith, c.left.ensures))
+    (rw z at c.in-Some.ensures))

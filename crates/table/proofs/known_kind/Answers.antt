@@ -1,22 +1,14 @@
-use Rattle.std.proofs.Common.{eq-eqb, ne_eqb}
+use Rattle.std.proofs.Common.{ne_eqb}
 use Rattle.sizes.specs.Basics.{among, pick}
 use Rattle.grammar.specs.Layout.{passes}
 use Rattle.grammar.specs.Laws.Layout.Read.{refusal}
 use Rattle.layout.specs.Reads.{verdict}
 use Rattle.table.proofs.known_kind.Goals as goal
 
-pub returns-then-leaf : goal.returns-then-leaf
+pub returns-then-v-eq0 : goal.returns-then-v-eq0
 unfolding verdict passes among refusal pick
-returns-then-leaf c = simp (eq-eqb c.args.v 0 c.if-leaf.true)
+returns-then-v-eq0 c = simp c.if-v-eq0.true
 
-pub returns-then-group : goal.returns-then-group
+pub returns : goal.returns
 unfolding verdict passes among refusal pick
-returns-then-group c = simp (ne_eqb c.args.v 0 c.if-leaf.false, eq-eqb c.args.v 65536 c.if-group.true)
-
-pub returns-then-merged : goal.returns-then-merged
-unfolding verdict passes among refusal pick
-returns-then-merged c = simp (ne_eqb c.args.v 0 c.if-leaf.false, ne_eqb c.args.v 65536 c.if-group.false, eq-eqb c.args.v 65537 c.if-merged.true)
-
-pub returns-else-merged : goal.returns-else-merged
-unfolding verdict passes among refusal pick
-returns-else-merged c = simp (ne_eqb c.args.v 0 c.if-leaf.false, ne_eqb c.args.v 65536 c.if-group.false, ne_eqb c.args.v 65537 c.if-merged.false)
+returns c = rw (c.unless_either.ensures, ne_eqb c.args.v 0 c.if-v-eq0.false)

@@ -1,14 +1,13 @@
+use Rattle.std.proofs.lemmas.Result.{err_from_is_err_and}
 use Rattle.table.specs.Laws.Heads.{node_of}
 use Rattle.table.proofs.node.Goals as goal
 
-pub returns-in-Err : goal.returns-in-Err
+pub returns-in_err-end : goal.returns-in_err-end
 unfolding node_of
-returns-in-Err c = simp c.in-Err.is
+returns-in_err-end c =
+    let p = err_from_is_err_and c.from_residual.result c.from_residual.ensures.1 in
+    rw (p.1, p.2, c.in_err-end.was)
 
-pub returns-in-Err-name : goal.returns-in-Err-name
+pub returns : goal.returns
 unfolding node_of
-returns-in-Err-name c = simp (c.in-Ok.is, c.in-Err-name.is)
-
-pub returns-in-Ok-name : goal.returns-in-Ok-name
-unfolding node_of
-returns-in-Ok-name c = simp (c.in-Ok.is, c.in-Ok-name.is, ← c.length-size.ensures)
+returns c = simp (c.in_ok-end.was, c.length.ensures)

@@ -9,7 +9,7 @@ use Rattle.std.proofs.Math.ListN.{length, length-append}
 use Rattle.std.proofs.lemmas.List.Edits.{sets}
 use Rattle.sizes.specs.Sizes.{member_bytes, most_nodes, category_depth, node_words, dimension_words, no_parent}
 use Rattle.layout.specs.Step.{Step}
-use Rattle.std.specs.Prelude.{Ok, Err}
+use Rattle.std.specs.Prelude.{Result, Ok, Err}
 use Rattle.sizes.specs.Basics.{pick}
 use Rattle.grammar.specs.Layout.{little, Layout, ◌▸◌, times, Tree, spell, passes, Bytes, size}
 use Rattle.grammar.specs.Conventions.{int32}
@@ -29,7 +29,7 @@ use Rattle.grammar.specs.Value.{Value}
 use Rattle.grammar.specs.RecordWords.{leaves}
 use Rattle.grammar.specs.Once.{Leaf, first_bad}
 use Rattle.table.specs.Walk.{Walk}
-use Rattle.table.specs.Walk.{Section}
+use Rattle.table.specs.declared.dimension.Section.{Section}
 use Rattle.grammar.specs.Table.{DimProperties, Dimension, Dimensions, Category}
 use Rattle.grammar.specs.Records.{sum, dim_nodes, dim_words, dim_entry, dims_words, dims_entries, dims_of, dim_record}
 use Rattle.grammar.specs.Rules.{categories_rule, leaves_of, dimension_rule}
@@ -88,8 +88,8 @@ pub node_room : (s : List ℕ) (at n : ℕ) → needed node_record_sizes (length
 node_room s at n h = record { enough = λ u few k. omega arith }
 
 -- an answer of the code, and the words with it
-abbrev pub section_out : Section → List ℕ → List ℕ → Out Kept
-section_out (Ok (p, d, used)) ns ds = on p (kept d used ns ds)
+abbrev pub section_out : Result Section (ℕ × ℕ) → List ℕ → List ℕ → Out Kept
+section_out (Ok x) ns ds = on x.end (kept x.dimensions x.nodes ns ds)
 section_out (Err (r, p)) ns ds = off r p
 
 module _ (version : ℕ) where

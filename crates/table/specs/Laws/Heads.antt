@@ -7,28 +7,58 @@ use native.Mathlib.Omega.{arith}
 use Rattle.std.proofs.Math.ListN.{length, drop, length-append, length-drop}
 use Rattle.std.proofs.lemmas.Bool.{eqb-false}
 use Rattle.layout.specs.Step.{Step}
-use Rattle.std.specs.Prelude.{Ok, Err}
+use Rattle.std.specs.Prelude.{Result, Ok, Err}
 use Rattle.grammar.specs.Layout.{little, one_of, Layout, empty, ◌▸◌, Tree, digits, spell, Bytes, Valid, size}
 use Rattle.grammar.specs.Conventions.{field, i, int32}
 use Rattle.grammar.specs.Laws.Layout.Read.{Got, got, no, read}
 use Rattle.layout.specs.Reads.{step, chain, peek, ReadsTo}
-use Rattle.layout.specs.Steps.Chain.{then}
+use Rattle.layout.specs.Steps.Chain.{kept, then}
 use Rattle.layout.specs.Steps.Numbers.{switch_of}
 use Rattle.layout.specs.Steps.Spelt.{step_spelt, peek_spelt, field_spelt, Found, Read, read_on, read_off}
 use Rattle.grammar.specs.Laws.Layout.Spelt.{after}
 use Rattle.layout.specs.Words.{word32}
 use Rattle.layout.specs.Laws.Words.{word_same}
 use Rattle.grammar.specs.Value.{Value}
+use Rattle.refusals.specs.declared.Refusal.{Refusal}
+use Rattle.refusals.specs.Numbers.{number}
 use Rattle.table.specs.declared.NodeStart.{NodeStart}
-use Rattle.table.specs.declared.NodeStart.TheVariants as start
+use Rattle.table.specs.declared.Own.{Own}
+use Rattle.table.specs.declared.Own.TheVariants.{Leaf as own_leaf, Group as own_group}
 use Rattle.grammar.specs.Table.{kinds, Leaf, GroupOf, KindOf, minus_one}
 use Rattle.grammar.specs.Records.{Head, kind_of, word_of, below_of}
 
+-- ---- what the code gives
+
+-- 0 for a leaf or 1 for a group
+abbrev pub own_kind : Own → ℕ
+own_kind (own_leaf n) = 0
+own_kind (own_group n) = 1
+
+-- the last word of its record but one
+abbrev pub own_word : Own → ℕ
+own_word (own_leaf n) = n
+own_word (own_group n) = n
+
+-- how many categories are below it
+abbrev pub own_children : Own → ℕ
+own_children (own_leaf n) = 0
+own_children (own_group n) = n
+
+-- 0 for a leaf or 1 for a group, the length of the name, the last word but one, how many categories are below, and where they start; or the
+-- refusal's number and place
+pub data Start : Type 0 where
+  starts : ℕ → ℕ → ℕ → ℕ → ℕ → Start
+  refused : ℕ → ℕ → Start
+
+abbrev pub start_of : Result NodeStart Refusal → Start
+start_of (Ok n) = starts (own_kind n.own) n.size (word32 (own_word n.own)) (own_children n.own) n.next
+start_of (Err e) = refused (number e.reason) e.place
+
 -- a node at the place `at`, once its name ends at `name` and its own part at `end`
-unfoldable pub node_of : ℕ → ℕ → Step → ℕ → ℕ → Step → NodeStart
-node_of kind at name word children (Err (r, p)) = start.Refused r p
-node_of kind at (Err (r, p)) word children (Ok next) = start.Refused r p
-node_of kind at (Ok e) word children (Ok next) = start.Node kind (word32 (e - at)) (word32 word) children next
+unfoldable pub node_of : ℕ → ℕ → Step → ℕ → ℕ → Step → Start
+node_of kind at name word children (Err (r, p)) = refused r p
+node_of kind at (Err (r, p)) word children (Ok next) = refused r p
+node_of kind at (Ok e) word children (Ok next) = starts kind (word32 (e - at)) (word32 word) children next
 
 abbrev pub none : ℕ → Layout
 none n = empty
@@ -63,14 +93,21 @@ spelt_number s at w n r e = rw append-nil at e
 
 module _ (version : ℕ) where
   -- reading a category without what is below it, and what is answered for it
-  pub data HeadRead (s : List ℕ) (at : ℕ) : Got (Tree (Head version)) → NodeStart → Type 0 where
+  pub data HeadRead (s : List ℕ) (at : ℕ) : Got (Tree (Head version)) → Start → Type 0 where
     head_there : {h : Tree (Head version)} {p : ℕ} → Found (Head version) s at h (drop p s) p
-        → HeadRead s at (got h (drop p s) p) (start.Node (kind_of version h) (size (Value version) h.0) (word_of version h) (below_of version h) p)
-    head_not : {n p : ℕ} → HeadRead s at (no n p) (start.Refused n p)
+        → HeadRead s at (got h (drop p s) p) (starts (kind_of version h) (size (Value version) h.0) (word_of version h) (below_of version h) p)
+    head_not : {n p : ℕ} → HeadRead s at (no n p) (refused n p)
 
-  pub head_off : {s : List ℕ} {at : ℕ} {y : Got (Tree (Head version))} {f : NodeStart} {n p : ℕ} → HeadRead s at y f → f ≡ start.Refused n p → y ≡ no n p
+  pub head_off : {s : List ℕ} {at : ℕ} {y : Got (Tree (Head version))} {f : Start} {n p : ℕ} → HeadRead s at y f → f ≡ refused n p → y ≡ no n p
   head_off (head_there {h = h} q) e = absurd (let z : ◌≡◌ {A = ℕ} 0 1 = cc in omega arith)
   head_off head_not e = let a : _ ≡ _ = e in cc
+
+  -- its name is refused
+  pub no_name : {s : List ℕ} {at n p : ℕ} {name : Step} → ReadsTo (Value version) s (Ok at) name → name ≡ Err (n, p)
+      → HeadRead s at (read (Head version) (drop at s) at) (refused n p)
+  no_name {s} {at} {name = name} v e =
+      let whole : ReadsTo (Head version) s (Ok at) name = then (kept e) v in
+      rw (read_off whole e) head_not
 
   -- the last word of a head whose own part lies at f
   word_spelt : (m : Tree (Value version)) (k : ℕ) (t : Tree (KindOf none k)) → Valid (KindOf none k) t → (s : List ℕ) (f : ℕ) (r : List ℕ)
@@ -97,7 +134,7 @@ module _ (version : ℕ) where
   -- a node whose parts are known
   node_known : (m : Tree (Value version)) (k : ℕ) (t : Tree (KindOf none k)) (at e p w : ℕ) → e ≡ at + size (Value version) m → size (Value version) m < 2 ^ 32
       → w ≡ word_of version (m, (k, t)) → word_of version (m, (k, t)) < 2 ^ 32
-      → node_of (kind_number k) at (Ok e) w (children_of k w) (Ok p) ≡ start.Node (kind_of version (m, (k, t))) (size (Value version) m) (word_of version (m, (k, t))) (below_of version (m, (k, t))) p
+      → node_of (kind_number k) at (Ok e) w (children_of k w) (Ok p) ≡ starts (kind_of version (m, (k, t))) (size (Value version) m) (word_of version (m, (k, t))) (below_of version (m, (k, t))) p
   unfolding node_of
   node_known m zero t at e p w a b c d =
       let l : e - at ≡ size (Value version) m = omega arith in

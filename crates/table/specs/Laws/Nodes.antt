@@ -23,13 +23,12 @@ use Rattle.layout.specs.Laws.Words.{word_same}
 use Rattle.grammar.specs.Value.{Value}
 use Rattle.table.specs.Walk.{Walk}
 use Rattle.std.specs.Prelude.{Ok, Err}
-use Rattle.table.specs.declared.NodeStart.TheVariants as start
 use Rattle.grammar.specs.Table.{KindOf, CategoryIn}
 use Rattle.grammar.specs.Records.{Head, below_of, sum, nodes, words_all, node_words_of, tree_words, node_record}
 use Rattle.grammar.specs.Rules.{kind_rule, node_rule, category_rule, categories_rule}
 use Rattle.grammar.specs.Laws.Table.Lengths.{size_category}
 use Rattle.grammar.specs.Laws.Table.Words.{sets_append, sets_before, width_tree}
-use Rattle.table.specs.Laws.Heads.{HeadRead, head_there}
+use Rattle.table.specs.Laws.Heads.{starts, HeadRead, head_there}
 
 -- an answer of the code, and the node words with it
 abbrev pub walked : Walk → List ℕ → Out (ℕ × List ℕ)
@@ -157,7 +156,7 @@ module _ (version : ℕ) where
     no_head h e = rw (lt-ltb used most_nodes h, check_node d next (drop at s) at, e) keeps_off
 
     -- the code's words of a node are those of the head
-    pub with_head : length s < 2 ^ 32 → used < most_nodes → {y : Got (Tree (Head version))} {kind z word n p : ℕ} → HeadRead version s at y (start.Node kind z word n p) → read (Head version) (drop at s) at ≡ y
+    pub with_head : length s < 2 ^ 32 → used < most_nodes → {y : Got (Tree (Head version))} {kind z word n p : ℕ} → HeadRead version s at y (starts kind z word n p) → read (Head version) (drop at s) at ≡ y
         → {o o' : Out (ℕ × List ℕ)} → Keeps s (Each (Node d dim used) p (used + 1, ns)) (check (categories_rule version d (used + 1) n) (drop p s) p) o
         → Stored used (λ many. node_record kind dim par (word32 at) z word many) o o'
         → Keeps s (Node (suc d) dim par at (used, ns)) (check (category_rule version (suc d) used) (drop at s) at) o'

@@ -9,7 +9,7 @@ use Rattle.std.specs.Prelude.{Ok, Err}
 use Rattle.sizes.specs.Basics.{pick}
 use Rattle.grammar.specs.Layout.{Bytes, Tree, size}
 use Rattle.grammar.specs.Laws.Layout.Read.{no}
-use Rattle.store.specs.Puts.{PutsWords}
+use Rattle.store.specs.Puts.{PutsWordsTo}
 use Rattle.store.specs.Laws.Puts.{with_room}
 use Rattle.grammar.specs.Table.{Cell}
 use Rattle.grammar.specs.Records.{cell_words_of}
@@ -27,7 +27,7 @@ abbrev pub copied : ℕ → List ℕ → List ℕ → List ℕ
 copied n from to = pick (leb n (length from)) (pick (leb n (length to)) (take n from ++ drop n to) to) to
 
 module _ (n : ℕ) (from to : List ℕ) where
-  pub copied_all : n ≤ length from → n ≤ length to → {to' : List ℕ} {r : Step} → PutsWords (take n from) to (Ok 0) to' r → to' ≡ copied n from to
+  pub copied_all : n ≤ length from → n ≤ length to → {to' : List ℕ} {r : Step} → PutsWordsTo (take n from) to (Ok 0) to' r → to' ≡ copied n from to
   unfolding pick
   copied_all h l x =
       let room = le-leb n (length to) l in

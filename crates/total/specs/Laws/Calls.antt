@@ -4,7 +4,7 @@ use Rattle.std.proofs.Common.{arith}
 use Rattle.sizes.specs.Sizes.{total_answer_words, totals_answer_words}
 use Rattle.layout.specs.Step.{Step}
 use Rattle.std.specs.Prelude.{Ok, Err}
-use Rattle.store.specs.Puts.{PutsWords}
+use Rattle.store.specs.Puts.{PutsWordsTo}
 use Rattle.store.specs.Laws.Puts.{with_room, without_room}
 use Rattle.grammar.specs.Laws.Member.Checked.{checked}
 use Rattle.total.specs.declared.LeafTotal.{LeafTotal}
@@ -18,7 +18,7 @@ no_both b e f = absurd (let z : ◌≡◌ {A = ℕ} 0 1 = cc in omega arith)
 
 module _ (bs answer nodes cells : List ℕ) (dimension leaf : ℕ) where
   pub read : (x : LeafTotal) {answer' nodes' cells' : List ℕ} {r : Step} → leb total_answer_words (length answer) ≡ true → Totalled bs nodes cells dimension leaf x nodes' cells'
-      → ByDerivation bs nodes cells dimension leaf x nodes' cells' → PutsWords (answer_words_of x) answer (Ok 0) answer' r → TotalRead bs answer nodes cells dimension leaf total_answer_words answer' nodes' cells'
+      → ByDerivation bs nodes cells dimension leaf x nodes' cells' → PutsWordsTo (answer_words_of x) answer (Ok 0) answer' r → TotalRead bs answer nodes cells dimension leaf total_answer_words answer' nodes' cells'
   read x t d m p =
       record {
         words = rw (← d.answer) (with_room total_answer_words (answer_words_of x) answer refl t p);
@@ -38,7 +38,7 @@ module _ (bs answer nodes cells : List ℕ) (dimension leaf : ℕ) where
 
 module _ (bs answer totals nodes cells : List ℕ) (dimension : ℕ) where
   pub read_all : (x : DimensionTotals) {answer' totals' nodes' cells' : List ℕ} {r : Step} → leb totals_answer_words (length answer) ≡ true → AllTotalled bs totals nodes cells dimension x totals' nodes' cells'
-      → AllByDerivation bs totals nodes cells dimension x totals' nodes' cells' → PutsWords (dimension_words_of x) answer (Ok 0) answer' r → TotalsRead bs answer totals nodes cells dimension totals_answer_words answer' totals' nodes' cells'
+      → AllByDerivation bs totals nodes cells dimension x totals' nodes' cells' → PutsWordsTo (dimension_words_of x) answer (Ok 0) answer' r → TotalsRead bs answer totals nodes cells dimension totals_answer_words answer' totals' nodes' cells'
   read_all x t d m p =
       record {
         words = rw (← d.answer) (with_room totals_answer_words (dimension_words_of x) answer refl t p);

@@ -1,49 +1,54 @@
-use Rattle.std.proofs.Common.{arith, ap, refl, eq-eqb, ne_eqb}
+use Rattle.std.proofs.Common.{◌≡◌, ◌+◌, ◌-◌, arith, ap, refl, eq-eqb, ne_eqb}
+use Rattle.std.proofs.lemmas.Result.{err_from_is_err_and}
 use Rattle.grammar.specs.Value as grammar
 use Rattle.grammar.specs.Layout.{passes}
-use Rattle.std.specs.Prelude.{Ok, Err}
+use Rattle.std.specs.Prelude.{Ok}
 use Rattle.layout.specs.Reads.{skip}
 use Rattle.layout.specs.Steps.{reads}
-use Rattle.layout.specs.Steps.Chain.{then, from_next, from_refused, in_same, times_none, left_more, left_none, left_kept}
-use Rattle.layout.specs.Steps.Onward.{less_room}
+use Rattle.layout.specs.Steps.Chain.{then, from_refused, in_same, times_none, left_more, left_none, left_kept}
 use Rattle.sizes.specs.Basics.{among, pick}
-use Rattle.value.specs.Laws.Forms.{value_onward, argument_onward, too_deep, after_zeros, form_of, long_form, long_form_left_out, no_form}
+use Rattle.value.specs.Laws.Forms.{too_deep, after_zeros, form_of, long_form, long_form_left_out, no_form}
 use Rattle.value.proofs.+argument_arguments_arguments_at_raw_value_template_value_at_value_in_values.Goals as goal
 
-pub argument-returns-then-one : goal.argument-returns-then-one
+pub argument-returns-then-x-eq0 : goal.argument-returns-then-x-eq0
 unfolding grammar.ArgumentOf pick passes
-argument-returns-then-one t c = search reads
+argument-returns-then-x-eq0 t c = let e = eq-eqb _ _ c.if-x-eq0.true in search reads
 
 pub argument-returns : goal.argument-returns
 unfolding grammar.ArgumentOf pick passes
-argument-returns t c = search reads
+argument-returns t c = let e = ne_eqb _ _ c.if-x-eq0.false in search reads
+
+pub arguments-returns-in_err-at : goal.arguments-returns-in_err-at
+arguments-returns-in_err-at t c =
+    let p = err_from_is_err_and c.from_residual.result c.from_residual.ensures.1 in
+    rw (p.1, p.2, c.in_err-at.was) (from_refused refl)
 
 pub arguments-returns-then-n-eq0 : goal.arguments-returns-then-n-eq0
-arguments-returns-then-n-eq0 t c = from_next c.in-Ok.is (times_none _ (omega arith))
+arguments-returns-then-n-eq0 t c = rw c.in_ok-at.was (times_none _ (omega arith))
 
-pub arguments-returns-else-n-eq0 : goal.arguments-returns-else-n-eq0
-arguments-returns-else-n-eq0 t c = from_next c.in-Ok.is (in_same c.whole.ensures c.arguments_at.ensures)
+pub arguments-returns : goal.arguments-returns
+arguments-returns t c = rw c.in_ok-at.was (in_same c.whole.ensures c.arguments_at.ensures)
 
-pub arguments-returns-in-Err : goal.arguments-returns-in-Err
-arguments-returns-in-Err t c = from_refused c.in-Err.is
+pub arguments_at-loop-init : goal.arguments_at-loop-init
+arguments_at-loop-init t c =
+    let k : c.args.n - 0 ≡ c.args.n = omega arith in
+    rw k (λ r h. h)
 
-pub arguments_at-loop-k-init : goal.arguments_at-loop-k-init
-arguments_at-loop-k-init t c = λ r h. h
+pub arguments_at-returns-in_err-at : goal.arguments_at-returns-in_err-at
+arguments_at-returns-in_err-at t c =
+    let p = err_from_is_err_and c.from_residual.result c.from_residual.ensures.1 in
+    rw (p.1, p.2) (left_kept (left_more c.loop.invariant (omega arith) c.in_err-at.ensures) refl)
 
-pub arguments_at-returns-in-Err : goal.arguments_at-returns-in-Err
-arguments_at-returns-in-Err t c = left_kept c.loop-k.invariant c.in-Err.is
-
-pub arguments_at-loop-k-smaller : goal.arguments_at-loop-k-smaller
-arguments_at-loop-k-smaller t c = less_room (argument_onward _ _) c.in_default.is c.argument-at.ensures
-
-pub arguments_at-loop-k-preserved : goal.arguments_at-loop-k-preserved
-arguments_at-loop-k-preserved t c = left_more c.loop-k.invariant c.loop-k-test.true c.argument-at.ensures
+pub arguments_at-loop-preserved : goal.arguments_at-loop-preserved
+arguments_at-loop-preserved t c =
+    let k : c.args.n - (c.loop.counter + 1) ≡ c.args.n - c.loop.counter - 1 = omega arith in
+    rw k (left_more c.loop.invariant (omega arith) c.in_ok-at.ensures)
 
 pub arguments_at-returns : goal.arguments_at-returns
-arguments_at-returns t c = left_none c.loop-k.invariant c.loop-k-test.false
+arguments_at-returns t c = left_none c.loop.invariant (omega arith)
 
-pub raw_value-returns-then-without : goal.raw_value-returns-then-without
-raw_value-returns-then-without t c = long_form_left_out _ _ c.in-49.is (eq-eqb _ _ c.if-without.true) c.peek-x.ensures c.field.ensures
+pub raw_value-returns-then-version-eq1 : goal.raw_value-returns-then-version-eq1
+raw_value-returns-then-version-eq1 t c = long_form_left_out _ _ c.in-49.is (eq-eqb _ _ c.if-version-eq1.true) c.peek-x.ensures c.field.ensures
 
 pub raw_value-returns-in-1 : goal.raw_value-returns-in-1
 unfolding among pick
@@ -69,10 +74,10 @@ pub raw_value-returns-in-6 : goal.raw_value-returns-in-6
 unfolding among pick
 raw_value-returns-in-6 t c = form_of _ _ c.in-6.is refl refl c.form_06.ensures c.peek-x.ensures c.any-next.ensures.low
 
-pub raw_value-returns-else-without : goal.raw_value-returns-else-without
+pub raw_value-returns-else-version-eq1 : goal.raw_value-returns-else-version-eq1
 unfolding pick
-raw_value-returns-else-without t c =
-    long_form _ _ c.in-49.is (ne_eqb _ _ c.if-without.false) (then c.template.ensures c.modifiers.ensures) c.peek-x.ensures c.any-next.ensures.low
+raw_value-returns-else-version-eq1 t c =
+    long_form _ _ c.in-49.is (ne_eqb _ _ c.if-version-eq1.false) (then c.template.ensures c.modifiers.ensures) c.peek-x.ensures c.any-next.ensures.low
 
 pub raw_value-returns-in-88 : goal.raw_value-returns-in-88
 unfolding among pick
@@ -95,23 +100,33 @@ pub value_at-returns : goal.value_at-returns
 unfolding skip
 value_at-returns t c = after_zeros _ _ c.if-depth-eq0.false (in_same c.whole.ensures c.raw_value.ensures) (ap Ok c.past.ensures)
 
-pub value_in-returns-in-Ok : goal.value_in-returns-in-Ok
-value_in-returns-in-Ok t c = from_next c.in-Ok.is c.value_at.ensures
+pub value_in-returns-in_err-st : goal.value_in-returns-in_err-st
+value_in-returns-in_err-st t c =
+    let p = err_from_is_err_and c.from_residual.result c.from_residual.ensures.1 in
+    rw (p.1, p.2, c.in_err-st.was) (from_refused refl)
 
-pub value_in-returns-in-Err : goal.value_in-returns-in-Err
-value_in-returns-in-Err t c = from_refused c.in-Err.is
+pub value_in-returns : goal.value_in-returns
+value_in-returns t c = rw c.in_ok-st.was c.value_at.ensures
 
-pub values-loop-k-init : goal.values-loop-k-init
-values-loop-k-init t c = λ r h. h
+pub values-returns-in_err-at : goal.values-returns-in_err-at
+values-returns-in_err-at t c =
+    let p = err_from_is_err_and c.from_residual.result c.from_residual.ensures.1 in
+    rw (p.1, p.2, c.in_err-at.was) (from_refused refl)
 
-pub values-returns-in-Err : goal.values-returns-in-Err
-values-returns-in-Err t c = left_kept c.loop-k.invariant c.in-Err.is
+pub values-loop-init : goal.values-loop-init
+values-loop-init t c =
+    let k : c.args.n - 0 ≡ c.args.n = omega arith in
+    rw k (λ r h. h)
 
-pub values-loop-k-smaller : goal.values-loop-k-smaller
-values-loop-k-smaller t c = less_room (value_onward _ _) c.in_default.is c.value_in-at.ensures
+pub values-returns-in_err-at-2 : goal.values-returns-in_err-at-2
+values-returns-in_err-at-2 t c =
+    let p = err_from_is_err_and c.from_residual-in_err-at-2.result c.from_residual-in_err-at-2.ensures.1 in
+    rw (p.1, p.2, c.in_ok-at.was) (left_kept (left_more c.loop.invariant (omega arith) c.in_err-at-2.ensures) refl)
 
-pub values-loop-k-preserved : goal.values-loop-k-preserved
-values-loop-k-preserved t c = left_more c.loop-k.invariant c.loop-k-test.true c.value_in-at.ensures
+pub values-loop-preserved : goal.values-loop-preserved
+values-loop-preserved t c =
+    let k : c.args.n - (c.loop.counter + 1) ≡ c.args.n - c.loop.counter - 1 = omega arith in
+    rw k (left_more c.loop.invariant (omega arith) c.in_ok-at-2.ensures)
 
 pub values-returns : goal.values-returns
-values-returns t c = left_none c.loop-k.invariant c.loop-k-test.false
+values-returns t c = rw c.in_ok-at.was (left_none c.loop.invariant (omega arith))

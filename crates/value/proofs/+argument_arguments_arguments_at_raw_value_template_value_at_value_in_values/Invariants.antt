@@ -1,10 +1,8 @@
--- The cycle of a value, its template and the loops over arguments and values. The measure is the depth, and who calls whom at one depth; in a loop
--- the bytes that are left fall.
-use Rattle.std.proofs.Common.{◌+◌, ◌*◌}
+-- The cycle of a value, its template and the loops over arguments and values. The measure is the depth, and who calls whom at one depth.
+use Rattle.std.proofs.Common.{◌+◌, ◌-◌, ◌*◌}
 use Rattle.grammar.specs.Value as grammar
-use Rattle.std.specs.Prelude.{Ok, Err}
+use Rattle.std.specs.Prelude.{Ok}
 use Rattle.layout.specs.Steps.Chain.{Left}
-use Rattle.layout.specs.Steps.Onward.{room}
 use Rattle.value.proofs.+argument_arguments_arguments_at_raw_value_template_value_at_value_in_values.Given as goal
 
 abbrev pub decreases-value_at : goal.decreases-value_at
@@ -31,14 +29,8 @@ decreases-template l = 8 * l.depth + 6
 abbrev pub decreases-raw_value : goal.decreases-raw_value
 decreases-raw_value l = 8 * l.depth + 7
 
-abbrev pub invariant-arguments_at-loop-k : goal.invariant-arguments_at-loop-k
-invariant-arguments_at-loop-k l = Left (grammar.Argument l.version l.depth) l.s l.n (Ok l.at-2) l.k l.at
+abbrev pub invariant-arguments_at-loop : goal.invariant-arguments_at-loop
+invariant-arguments_at-loop l = Left (grammar.Argument l.version l.depth) l.s l.n (Ok l.initial.at) (l.n - l.counter) (Ok l.at)
 
-abbrev pub decreases-arguments_at-loop-k : goal.decreases-arguments_at-loop-k
-decreases-arguments_at-loop-k l = room l.s l.at
-
-abbrev pub invariant-values-loop-k : goal.invariant-values-loop-k
-invariant-values-loop-k l = Left (grammar.ValueIn l.version l.depth) l.s l.n l.initial.at l.k l.at
-
-abbrev pub decreases-values-loop-k : goal.decreases-values-loop-k
-decreases-values-loop-k l = room l.s l.at
+abbrev pub invariant-values-loop : goal.invariant-values-loop
+invariant-values-loop l = Left (grammar.ValueIn l.version l.depth) l.s l.n (Ok l.initial.at) (l.n - l.counter) (Ok l.at)

@@ -1,5 +1,5 @@
 use mathlib.Core.Path.{refl, ap}
-use Rattle.std.specs.Prelude.{Ok, Err}
+use Rattle.std.specs.Prelude.{Ok}
 use Rattle.sizes.specs.Basics.{among, pick}
 use Rattle.layout.specs.Reads.{skip}
 use Rattle.layout.specs.Steps.Chain.{in_same}

@@ -1,34 +1,29 @@
-use mathlib.Core.Path.{refl, sym, ◌∙◌}
-use native.Mathlib.Omega.{arith}
+use Rattle.std.proofs.Common.{sym, ap, ◌∙◌, arith}
+use Rattle.std.proofs.lemmas.Result.{err_from_is_err_and}
+use Rattle.refusals.specs.Numbers.{by_number}
 use Rattle.layout.specs.Steps.Keeping.{kept_off}
 use Rattle.layout.specs.Steps.Slices.{bytes_of}
 use Rattle.axes.specs.Laws.Axes.{no_counts, not_summed, no_entries, the_entries}
 use Rattle.axes.proofs.axis.axes.Goals as goal
 
-pub returns-in-Err : goal.returns-in-Err
-returns-in-Err c =
-    let a = c.args in
+pub returns-in_err-first : goal.returns-in_err-first
+returns-in_err-first c =
     let b = bytes_of _ c.type_inv.s in
-    let m = c.at_most-d.result in
-    record { axes = rw (← c.at_most-d.ensures) (no_counts a.s.now b a.at m c.any-a.ensures.low c.any-b.ensures.low c.any.ensures.low c.in-Err.is); refused = refl }
+    let p = err_from_is_err_and c.from_residual.result c.from_residual.ensures.1 in
+    rw (p.1, p.2, ← c.min-d.ensures) (no_counts _ b _ c.min-d.result c.any-a.ensures.low c.any-b.ensures.low c.any.ensures.low (ap by_number c.in_err-first.was))
 
-pub returns-in-Err-end : goal.returns-in-Err-end
-returns-in-Err-end c =
-    let a = c.args in
+pub returns-then-not-adds_up : goal.returns-then-not-adds_up
+returns-then-not-adds_up c =
     let b = bytes_of _ c.type_inv.s in
-    let m = c.at_most-d.result in
-    record { axes = rw (← c.at_most-d.ensures) (no_entries a.s.now b a.at m c.any-a.ensures.low c.any-b.ensures.low c.any.ensures.low c.in-Ok.is c.peek-layers.ensures c.peek-rows.ensures c.peek-columns.ensures (sym c.adds_up-good.ensures ∙ c.if-good.true) (kept_off (rw c.in-Err-end.is at c.entries-e.ensures))); refused = refl }
+    rw (← c.min-d.ensures) (not_summed _ b _ c.min-d.result c.any-a.ensures.low c.any-b.ensures.low c.any.ensures.low (ap by_number c.in_ok-first.was) c.peek-layers.ensures c.peek-rows.ensures c.peek-columns.ensures (sym c.adds_up.ensures ∙ c.if-not-adds_up.true))
 
-pub returns-in-Ok-end : goal.returns-in-Ok-end
-returns-in-Ok-end c =
-    let a = c.args in
+pub returns-in_err-end : goal.returns-in_err-end
+returns-in_err-end c =
     let b = bytes_of _ c.type_inv.s in
-    let m = c.at_most-d.result in
-    record { axes = rw (← c.at_most-d.ensures) (the_entries a.s.now b a.at m c.any-a.ensures.low c.any-b.ensures.low c.any.ensures.low c.in-Ok.is c.peek-layers.ensures c.peek-rows.ensures c.peek-columns.ensures (sym c.adds_up-good.ensures ∙ c.if-good.true) (omega (arith, c.at_most-d.ensures)) (rw c.in-Ok-end.is at c.entries-e.ensures)); refused = tt }
+    let p = err_from_is_err_and c.from_residual-in_err-end.result c.from_residual-in_err-end.ensures.1 in
+    rw (p.1, p.2, ← c.min-d.ensures) (no_entries _ b _ c.min-d.result c.any-a.ensures.low c.any-b.ensures.low c.any.ensures.low (ap by_number c.in_ok-first.was) c.peek-layers.ensures c.peek-rows.ensures c.peek-columns.ensures (sym c.adds_up.ensures ∙ c.if-not-adds_up.false) (kept_off (rw c.in_err-end.was at c.entries.ensures)))
 
-pub returns-else-good : goal.returns-else-good
-returns-else-good c =
-    let a = c.args in
+pub returns : goal.returns
+returns c =
     let b = bytes_of _ c.type_inv.s in
-    let m = c.at_most-d.result in
-    record { axes = rw (← c.at_most-d.ensures) (not_summed a.s.now b a.at m c.any-a.ensures.low c.any-b.ensures.low c.any.ensures.low c.in-Ok.is c.peek-layers.ensures c.peek-rows.ensures c.peek-columns.ensures (sym c.adds_up-good.ensures ∙ c.if-good.false)); refused = refl }
+    rw (← c.min-d.ensures) (the_entries _ b _ c.min-d.result c.any-a.ensures.low c.any-b.ensures.low c.any.ensures.low (ap by_number c.in_ok-first.was) c.peek-layers.ensures c.peek-rows.ensures c.peek-columns.ensures (sym c.adds_up.ensures ∙ c.if-not-adds_up.false) (omega arith) (rw c.in_ok-end.was at c.entries.ensures))

@@ -1,5 +1,5 @@
-use Rattle.fields.specs.Laws.Gives.{any_value}
+use Rattle.fields.specs.Laws.Gives.{number_gives}
 use Rattle.fields.proofs.read.double.Goals as goal
 
 pub returns : goal.returns
-returns c = any_value c.any.ensures.low c.peek.ensures
+returns c = number_gives c.in_ok-at.ensures.low c.peek.ensures

@@ -1,27 +1,22 @@
-use mathlib.Core.Path.{refl}
-use native.Mathlib.Omega.{arith}
-use Rattle.layout.specs.Steps.Chain.{from_next, from_refused}
-use Rattle.fields.specs.Laws.Gives.{string_after, string_to, next_value, refused_value}
+use Rattle.std.proofs.Common.{◌≡◌, refl, ◌+◌, ◌-◌, arith}
+use Rattle.std.proofs.lemmas.Result.{err_from_is_err_and}
+use Rattle.layout.specs.Steps.Chain.{from_refused}
+use Rattle.fields.specs.Laws.Gives.{string_after, string_to}
 use Rattle.fields.proofs.read.text.Goals as goal
 
-pub overflow_add-result : goal.overflow_add-result
-overflow_add-result c = omega (arith, string_after c.string.ensures refl c.in-Ok-string.is)
+pub returns-in_err-at : goal.returns-in_err-at
+returns-in_err-at c =
+    let p = err_from_is_err_and c.from_residual.result c.from_residual.ensures.1 in
+    rw (p.1, p.2, c.in_err-at.was) (from_refused refl)
 
-pub overflow_sub-result : goal.overflow_sub-result
-overflow_sub-result c = omega (arith, string_after c.string.ensures refl c.in-Ok-string.is)
+pub overflow_add-place : goal.overflow_add-place
+overflow_add-place c = omega (arith, string_after (rw c.in_ok-at.was at c.in_ok-end.ensures) refl refl)
 
-pub overflow_sub-result-in-Ok-string : goal.overflow_sub-result-in-Ok-string
-overflow_sub-result-in-Ok-string c = omega (arith, string_after c.string.ensures refl c.in-Ok-string.is)
+pub overflow_sub-length : goal.overflow_sub-length
+overflow_sub-length c = omega (arith, string_after (rw c.in_ok-at.was at c.in_ok-end.ensures) refl refl)
 
-pub returns-in-Ok-string : goal.returns-in-Ok-string
-returns-in-Ok-string c =
-    let e = c.in-Ok.is in
-    next_value refl (string_to (from_next e (rw c.in-Ok-string.is at c.string.ensures)) e refl)
-
-pub returns-in-Err-string : goal.returns-in-Err-string
-returns-in-Err-string c =
-    let e = c.in-Ok.is in
-    refused_value refl (from_next e (rw c.in-Err-string.is at c.string.ensures))
-
-pub returns-in-Err : goal.returns-in-Err
-returns-in-Err c = refused_value refl (from_refused c.in-Err.is)
+pub returns : goal.returns
+returns c =
+    let at = c.in_ok-at.at in
+    let same : c.in_ok-end.end - (at + 4) ≡ c.in_ok-end.end - at - 4 = omega arith in
+    rw (c.in_ok-at.was, same) (string_to (rw c.in_ok-at.was at c.in_ok-end.ensures) refl refl)

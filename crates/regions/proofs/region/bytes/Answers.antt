@@ -1,20 +1,13 @@
-use borrow.Author.Tests.{le-leb, lt-leb}
+use Rattle.std.proofs.Common.{rules, refl}
 use Rattle.sizes.specs.Basics.{pick}
 use Rattle.layout.specs.Reads as spec
+use Rattle.regions.proofs.Ranges.{range_or}
 use Rattle.regions.proofs.region.bytes.Goals as goal
 
 pub returns-in_default : goal.returns-in_default
 unfolding spec.bytes pick
-returns-in_default c = simp c.in_default.is
+returns-in_default c = search rules
 
-pub returns-then-e-s : goal.returns-then-e-s
+pub returns : goal.returns
 unfolding spec.bytes pick
-returns-then-e-s c = simp (c.in-Ok.is, le-leb _ _ c.if-b-e.true, le-leb _ _ c.if-e-s.true)
-
-pub returns-else-e-s : goal.returns-else-e-s
-unfolding spec.bytes pick
-returns-else-e-s c = simp (c.in-Ok.is, le-leb _ _ c.if-b-e.true, lt-leb _ _ c.if-e-s.false)
-
-pub returns-else-b-e : goal.returns-else-b-e
-unfolding spec.bytes pick
-returns-else-b-e c = simp (c.in-Ok.is, lt-leb _ _ c.if-b-e.false)
+returns c = rw (c.unwrap_or.ensures, c.in-Ok.is) (range_or c.args.s.now c.in-Ok.b c.in-Ok.e c.get.result _ refl c.get.ensures.lookup.0)

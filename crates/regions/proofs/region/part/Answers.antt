@@ -1,38 +1,32 @@
-use borrow.Author.Tests.{leb-true}
-use native.Mathlib.Omega.{arith}
+use borrow.Author.Tests.{le-leb, lt-leb}
+use Rattle.std.proofs.lemmas.Result.{err_from_is_err_and}
 use Rattle.sizes.specs.Basics.{pick}
 use Rattle.layout.specs.Reads as spec
 use Rattle.layout.specs.Steps.Fields.{part_at}
 use Rattle.regions.proofs.region.part.Goals as goal
+use Rattle.regions.proofs.region.part.Goals.{else-w-room-via-then-w-room+else-n-room, else-w-room-via-else-w-room}
 
-pub overflow_add-result : goal.overflow_add-result
-unfolding spec.part pick
-overflow_add-result c = omega (arith, leb-true)
+pub returns-in_err-at : goal.returns-in_err-at
+unfolding spec.part
+returns-in_err-at c =
+    let p = err_from_is_err_and c.from_residual.result c.from_residual.ensures.1 in
+    rw (p.1, p.2, c.in_err-at.was)
 
-pub overflow_add-result-then-fits : goal.overflow_add-result-then-fits
+pub returns-then-n-room : goal.returns-then-n-room
 unfolding spec.part pick
-overflow_add-result-then-fits c = omega (arith, leb-true)
+returns-then-n-room c =
+    let n = rw (← c.width-w.ensures) at c.peek-n.ensures in
+    simp (c.in_ok-at.was, part_at, ← c.width-w.ensures, ← n, ← c.left-room.ensures, le-leb _ _ c.if-w-room.true, le-leb _ _ c.if-n-room.true)
 
-pub overflow_add-result-then-fits-2 : goal.overflow_add-result-then-fits-2
+pub returns : goal.returns
 unfolding spec.part pick
-overflow_add-result-then-fits-2 c = omega (arith, leb-true)
-
-pub returns-then-fits : goal.returns-then-fits
-unfolding spec.part pick
-returns-then-fits c =
-    let p = rw (c.in-Ok.is, ← c.width-w.ensures) at c.peek-n.ensures in
-    simp (c.in-Ok.is, part_at, ← c.width-w.ensures, ← p, ← c.left-room.ensures, c.if-head.true-raw, c.if-fits.true-raw)
-
-pub returns-then-head : goal.returns-then-head
-unfolding spec.part pick
-returns-then-head c =
-    let p = rw (c.in-Ok.is, ← c.width-w.ensures) at c.peek-n.ensures in
-    simp (c.in-Ok.is, part_at, ← c.width-w.ensures, ← p, ← c.left-room.ensures, c.if-head.true-raw, c.if-fits.false-raw)
-
-pub returns-else-head : goal.returns-else-head
-unfolding spec.part pick
-returns-else-head c = simp (c.in-Ok.is, part_at, ← c.width-w.ensures, ← c.left-room.ensures, c.if-head.false-raw)
-
-pub returns-in-Err : goal.returns-in-Err
-unfolding spec.part pick
-returns-in-Err c = simp c.in-Err.is
+returns c =
+    let n = rw (← c.width-w.ensures) at c.peek-n.ensures in
+    elim c.else-w-room.branch [
+      | else-w-room-via-then-w-room+else-n-room w ↦
+          let n = rw (← c.width-w.ensures) at c.peek-n.ensures in
+          simp (c.in_ok-at.was, part_at, ← c.width-w.ensures, ← n, ← c.left-room.ensures, le-leb _ _ w.if-w-room.true, lt-leb _ _ w.if-n-room.false)
+      | else-w-room-via-else-w-room w ↦
+          let n = rw (← c.width-w.ensures) at c.peek-n.ensures in
+          simp (c.in_ok-at.was, part_at, ← c.width-w.ensures, ← n, ← c.left-room.ensures, lt-leb _ _ w.if-w-room.false)
+    ]

@@ -1,17 +1,20 @@
 use mathlib.Core.Path.{sym}
+use Rattle.std.proofs.lemmas.Result.{err_from_is_err_and}
 use Rattle.sizes.specs.Basics.{pick}
 use Rattle.grammar.specs.Layout.{suits}
 use Rattle.layout.specs.Reads as spec
 use Rattle.regions.proofs.region.past.Goals as goal
 
-pub returns-then-zero : goal.returns-then-zero
-unfolding spec.past suits pick
-returns-then-zero c = simp (c.in-Ok.is, sym c.bytes.ensures, sym c.has_null-zero.ensures, c.if-zero.true, c.between.ensures)
+pub returns-in_err-b : goal.returns-in_err-b
+unfolding spec.past
+returns-in_err-b c =
+    let p = err_from_is_err_and c.from_residual.result c.from_residual.ensures.1 in
+    rw (p.1, p.2, c.in_err-b.was)
 
-pub returns-else-zero : goal.returns-else-zero
+pub returns-then-has_null : goal.returns-then-has_null
 unfolding spec.past suits pick
-returns-else-zero c = simp (c.in-Ok.is, sym c.bytes.ensures, sym c.has_null-zero.ensures, c.if-zero.false)
+returns-then-has_null c = simp (c.in_ok-b.was, sym c.bytes.ensures, sym c.has_null.ensures, c.if-has_null.true, c.between.ensures)
 
-pub returns-in-Err : goal.returns-in-Err
+pub returns : goal.returns
 unfolding spec.past suits pick
-returns-in-Err c = simp c.in-Err.is
+returns c = simp (c.in_ok-b.was, sym c.bytes.ensures, sym c.has_null.ensures, c.if-has_null.false)

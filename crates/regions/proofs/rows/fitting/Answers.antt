@@ -1,25 +1,18 @@
 use native.Mathlib.Omega.{arith}
-use borrow.Author.Tests.{eqb-false}
+use Rattle.std.proofs.Common.{rules}
+use borrow.Author.Tests.{eq-eqb, ne_eqb}
 use Rattle.sizes.specs.Basics.{pick}
 use Rattle.layout.specs.Reads as spec
 use Rattle.regions.proofs.rows.fitting.Goals as goal
 
 pub returns-in_default : goal.returns-in_default
 unfolding spec.fitting pick
-returns-in_default c = simp c.in_default.is
+returns-in_default c = search rules
 
-pub returns-then-none : goal.returns-then-none
+pub returns-then-size-eq0 : goal.returns-then-size-eq0
 unfolding spec.fitting pick
-returns-then-none c = simp (c.in-Ok.is, c.if-none.true-raw)
+returns-then-size-eq0 c = simp (c.in-Ok.is, eq-eqb _ _ c.if-size-eq0.true)
 
-pub nonzero_div-room : goal.nonzero_div-room
+pub returns : goal.returns
 unfolding spec.fitting pick
-nonzero_div-room c = omega (arith, eqb-false)
-
-pub returns-then-n-room : goal.returns-then-n-room
-unfolding spec.fitting pick
-returns-then-n-room c = simp (c.in-Ok.is, c.if-none.false-raw, ← c.left.ensures) (omega arith)
-
-pub returns-else-n-room : goal.returns-else-n-room
-unfolding spec.fitting pick
-returns-else-n-room c = simp (c.in-Ok.is, c.if-none.false-raw, ← c.left.ensures) (omega arith)
+returns c = simp (c.in-Ok.is, ne_eqb _ _ c.if-size-eq0.false, ← c.left.ensures) (omega arith)

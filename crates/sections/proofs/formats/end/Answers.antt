@@ -1,11 +1,12 @@
+use borrow.Author.Tests.{eq-eqb, ne_eqb}
 use Rattle.grammar.specs.Sections.{FormatsEnd}
 use Rattle.layout.specs.Steps.{reads}
 use Rattle.sections.proofs.formats.end.Goals as goal
 
-pub returns-then-old : goal.returns-then-old
+pub returns-then-version-eq1 : goal.returns-then-version-eq1
 unfolding FormatsEnd
-returns-then-old c = search reads depth 20
+returns-then-version-eq1 c = let e = eq-eqb _ _ c.if-version-eq1.true in search reads depth 20
 
 pub returns : goal.returns
 unfolding FormatsEnd
-returns c = search reads depth 20
+returns c = let e = ne_eqb _ _ c.if-version-eq1.false in search reads depth 20

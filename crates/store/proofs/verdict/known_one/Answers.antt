@@ -1,13 +1,15 @@
+use Rattle.std.proofs.Common.{◌≡◌, refl, ◌∙◌, ℕ, Bool, true, false, ◌||◌, eqb}
 use Rattle.sizes.specs.Basics.{among, pick}
 use Rattle.grammar.specs.Layout.{passes}
 use Rattle.grammar.specs.Laws.Layout.Read.{refusal}
 use Rattle.layout.specs.Reads.{verdict}
 use Rattle.store.proofs.verdict.known_one.Goals as goal
 
-pub returns-then-known : goal.returns-then-known
-unfolding verdict passes refusal among pick
-returns-then-known c = simp c.if-known.true-raw
+one : (b : Bool) (n : ℕ) → pick b 0 n ≡ pick (b || false) 0 n
+unfolding pick
+one true n = refl
+one false n = refl
 
-pub returns-else-known : goal.returns-else-known
-unfolding verdict passes refusal among pick
-returns-else-known c = simp c.if-known.false-raw
+pub returns : goal.returns
+unfolding verdict passes refusal among
+returns c = c.unless.ensures ∙ one (eqb c.args.v c.args.a) 4

@@ -1,41 +1,77 @@
-use mathlib.Core.Path.{◌≡◌, refl, sym, ◌∙◌}
-use mathlib.Core.List.{List}
-use Prim.Native.Nat.{ℕ, ◌-◌}
-use native.Mathlib.Omega.{arith}
-use lib.ListN.{length-set}
-use Rattle.std.specs.Prelude.{Ok, Err}
-use Rattle.layout.specs.Step.{Step}
-use Rattle.store.specs.Put.{State, put_words}
-use Rattle.store.specs.Puts.{PutsWords}
-use Rattle.store.specs.Laws.Puts.{words_kept, words_next, words_short, words_end}
+use Rattle.std.proofs.Common.{◌≡◌, refl, sym, ap, ◌∙◌, ◌+◌, ◌-◌, ◌≤◌, ◌<◌, ℕ, Bool, true, false, arith, leb, leb-true, leb-false, length, take, length-take-le, take_all, List, Ok, Err}
+use Rattle.std.proofs.lemmas.Result.{err_from_is_err_and}
+use Rattle.std.specs.Prelude.{min}
+use borrow.Rule.Slice.PartMut.{put_mid}
+use Rattle.store.specs.Put.{State, stored, put_words}
+use Rattle.store.specs.Laws.Puts.{words_kept, words_land, words_cut, words_past, words_none}
+use Rattle.store.specs.Laws.Stored.{stored_none}
+use Rattle.store.proofs.Parts.{put_all}
 use Rattle.store.proofs.words.put.Goals as goal
 
-kept : (ws b : List ℕ) {st : Step} {n p : ℕ} → st ≡ Err (n, p) → PutsWords ws b st b st
-kept ws b i = record { is = rw i (sym (words_kept ws b _ _)) }
+pub returns-in_err-at : goal.returns-in_err-at
+returns-in_err-at c =
+    let p = err_from_is_err_and c.from_residual.result c.from_residual.ensures.1 in
+    rw (p.1, p.2, c.in_err-at.was) record { is = sym (words_kept c.args.words.now c.args.out.now _ _) }
 
-finished : {ws b : List ℕ} {st : Step} {at : ℕ} {b' : List ℕ} {r : Step} → st ≡ Ok at → ◌≡◌ {A = State} (b', r) (put_words ws (b, Ok at)) → PutsWords ws b st b' r
-finished i e = record { is = rw i e }
+-- the words that fit stand in the buffer b, from a position `at`, or from its end where that is nearer
+module _ (ws b ys : List ℕ) (at start n : ℕ) (s : start ≡ min at (length b)) (m : n ≡ min (length ws) (length b - start)) (e : ys ≡ take n ws) where
+  long : length (take n ws) ≡ n
+  long = length-take-le n ws (omega arith)
 
-pub loop-i-preserved : goal.loop-i-preserved
-loop-i-preserved c =
-    let a = c.args in (
-      omega arith,
-      length-set c.loop-i.out c.loop-i.at _ ∙ c.loop-i.invariant.1,
-      sym (words_next a.words.now c.loop-i.out c.loop-i.i c.loop-i.at (omega arith) (omega arith)) ∙ c.loop-i.invariant.2,
-    )
+  mid : put_mid start (start + n - start) b ys ≡ stored b start (take n ws)
+  mid = rw long at (put_all b start (take n ws) ys (rw long (omega arith)) e)
 
-pub returns-in_default : goal.returns-in_default
-returns-in_default c = kept c.args.words.now c.args.out.now c.in_default.is
+  from_at : at ≤ length b → put_mid start (start + n - start) b ys ≡ stored b at (take n ws)
+  from_at h = mid ∙ ap (λ (k : ℕ). stored b k (take n ws)) (omega arith)
 
-pub loop-i-init : goal.loop-i-init
-loop-i-init c = (omega arith, refl, refl)
+  -- past the end, none
+  none : length b < at → put_mid start (start + n - start) b ys ≡ b
+  none h =
+      let z : n ≡ 0 = omega arith in
+      mid ∙ ap (λ (k : ℕ). stored b start (take k ws)) z ∙ stored_none b start
 
-pub returns-else-at-out : goal.returns-else-at-out
-returns-else-at-out c =
+  short : n < length ws → ◌≡◌ {A = State} (put_mid start (start + n - start) b ys, Err (2, at + n)) (put_words ws (b, Ok at))
+  short h = go (leb at (length b)) refl
+    where
+      go : (t : Bool) → leb at (length b) ≡ t → ◌≡◌ {A = State} (put_mid start (start + n - start) b ys, Err (2, at + n)) (put_words ws (b, Ok at))
+      go true t =
+          let inside = leb-true at (length b) t in
+          rw (from_at inside, words_cut ws b at n h (omega arith) (omega arith))
+      go false t =
+          let outside = leb-false at (length b) t in
+          let z : at + n ≡ at = omega arith in
+          rw (none outside, words_past ws b at (omega arith) (omega arith), z)
+
+  all : length ws ≤ n → ◌≡◌ {A = State} (put_mid start (start + n - start) b ys, Ok (at + n)) (put_words ws (b, Ok at))
+  all h = go (leb at (length b)) refl
+    where
+      full : take n ws ≡ ws
+      full = take_all n ws h
+
+      count : n ≡ length ws
+      count = omega arith
+
+      go : (t : Bool) → leb at (length b) ≡ t → ◌≡◌ {A = State} (put_mid start (start + n - start) b ys, Ok (at + n)) (put_words ws (b, Ok at))
+      go true t =
+          let inside = leb-true at (length b) t in
+          rw (from_at inside, full, count, words_land ws b at (omega arith))
+      go false t =
+          let outside = leb-false at (length b) t in
+          let z : at + n ≡ at = omega arith in
+          rw (none outside, words_none ws b at (omega arith), z)
+
+pub returns-then-n-words : goal.returns-then-n-words
+returns-then-n-words c =
     let a = c.args in
-    finished c.in-Ok.is (sym (words_short a.words.now c.loop-i.out c.loop-i.i c.loop-i.at (omega arith) (omega arith)) ∙ c.loop-i.invariant.2)
+    rw c.in_ok-at.was record {
+      is = short a.words.now a.out.now c.copy_from_slice.new.self c.in_ok-at.at c.min-start.result c.min-n.result c.min-start.ensures c.min-n.ensures
+          c.copy_from_slice.ensures.after c.if-n-words.true;
+    }
 
 pub returns : goal.returns
 returns c =
     let a = c.args in
-    finished c.in-Ok.is (sym (words_end a.words.now c.loop-i.out c.loop-i.i c.loop-i.at (omega arith)) ∙ c.loop-i.invariant.2)
+    rw c.in_ok-at.was record {
+      is = all a.words.now a.out.now c.copy_from_slice.new.self c.in_ok-at.at c.min-start.result c.min-n.result c.min-start.ensures c.min-n.ensures
+          c.copy_from_slice.ensures.after c.if-n-words.false;
+    }

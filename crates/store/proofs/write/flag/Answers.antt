@@ -1,10 +1,12 @@
-use mathlib.Core.Bool.{true, false}
-use native.Mathlib.Omega.{arith}
+use Rattle.std.proofs.Common.{◌≡◌, refl, ◌∙◌, Bool, true, false, arith}
+use mir.Val.{bool_byte}
 use Rattle.store.specs.Laws.Puts.{plain_bool}
+use Rattle.store.specs.Values.{bit}
 use Rattle.store.proofs.write.flag.Goals as goal
 
-pub returns-then-on : goal.returns-then-on
-returns-then-on c = rw c.if-on.true (plain_bool true (omega arith) c.number.ensures)
+bit_is : (on : Bool) → bool_byte on ≡ bit on
+bit_is true = refl
+bit_is false = refl
 
-pub returns-else-on : goal.returns-else-on
-returns-else-on c = rw c.if-on.false (plain_bool false (omega arith) c.number-else-on.ensures)
+pub returns : goal.returns
+returns c = plain_bool c.args.on (omega arith) (rw (c.from.ensures ∙ bit_is c.args.on) at c.number.ensures)

@@ -27,7 +27,7 @@ part_there w c s n = go (text_case w c s (lent n))
 
 pub returns : goal.returns
 returns c =
-    let v = c.name_verdict-c.ensures in
+    let v = c.name_verdict-verdict.ensures in
     let a = c.args in
     text_puts tt v (λ z. c.part-text.ensures ∙ part_there _ _ a.names.now a.n (sym v ∙ z)) c.string_field.ensures
 

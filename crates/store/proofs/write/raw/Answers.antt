@@ -1,26 +1,32 @@
-use mathlib.Core.Path.{◌≡◌}
-use Prim.Native.Nat.{◌+◌, ◌-◌}
-use native.Mathlib.Omega.{arith}
-use lib.ListN.{length}
+use Rattle.std.proofs.Common.{refl, ◌+◌, ◌<◌, length, arith}
+use Rattle.std.proofs.lemmas.Result.{err_from_is_err_and}
+use Rattle.refusals.specs.Numbers.{number}
+use Rattle.refusals.specs.Verdicts.{number_not_0}
 use Rattle.store.specs.Laws.Puts.{stores_kept, stores_refused, stores_short, stores_done}
 use Rattle.store.proofs.Parts.{put_all}
 use Rattle.store.proofs.write.raw.Goals as goal
+use Rattle.store.proofs.write.raw.Goals.{else-at-buf-via-then-at-buf+else-text-buf, else-at-buf-via-else-at-buf}
 
-pub returns-in_default : goal.returns-in_default
-returns-in_default c = stores_kept _ _ _ c.in_default.is
+pub returns-in_err-at : goal.returns-in_err-at
+returns-in_err-at c =
+    let p = err_from_is_err_and c.from_residual.result c.from_residual.ensures.1 in
+    rw (p.1, p.2, c.in_err-at.was) (stores_kept _ _ _ refl)
+
+pub returns-in-Err : goal.returns-in-Err
+returns-in-Err c = rw (c.in-Err.is, c.in_ok-at.was) (stores_refused _ _ (number c.in-Err.reason) (number_not_0 c.in-Err.reason) refl)
 
 pub returns-then-text-buf : goal.returns-then-text-buf
 returns-then-text-buf c =
     let a = c.args in
-    let at = c.in-Ok.at in
-    stores_done a.text.now a.buf.now a.c c.if-good.true-raw c.in-Ok.is (omega arith)
-    (put_all a.buf.now at a.text.now c.copy_from_slice.new.self (omega arith) c.copy_from_slice.ensures.after)
+    let at = c.in_ok-at.at in
+    rw (c.in_ok-at.was, c.in_default.is) (stores_done a.text.now a.buf.now 0 refl refl (omega arith)
+    (put_all a.buf.now at a.text.now c.copy_from_slice.new.self (omega arith) c.copy_from_slice.ensures.after))
 
-pub returns-else-text-buf : goal.returns-else-text-buf
-returns-else-text-buf c = stores_short c.args.text.now c.args.buf.now c.args.c c.if-good.true-raw c.in-Ok.is (omega arith)
-
-pub returns-else-at-buf : goal.returns-else-at-buf
-returns-else-at-buf c = stores_short c.args.text.now c.args.buf.now c.args.c c.if-good.true-raw c.in-Ok.is (omega arith)
-
-pub returns-else-good : goal.returns-else-good
-returns-else-good c = stores_refused _ _ _ c.if-good.false-raw c.in-Ok.is
+pub returns : goal.returns
+returns c =
+    let a = c.args in
+    let outside : length a.buf.now < c.in_ok-at.at + length a.text.now = elim c.else-at-buf.branch [
+      | else-at-buf-via-then-at-buf+else-text-buf w ↦ omega arith
+      | else-at-buf-via-else-at-buf w ↦ omega arith
+    ] in
+    rw (c.in_ok-at.was, c.in_default.is) (stores_short a.text.now a.buf.now 0 refl refl outside)

@@ -1,38 +1,18 @@
-use mathlib.Core.Path.{◌≡◌, refl, sym, ◌∙◌}
-use mathlib.Core.Bool.{Bool, true, false}
-use Prim.Native.Nat.{ℕ, zero, suc, ◌-◌, ◌/◌, ◌^◌, ◌<◌}
-use native.Mathlib.Nat.{pow-suc}
-use native.Mathlib.Numerals.{sub-one}
-use native.Mathlib.Omega.{arith}
-use lib.Dec.{eqb, ltb}
-use borrow.Author.Tests.{lt-ltb, le-ltb, ltb-true, ltb-false, eq-eqb, ne_eqb}
+use Rattle.std.proofs.Common.{◌≡◌, ◌∙◌, ap, ℕ, ◌*◌, ◌^◌, ◌<◌, ◌+◌, ltb, arith}
+use Rattle.std.specs.Prelude.{zero, suc}
+use Rattle.std.proofs.Common.{refl}
+use Rattle.std.proofs.Math.Nat.{pow-suc}
+use Rattle.std.proofs.lemmas.Nat.{one_shl, pow-add}
 use Rattle.store.proofs.write.says.Goals as goal
 
-one_less : (v k : ℕ) → 0 < k → ltb v (256 ^ k) ≡ ltb (v / 256) (256 ^ (k - 1))
-one_less v zero h = absurd (omega arith)
-one_less v (suc k) h = rw sub-one (go (ltb v (256 ^ suc k)) refl)
-  where
-    go : (b : Bool) → ltb v (256 ^ suc k) ≡ b → b ≡ ltb (v / 256) (256 ^ k)
-    go true e = let h = rw pow-suc at (ltb-true v (256 ^ suc k) e) in sym (lt-ltb (v / 256) (256 ^ k) (omega arith))
-    go false e = let h = rw pow-suc at (ltb-false v (256 ^ suc k) e) in sym (le-ltb (v / 256) (256 ^ k) (omega arith))
+bytes_are_bits : (w : ℕ) → 2 ^ (8 * w) ≡ 256 ^ w
+bytes_are_bits zero = refl
+bytes_are_bits (suc w) =
+    let more : 8 * suc w ≡ 8 * w + 8 = omega arith in
+    rw (more, pow-add 2 (8 * w) 8, bytes_are_bits w, pow-suc 256 w) refl
 
-none_left : (v : ℕ) → ltb v 1 ≡ eqb v 0
-none_left v = go (ltb v 1) refl
-  where
-    go : (b : Bool) → ltb v 1 ≡ b → b ≡ eqb v 0
-    go true e = let h = ltb-true v 1 e in sym (eq-eqb v 0 (omega arith))
-    go false e = let h = ltb-false v 1 e in sym (ne_eqb v 0 (λ z. omega arith))
-
-pub loop-k-preserved : goal.loop-k-preserved
-loop-k-preserved c =
-    let l = c.loop-k in
-    l.invariant ∙ one_less l.v l.k (omega arith)
-
-pub returns : goal.returns
-returns c =
-    let l = c.loop-k in
-    let none : l.k ≡ 0 = omega arith in
-    sym (rw none at l.invariant ∙ none_left l.v)
-
-pub loop-k-init : goal.loop-k-init
-loop-k-init c = rw c.width-k.ensures
+pub returns-else-w-eq8 : goal.returns-else-w-eq8
+returns-else-w-eq8 c =
+    let w = c.width-w in
+    let below : 8 * w.result < 64 = omega (arith, w.ensures) in
+    rw (← w.ensures) (ap (ltb c.args.n) (one_shl (8 * w.result) 64 below ∙ bytes_are_bits w.result))

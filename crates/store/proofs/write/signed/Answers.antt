@@ -8,4 +8,4 @@ pub returns : goal.returns
 returns c =
     let k = c.to_bits in
     let e : k.result ≡ twos c.args.v = rw (to_z-of_z w32 c.args.v c.ranges.v) at k.ensures in
-    rw (← e) c.int32.ensures
+    rw (← e) c.int32.ensures.any

@@ -1,16 +1,13 @@
 -- whether length and bytes fit
-use mathlib.Core.Path.{◌≡◌, refl, sym, ◌∙◌}
-use mathlib.Core.Bool.{Bool, true, false}
-use mathlib.Core.List.{List, ◌++◌}
-use Prim.Native.Nat.{ℕ, ◌+◌, ◌≤◌, ◌<◌, min}
-use native.Mathlib.Omega.{arith}
-use lib.ListN.{length, length-append}
-use lib.Dec.{leb}
-use borrow.Author.Tests.{eqb-true, leb-true, leb-false}
+use Rattle.std.proofs.Common.{◌≡◌, refl, sym, ◌∙◌, Bool, true, false, List, ◌++◌, ℕ, ◌+◌, ◌≤◌, ◌<◌, length, length-append, leb, leb-true, leb-false, arith}
+use Rattle.std.specs.Prelude.{min}
+use Rattle.std.proofs.lemmas.Result.{err_from_is_err_and}
+use Rattle.refusals.specs.Numbers.{number}
+use Rattle.refusals.specs.Verdicts.{number_not_0}
 use Rattle.grammar.specs.Layout.{Order, digits}
 use Rattle.layout.specs.Reads.{order}
 use Rattle.grammar.specs.Laws.Layout.{digits_length}
-use Rattle.store.specs.Laws.Puts.{stores_kept, stores_refused, stores_short, stores_both, long_field}
+use Rattle.store.specs.Laws.Puts.{stores_kept, stores_refused, stores_short, stores_both}
 use Rattle.store.proofs.write.string_field.Goals as goal
 
 module _ (o : Order) (w : ℕ) (text b : List ℕ) (at m : ℕ) {room : Bool} (e : m ≡ min w 8) (r : room ≡ leb (at + m + length text) (length b)) where
@@ -20,25 +17,23 @@ module _ (o : Order) (w : ℕ) (text b : List ℕ) (at m : ℕ) {room : Bool} (e
   too_long : room ≡ false → length b < at + length (digits o (min w 8) (length text) ++ text)
   too_long t = rw (length-append, digits_length) (omega (arith, leb-false (at + m + length text) (length b) (sym r ∙ t)))
 
-pub returns-then-room : goal.returns-then-room
-returns-then-room c =
+pub returns-in_err-at : goal.returns-in_err-at
+returns-in_err-at c =
+    let p = err_from_is_err_and c.from_residual.result c.from_residual.ensures.1 in
+    rw (p.1, p.2, c.in_err-at.was) (stores_kept _ _ _ refl)
+
+pub returns-in-Err : goal.returns-in-Err
+returns-in-Err c = rw (c.in-Err.is, c.in_ok-at.was) (stores_refused _ _ (number c.in-Err.reason) (number_not_0 c.in-Err.reason) refl)
+
+pub returns-then-fits : goal.returns-then-fits
+returns-then-fits c =
     let a = c.args in
-    let zero = eqb-true a.c 0 c.if-good.true-raw in
-    rw (zero, c.in-Ok.is) (stores_both c.in-Ok.at refl
-    (full (order a.high) a.w a.text.now a.buf.now c.in-Ok.at c.width.result c.width.ensures c.fits-room.ensures c.if-room.true)
-    c.number-next.ensures c.raw.ensures)
+    rw (c.in_default.is, c.in_ok-at.was) (stores_both c.in_ok-at.at refl
+    (full (order a.high) a.w a.text.now a.buf.now c.in_ok-at.at c.width.result c.width.ensures c.fits.ensures c.if-fits.true)
+    (rw c.in_ok-at.was at c.number-next.ensures) c.raw.ensures)
 
-pub returns-in_default : goal.returns-in_default
-returns-in_default c = stores_kept _ _ _ c.in_default.is
-
-pub shape_of-buf : goal.shape_of-buf
-shape_of-buf c = long_field (returns-then-room c)
-
-pub returns-else-room : goal.returns-else-room
-returns-else-room c =
+pub returns : goal.returns
+returns c =
     let a = c.args in
-    stores_short _ _ _ c.if-good.true-raw c.in-Ok.is
-    (too_long (order a.high) a.w a.text.now a.buf.now c.in-Ok.at c.width.result c.width.ensures c.fits-room.ensures c.if-room.false)
-
-pub returns-else-good : goal.returns-else-good
-returns-else-good c = stores_refused _ _ _ c.if-good.false-raw c.in-Ok.is
+    rw (c.in_default.is, c.in_ok-at.was) (stores_short _ _ _ refl refl
+    (too_long (order a.high) a.w a.text.now a.buf.now c.in_ok-at.at c.width.result c.width.ensures c.fits.ensures c.if-fits.false))

@@ -1,9 +1,4 @@
-use mathlib.Core.Path.{◌≡◌, refl}
-use mathlib.Core.Bool.{Bool}
-use mathlib.Core.List.{List}
-use Prim.Native.Nat.{ℕ, ◌^◌}
-use lib.ListN.{length}
-use lib.Dec.{ltb}
+use Rattle.std.proofs.Common.{◌≡◌, refl, ◌∙◌, Bool, List, ℕ, ◌^◌, length, ltb}
 use Rattle.sizes.specs.Basics.{pick}
 use Rattle.grammar.specs.Layout.{any_bytes, suits}
 use Rattle.layout.specs.Steps.Slices.{bytes_of}
@@ -12,30 +7,17 @@ use Rattle.store.specs.Put.{content_verdict, text_verdict}
 use Rattle.store.specs.Laws.Puts.{text_puts, long_plain}
 use Rattle.store.proofs.write.text.Goals as goal
 
-verdict-of : (w : ℕ) (s xs : List ℕ) {short : Bool} → short ≡ ltb (length xs) (256 ^ w) → pick short 0 7 ≡ text_verdict w any_bytes s (letters xs)
+verdict_of : (w : ℕ) (s xs : List ℕ) {short : Bool} → short ≡ ltb (length xs) (256 ^ w) → pick short 0 7 ≡ text_verdict w any_bytes s (letters xs)
 unfolding text_verdict content_verdict suits pick
-verdict-of w s xs e = rw e
+verdict_of w s xs e = rw e
 
-pub returns-then-short : goal.returns-then-short
-unfolding pick text_of
-returns-then-short c =
-    let a = c.args in
+pub returns : goal.returns
+unfolding text_of
+returns c =
+    let xs = c.args.text.now in
     record {
-      any = λ s. text_puts (bytes_of a.text.now c.type_inv.text)
-          (rw c.if-short.true at (verdict-of _ s a.text.now c.says-short.ensures)) (λ z. refl) c.string_field.ensures;
+      any = λ s. text_puts (bytes_of xs c.type_inv.text) (c.unless-verdict.ensures ∙ verdict_of _ s xs c.says.ensures) (λ z. refl) c.string_field.ensures;
     }
 
-pub returns-else-short : goal.returns-else-short
-unfolding pick text_of
-returns-else-short c =
-    let a = c.args in
-    record {
-      any = λ s. text_puts (bytes_of a.text.now c.type_inv.text)
-          (rw c.if-short.false at (verdict-of _ s a.text.now c.says-short.ensures)) (λ z. refl) c.string_field-else-short.ensures;
-    }
-
-pub shape_of-buf-then-short : goal.shape_of-buf-then-short
-shape_of-buf-then-short c = long_plain (returns-then-short c)
-
-pub shape_of-buf-else-short : goal.shape_of-buf-else-short
-shape_of-buf-else-short c = long_plain (returns-else-short c)
+pub shape_of-buf : goal.shape_of-buf
+shape_of-buf c = long_plain (returns c)

@@ -1,5 +1,5 @@
-use mathlib.Core.Path.{refl}
-use native.Mathlib.Omega.{arith}
+use Rattle.std.proofs.Common.{refl, arith}
+use Rattle.std.proofs.lemmas.Result.{err_from_is_err_and}
 use Rattle.table.specs.Laws.Within.{room_after}
 use Rattle.table.specs.Laws.Dims.{node_record_sizes, passing, passes_on, passes_off, passes_to}
 use Rattle.table.proofs.dimension.all.Goals as goal
@@ -9,14 +9,15 @@ loop-i-init c = (refl, (passing _) _ _ _ _ _)
 
 pub dimension-requires : goal.dimension-requires
 dimension-requires c =
-    let p = c.requires in
-    (omega arith, p.1, c.loop-i.invariant.1.few, rw c.loop-i.invariant.0 (room_after node_record_sizes (omega (arith, c.loop-i.invariant.1.bytes)) p.2))
+    (omega arith, c.loop-i.invariant.1.few, rw c.loop-i.invariant.0 (room_after node_record_sizes (omega (arith, c.loop-i.invariant.1.bytes)) c.requires.1))
 
-pub returns-in-Err : goal.returns-in-Err
-returns-in-Err c = passes_off _ _ _ _ _ _ c.loop-i.invariant.1 (omega arith) (rw c.in-Err.is at c.dimension.ensures)
+pub returns-in_err-at : goal.returns-in_err-at
+returns-in_err-at c =
+    let p = err_from_is_err_and c.from_residual.result c.from_residual.ensures.1 in
+    rw (p.1, p.2) (passes_off _ _ _ _ _ _ c.loop-i.invariant.1 (omega arith) (rw c.in_err-at.was at c.dimension.ensures))
 
 pub loop-i-preserved : goal.loop-i-preserved
-loop-i-preserved c = (omega arith, passes_on _ _ _ _ _ _ c.loop-i.invariant.1 (omega arith) (rw c.in-Ok.is at c.dimension.ensures))
+loop-i-preserved c = (omega arith, passes_on _ _ _ _ _ _ c.loop-i.invariant.1 (omega arith) (rw c.in_ok-at.was at c.dimension.ensures))
 
 pub returns : goal.returns
 returns c = passes_to _ _ _ _ _ _ c.loop-i.invariant.1 (omega arith)

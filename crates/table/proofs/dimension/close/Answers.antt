@@ -1,12 +1,17 @@
-use mathlib.Core.Path.{ap}
+use Rattle.std.proofs.Common.{◌≡◌, refl, ap, ℕ, Option, None, Some}
+use Rattle.std.proofs.Math.Option.{none}
 use Rattle.once.specs.Laws.Leaves.{place_of}
 use Rattle.table.specs.Laws.Dims.{closed, bad_leaf}
 use Rattle.table.proofs.dimension.close.Goals as goal
 
-pub returns-in-Bad : goal.returns-in-Bad
-returns-in-Bad c = bad_leaf (rw (← c.between-k.ensures, ← c.check_leaves-leaves.ensures.verdict) (ap place_of c.in-Bad.is))
+none_there : (o : Option ℕ) → ((x : ℕ) → o ≡ Some x → ⊥) → place_of o ≡ none
+none_there None h = refl
+none_there (Some x) h = absurd (h x refl)
 
-pub returns-in-Fine : goal.returns-in-Fine
-returns-in-Fine c =
-    closed (rw (← c.between-k.ensures, ← c.check_leaves-leaves.ensures.verdict) (ap place_of c.in-Fine.is))
-    (rw (← c.between-k.ensures, ← c.check_leaves-leaves.ensures.count) c.store.ensures)
+pub returns-in-Some : goal.returns-in-Some
+returns-in-Some c = bad_leaf (rw (← c.between.ensures, ← c.check_leaves-leaves.ensures.first) (ap place_of c.in-Some.is))
+
+pub returns : goal.returns
+returns c =
+    closed (rw (← c.between.ensures, ← c.check_leaves-leaves.ensures.first) (none_there c.check_leaves-leaves.result.bad c.in_default.not-Some))
+    (rw (← c.between.ensures, ← c.check_leaves-leaves.ensures.count) (rw (c.word.ensures, c.word-2.ensures, c.word-3.ensures) at c.put.ensures))

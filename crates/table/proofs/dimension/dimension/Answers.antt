@@ -1,24 +1,38 @@
-use Rattle.layout.specs.Steps.Chain.{◌◂◌}
+use Rattle.std.proofs.Common.{refl, ap}
+use Rattle.std.proofs.lemmas.Result.{err_from_is_err_and}
+use Rattle.refusals.specs.Numbers.{by_number}
+use Rattle.layout.specs.Steps.Chain.{kept, ◌◂◌}
 use Rattle.layout.specs.Steps.Keeping.{kept_on, kept_off}
-use Rattle.layout.specs.Steps.Slices.{bytes_of}
+use Rattle.table.specs.Laws.InMember.{in_member}
 use Rattle.table.specs.Laws.Dims.{no_start, no_categories, close_dim}
 use Rattle.table.proofs.dimension.dimension.Goals as goal
 
-pub categories-requires : goal.categories-requires
-categories-requires c = (c.requires.1, c.requires.2)
+pub returns-in_err-name : goal.returns-in_err-name
+returns-in_err-name c =
+    let m = c.args.member in
+    let p = err_from_is_err_and c.from_residual.result c.from_residual.ensures.1 in
+    rw (p.1, p.2) (no_start _ _ (in_member m.are_bytes) m.short _ _ (kept refl ◂ kept refl ◂ rw c.in_err-name.was at c.value.ensures) refl)
 
-pub returns-in-Err : goal.returns-in-Err
-returns-in-Err c = no_start _ _ (bytes_of _ c.type_inv.s) c.requires.1 _ _ (c.any.ensures.low ◂ c.properties-before.ensures ◂ c.value-name.ensures) c.in-Err.is
+pub returns-in_err-first : goal.returns-in_err-first
+returns-in_err-first c =
+    let m = c.args.member in
+    let p = err_from_is_err_and c.from_residual-in_err-first.result c.from_residual-in_err-first.ensures.1 in
+    rw (p.1, p.2) (no_start _ _ (in_member m.are_bytes) m.short _ _ (c.any.ensures.low ◂ c.properties-before.ensures ◂ rw c.in_ok-name.was at c.value.ensures) (ap by_number c.in_err-first.was))
 
-pub returns-in-Err-categories : goal.returns-in-Err-categories
-returns-in-Err-categories c =
-    no_categories _ _ (bytes_of _ c.type_inv.s) c.requires.1 _ _ c.requires.2 c.requires.3
-    c.value-name.ensures (c.properties-before.ensures ◂ c.value-name.ensures) c.any.ensures.low c.peek-n.ensures c.in-Ok.is
-    (kept_off (rw c.in-Err-categories.is at c.categories.ensures))
+pub returns-in_err-end : goal.returns-in_err-end
+returns-in_err-end c =
+    let m = c.args.member in
+    let p = err_from_is_err_and c.from_residual-in_err-end.result c.from_residual-in_err-end.ensures.1 in
+    let v = rw c.in_ok-name.was at c.value.ensures in
+    rw (p.1, p.2) (no_categories _ _ (in_member m.are_bytes) m.short _ _ c.requires.1 c.requires.2
+    v (c.properties-before.ensures ◂ v) c.any.ensures.low c.peek-n.ensures (ap by_number c.in_ok-first.was)
+    (kept_off (rw c.in_err-end.was at c.categories.ensures)))
 
-pub returns-in-Ok : goal.returns-in-Ok
-returns-in-Ok c =
-    let r = kept_on (rw c.in-Ok.is at c.categories.ensures) in
-    close_dim _ _ (bytes_of _ c.type_inv.s) c.requires.1 _ _ c.requires.2 c.requires.3
-    c.value-name.ensures (c.properties-before.ensures ◂ c.value-name.ensures) c.any.ensures.low c.peek-n.ensures c.in-Ok.is
-    {ts = r.tree} r.is r.keeps (rw c.name_length.ensures at c.close.ensures)
+pub returns : goal.returns
+returns c =
+    let m = c.args.member in
+    let v = rw c.in_ok-name.was at c.value.ensures in
+    let r = kept_on (rw c.in_ok-end.was at c.categories.ensures) in
+    close_dim _ _ (in_member m.are_bytes) m.short _ _ c.requires.1 c.requires.2
+    v (c.properties-before.ensures ◂ v) c.any.ensures.low c.peek-n.ensures (ap by_number c.in_ok-first.was)
+    {ts = r.tree} r.is r.keeps (rw c.length.ensures at c.close.ensures)

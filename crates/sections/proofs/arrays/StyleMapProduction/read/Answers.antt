@@ -1,0 +1,5 @@
+use Rattle.layout.specs.Steps.{reads}
+use Rattle.sections.proofs.arrays.StyleMapProduction.read.Goals as goal
+
+pub returns : goal.returns
+returns c = search reads depth 20

@@ -1,5 +1,0 @@
-use Rattle.layout.specs.Steps.{reads}
-use Rattle.sections.proofs.arrays.triples.Goals as goal
-
-pub returns : goal.returns
-returns c = search reads depth 20

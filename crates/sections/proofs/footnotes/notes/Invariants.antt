@@ -1,9 +1,0 @@
-use Rattle.layout.specs.Steps.Chain.{Left}
-use Rattle.grammar.specs.Sections.{Footnote}
-use Rattle.sections.proofs.footnotes.notes.Given as goal
-
-abbrev pub invariant-loop-k : goal.invariant-loop-k
-invariant-loop-k l = Left (Footnote l.version) l.s l.n l.initial.at l.k l.at
-
-abbrev pub decreases-loop-k : goal.decreases-loop-k
-decreases-loop-k l = l.k

@@ -1,8 +1,0 @@
-use Rattle.layout.specs.Steps.{reads}
-use Rattle.sections.proofs.optional.optional_value.Goals as goal
-
-pub returns-then-present : goal.returns-then-present
-returns-then-present c = search reads depth 20
-
-pub returns-else-present : goal.returns-else-present
-returns-else-present c = search reads depth 20

@@ -1,7 +1,0 @@
-use Rattle.grammar.specs.Sections.{TableSettingsContent}
-use Rattle.layout.specs.Steps.{reads}
-use Rattle.sections.proofs.table_settings.content.Goals as goal
-
-pub returns : goal.returns
-unfolding TableSettingsContent
-returns c = search reads depth 20
