@@ -1,6 +1,6 @@
 -- What `start`, `feed` and `finish` answer (document 02, T-05; document 01: "All refusals return the number, the place"), as equations over the
 -- machine of `case_stream`.
-use Rattle.std.specs.Prelude.{◌≡◌, Bool, true, false, List, [], ◌∷◌, ◌++◌, ℕ, zero, suc, ◌-◌, ◌/◌, ◌≤◌, eqb, leb, ltb, length, take, drop, replicate, Result, Ok, Err}
+use Rattle.std.specs.Prelude.{◌≡◌, Bool, true, false, List, [], ◌∷◌, ◌++◌, ℕ, zero, suc, ◌-◌, ◌/◌, ◌≤◌, eqb, leb, ltb, length, take, drop, replicate, Result, Ok, Err, IfErr}
 use Rattle.std.proofs.lemmas.List.Edits.{sets}
 use Rattle.sizes.specs.Basics.{pick}
 use Rattle.case_stream.specs.Stream.{Element, limit, most_kinds, most_bias, ended, bad, full}
@@ -41,6 +41,10 @@ too_many = refused Limit limit
 -- "23, at the number of bytes taken so far"
 abbrev pub too_soon : ℕ → Refusal
 too_soon n = refused CaseEnd n
+
+-- places are 32-bit words
+abbrev pub Placed : {A : Type 0} → Result A Refusal → Type 0
+Placed r = IfErr r (λ e. e.place ≤ limit)
 
 -- ---- the start
 

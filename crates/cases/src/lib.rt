@@ -9,6 +9,7 @@ mod cursors; // a state with one more byte, or one code fewer
 mod steps; // one step of a call
 
 ghost use Rattle.std.specs.Prelude.{◌≡◌, length, ◌≤◌};
+ghost use Rattle.case_stream.specs.Stream.{limit};
 ghost use Rattle.case_state.specs.Phases.{number};
 ghost use Rattle.cases.specs.Answers as spec;
 
@@ -32,7 +33,7 @@ pub struct Call {
 }
 
 fn refused(reason: Reason, place: u32) -> Refusal
-    ensures { result ≡ spec.refused reason place }
+    ensures { (result ≡ spec.refused reason place) × (result.place ≤ limit) }
 {
     Refusal {
         reason,
@@ -53,7 +54,8 @@ fn padded(kinds: &[u8]) -> [u8; 256]
 // The state before the first byte, from the kinds of a case's elements, NUMERIC or STRING, and the bias.
 #[tactic(auto, unfolding(sizes::specs::Basics::pick, crate::specs::Answers::start_ok, crate::specs::Answers::start_of))]
 pub fn start(kinds: &[u8], bias: u32) -> Result<State, Refusal>
-    ensures { result ≡ spec.start_of kinds.now bias }
+    ensures is { result ≡ spec.start_of kinds.now bias }
+    ensures placed { spec.Placed result }
 {
     let count = kinds.len();
     if count == 0 || MOST_KINDS < count || MOST_BIAS < bias {
@@ -74,7 +76,8 @@ pub fn start(kinds: &[u8], bias: u32) -> Result<State, Refusal>
 // The refusal for ever after, of a state that has one.
 #[tactic(auto, unfolding(sizes::specs::Basics::pick, crate::specs::Answers::refusal_at))]
 fn refusal_of(c: Cursor) -> Answer
-    ensures { result ≡ spec.refusal_at (number c.phase) c.place }
+    ensures is { result ≡ spec.refusal_at (number c.phase) c.place }
+    ensures placed { spec.Placed result }
 {
     match c.phase {
         Phase::BadCode => Err(refused(Reason::CaseCode, c.place)),
@@ -85,7 +88,8 @@ fn refusal_of(c: Cursor) -> Answer
 
 // A call: as many bytes of the input are taken and elements written as can be.
 pub fn feed(s: State, input: &[u8], output: &mut [u8]) -> Call
-    ensures { spec.Called s input.now output.old output.new result }
+    ensures called { spec.Called s input.now output.old output.new result }
+    ensures placed { spec.Placed result.answer }
 {
     if !state_ok(s) {
         return Call {
@@ -112,7 +116,8 @@ pub fn feed(s: State, input: &[u8], output: &mut [u8]) -> Call
 // 23 at the bytes taken, unless a 252 has acted or there is nothing left to do: no code, no part of a group, no part of a case.
 #[tactic(auto, unfolding(sizes::specs::Basics::pick, crate::specs::Answers::end_where, crate::specs::Answers::unfinished_at, crate::specs::Answers::refusal_at))]
 fn end_of(c: Cursor) -> Answer
-    ensures { result ≡ spec.end_where c }
+    ensures is { result ≡ spec.end_where c }
+    ensures placed { spec.Placed result }
 {
     match c.phase {
         Phase::Ended => Ok(()),
@@ -124,7 +129,8 @@ fn end_of(c: Cursor) -> Answer
 
 // The end of the stream: it changes nothing.
 pub fn finish(s: State) -> Answer
-    ensures { result ≡ spec.finish_of s }
+    ensures is { result ≡ spec.finish_of s }
+    ensures placed { spec.Placed result }
 {
     if !state_ok(s) {
         return Err(refused(Reason::CaseState, 0));

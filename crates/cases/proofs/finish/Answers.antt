@@ -7,8 +7,8 @@ use Rattle.cases.proofs.finish.Goals as goal
 
 pub returns-then-not-state_ok : goal.returns-then-not-state_ok
 unfolding finish_of pick
-returns-then-not-state_ok c = rw (sym c.state_ok.ensures ∙ c.if-not-state_ok.true, c.refused.ensures)
+returns-then-not-state_ok c = record { is = rw (sym c.state_ok.ensures ∙ c.if-not-state_ok.true, c.refused.ensures.0); placed = c.refused.ensures.1 }
 
 pub returns : goal.returns
 unfolding finish_of pick
-returns c = let ok = sym c.state_ok.ensures ∙ c.if-not-state_ok.false in rw ok (c.end_of.ensures ∙ end_is _ _ (state_sound c.args.s ok).1)
+returns c = let ok = sym c.state_ok.ensures ∙ c.if-not-state_ok.false in record { is = rw ok (c.end_of.ensures.is ∙ end_is _ _ (state_sound c.args.s ok).1); placed = c.end_of.ensures.placed }

@@ -167,3 +167,16 @@ clash e f = let z : ◌≡◌ {A = ℕ} 0 1 = cc in omega arith
 pub call_refused : (s : State) (input o : List ℕ) → state_ok s ≡ false → Called s input o o (record { state = s; answer = Err bad_state; taken = 0; written = 0 })
 unfolding call_of output_of pick
 call_refused s input o e = record { is = rw e; output = rw e; stands = λ q. absurd (clash q e); lasts = λ q. q; taken_in = omega arith; written_in = omega arith }
+
+-- ---- 3. the start
+
+pub pad_none : (l : List ℕ) → padded 0 l ≡ replicate 256 0
+unfolding padded
+pad_none l = refl
+
+pub pad_more : (i : ℕ) (l : List ℕ) → i < length l → length l ≤ 256 → set (padded i l) i (get_or l i 0) ≡ padded (i + 1) l
+unfolding padded
+pad_more i l h k =
+    let e : 256 - i ≡ suc (256 - (i + 1)) = omega arith in
+    let n : length (take i l) ≡ i = length-take-le i l (omega arith) in
+    rw (e, set_at (take i l) 0 (replicate (256 - (i + 1)) 0) (get_or l i 0) i n, add-one i, take-suc l i 0) (sym (append_snoc (take i l) (get_or l i 0) (replicate (256 - suc i) 0)))

@@ -10,6 +10,7 @@ use Rattle.case_state.specs.declared.State.{State}
 use Rattle.case_state.specs.Phases.{number}
 use Rattle.case_state.specs.Cursor.{Good}
 use Rattle.case_state.specs.Tests.{kinds_ok, rest_ok, state_ok}
+use Rattle.case_state.proofs.Laws.Phases.{phase_of_number}
 use Rattle.case_state.proofs.Laws.Tests.{both}
 use Rattle.case_state.proofs.Laws.Valid.{state_parts}
 use Rattle.cases.specs.Steps.{firsts}
@@ -86,4 +87,4 @@ module _ (s : State) (ok : state_ok s ≡ true) where
       let Filled-is = word_same s.cursor.filled (omega (arith, few_held.1)) in
       let codes_are : joint (s.cursor.codes % 2 ^ 32) (s.cursor.codes / 2 ^ 32) ≡ s.cursor.codes = omega arith in
       let block_is : joint (s.cursor.block % 2 ^ 32) (s.cursor.block / 2 ^ 32) ≡ s.cursor.block = omega arith in
-      rw (kinds_are, count-is, at_is, left_is, Filled-is, codes_are, block_is)
+      rw (kinds_are, count-is, at_is, left_is, Filled-is, codes_are, block_is, phase_of_number s.cursor.phase)
