@@ -1,7 +1,7 @@
 // Runs of bytes under 128, which stand for themselves in every page and in UTF-8.
 #![tactic(auto)]
 
-ghost use Rattle.std.specs.Prelude.{◌≡◌, true, ◌+◌, ◌≤◌, ◌<◌, length};
+ghost use Rattle.std.specs.Prelude.{◌≡◌, ℕ, ◌*◌, ◌≤◌, ◌<◌, length, take, drop, bit_or, fold};
 ghost use Rattle.convert.specs.Pages.{ascii};
 ghost use Rattle.ascii.specs.Runs.{block, Ascii, Run};
 
@@ -18,83 +18,62 @@ pub const BLOCK: usize = 64;
 
 const BLOCK_END: u8 = 64;
 
-// All bits of the n bytes from i on. The loop has no exit on the way, so that many bytes are taken at once.
-fn joined(input: &[u8], i: usize, n: usize) -> u8
-    requires { i + n ≤ length input.now }
-    ensures { result < ascii → Ascii input.now i n }
+// All bits of some bytes. The fold has no exit on the way, so that many bytes are taken at once.
+fn joined(bytes: &[u8]) -> u8
+    ensures { result ≡ fold bit_or 0 bytes.now }
 {
-    let mut bits: u8 = 0;
-    let mut j: usize = 0;
-    while j < n {
-        bits = bits | input[i + j];
-        j += 1;
-    }
-    bits
+    bytes.iter().fold(0, |bits, b| bits | b)
 }
 
-// Whether n bytes from i on are there and under 128.
-fn low(input: &[u8], i: usize, n: usize) -> bool
-    requires { i ≤ length input.now }
-    ensures { result ≡ true → (i + n ≤ length input.now) × Ascii input.now i n }
+// A place up to which all bytes from `start` on are under 128: the end of the last N that are tested together.
+fn low_end<const N: usize>(input: &[u8], start: usize) -> usize
+    requires { 0 < N }
+    ensures { Run input.now start result }
 {
-    if input.len() - i < n {
-        return false;
+    let Some(mut rest) = input.get(start..) else {
+        return start;
+    };
+    while let Some((part, after)) = rest.split_at_checked(N)
+        && joined(part) < ASCII
+    {
+        rest = after;
     }
-    joined(input, i, n) < ASCII
+    input.len() - rest.len()
 }
 
-// A place up to which all bytes from `start` on are under 128: the end of the last of as many that are tested together.
+// The same for as many as are tested together in a long run.
 pub fn long_run_end(input: &[u8], start: usize) -> usize
     ensures { Run input.now start result }
 {
-    if input.len() <= start {
-        return start;
-    }
-    let mut i = start;
-    while low(input, i, MANY) {
-        i += MANY;
-    }
-    i
+    low_end::<MANY>(input, start)
 }
 
 // The same to the last byte. (The first of another kind, or the end; but any such place serves, so the contract says no more.)
 pub fn run_end(input: &[u8], start: usize) -> usize
     ensures { Run input.now start result }
 {
-    if input.len() <= start {
+    if input.len() <= start || ASCII <= input[start] {
         return start;
     }
-    if ASCII <= input[start] {
-        return start;
-    }
-    let mut i = long_run_end(input, start);
-    while low(input, i, FEW) {
-        i += FEW;
-    }
-    while low(input, i, 1) {
-        i += 1;
-    }
-    i
+    let many = low_end::<MANY>(input, start);
+    let few = low_end::<FEW>(input, many);
+    low_end::<1>(input, few)
 }
 
 // How many of the bytes of a block stand before the first that isn't under 128: the least of their places; 0 if no block is left. The loop
-// has no exit on the way.
+// has no exit on the way. (It counts in the type of the places, so that it is made into vector instructions: one over the block with its places isn't.)
 pub fn leading(input: &[u8], i: usize) -> usize
     ensures { (result ≤ block) × Ascii input.now i result }
 {
-    if input.len() < i {
+    if input.len() < i || input.len() - i < BLOCK {
         return 0;
     }
-    if input.len() - i < BLOCK {
-        return 0;
-    }
+    let part = &input[i..i + BLOCK];
     let mut n = BLOCK_END;
-    let mut j: u8 = 0;
-    while j < BLOCK_END {
-        n = least(n, place_of(input[i + j as usize], j));
-        j += 1;
+    for j in 0..BLOCK_END {
+        n = n.min(place_of(part[usize::from(j)], j));
     }
-    n as usize
+    usize::from(n)
 }
 
 // The place j of a byte that isn't under 128, the block's end for another.
@@ -102,10 +81,4 @@ fn place_of(b: u8, j: u8) -> u8
     ensures { j < result → b < ascii }
 {
     if b < ASCII { BLOCK_END } else { j }
-}
-
-fn least(n: u8, m: u8) -> u8
-    ensures { (result ≤ n) × (result ≤ m) }
-{
-    if m < n { m } else { n }
 }

@@ -1,1 +1,2 @@
+pub mod CellRead
 pub mod Laws

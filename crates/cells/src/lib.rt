@@ -1,6 +1,8 @@
 // Cells, and their records.
 #![tactic(auto)]
 
+use refusals::Refusal;
+
 mod cell; // cells
 
 pub use cell::{cells, most_cell_words};
@@ -8,11 +10,9 @@ pub use cell::{cells, most_cell_words};
 // The bytes that a cell takes at least.
 pub const LEAST_CELL: usize = 9;
 
-// A cell that was read: the next position, or the refusal of its index (which is not below the number of places, or is no field that
-// fits), or that of its Value.
-#[derive(Clone, Copy)]
-enum CellRead {
-    Whole(usize),
-    BadIndex(u32, usize),
-    BadValue(u32, usize),
+// Why a cell was not read: its index is refused, since it is not below the number of places, or is no field that fits; or its Value is.
+#[derive(Clone, Copy, Debug, PartialEq, Eq)]
+enum CellRefused {
+    Index(Refusal),
+    Value(Refusal),
 }

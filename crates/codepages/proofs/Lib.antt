@@ -1,1 +1,4 @@
 mod Copies
+mod Outcomes
+mod Pages
+mod Parts

@@ -2,85 +2,40 @@
 // byte that does not stand for itself. Then what some texts that are refused get.
 #![tactic(auto)]
 
-use codepages::{Answer, from_utf8, to_utf8};
+use codepages::{from_utf8, to_utf8};
+use refusals::Refusal;
 use std::io;
 
-fn text(rt: &impl Print, s: &[u8]) -> io::Result<()> {
-    rt.write_all(s)
-}
-
-fn wide(x: u8) -> u32 {
-    x as u32
-}
-
-// A digit of base 16.
-fn digit(rt: &impl Print, n: u32) -> io::Result<()> {
-    let d = n % 16;
-    if d < 10 {
-        text(rt, &[(48 + d) as u8])
-    } else {
-        text(rt, &[(55 + d) as u8])
+// The code point of the one character of a text; 0 if it isn't one.
+fn code_point(text: &[u8]) -> u32 {
+    let Ok(text) = str::from_utf8(text) else {
+        return 0;
+    };
+    let mut characters = text.chars();
+    match (characters.next(), characters.next()) {
+        (Some(c), None) => c as u32,
+        _ => 0,
     }
 }
 
-// The code point of the character in a buffer that has that many bytes, one to three.
-fn code_point(out: &[u8; 4], n: usize) -> u32 {
-    let a = wide(out[0]);
-    let b = wide(out[1]) % 64;
-    let d = wide(out[2]) % 64;
-    if n == 1 {
-        return a;
-    }
-    if n == 2 {
-        return a % 32 * 64 + b;
-    }
-    a % 16 * 4096 + b * 64 + d
-}
-
-// Whether the first n bytes are converted back to that one.
-fn back(page: u32, out: &[u8], n: usize, byte: u8) -> bool {
-    if out.len() < n {
-        return false;
-    }
+// Whether a text is converted back to that one byte.
+fn back(page: u32, text: &[u8], byte: u8) -> bool {
     let mut other = [0u8; 1];
-    let a = from_utf8(page, &out[..n], &mut other);
-    if a.refusal == 0 {
-        return other[0] == byte;
-    }
-    false
-}
-
-// A byte of the upper half, and its code point.
-fn upper(rt: &impl Print, byte: u8, a: Answer, c: u32) -> io::Result<()> {
-    digit(rt, wide(byte) / 16)?;
-    digit(rt, wide(byte))?;
-    text(rt, b" ")?;
-    if a.refusal == 25 {
-        text(rt, b"-\n")
-    } else {
-        digit(rt, c / 4096)?;
-        digit(rt, c / 256)?;
-        digit(rt, c / 16)?;
-        digit(rt, c)?;
-        text(rt, b"\n")
-    }
+    from_utf8(page, text, &mut other).is_ok() && other[0] == byte
 }
 
 fn one(rt: &impl Print, page: u32, byte: u8) -> io::Result<()> {
     let mut out = [0u8; 4];
-    let a = to_utf8(page, &[byte], &mut out);
-    let c = code_point(&out, a.length);
-    if byte < 128 {
-        if c == wide(byte) {} else {
-            upper(rt, byte, a, c)?;
-        }
-    } else {
-        upper(rt, byte, a, c)?;
+    let Ok(n) = to_utf8(page, &[byte], &mut out) else {
+        return println!(rt; "{byte:02X} -");
+    };
+    let text = out.get(..n).unwrap_or(&[]);
+    let c = code_point(text);
+    if 128 <= byte || c != u32::from(byte) {
+        println!(rt; "{byte:02X} {c:04X}")?;
     }
-    if a.refusal == 0 {
-        if back(page, &out, a.length, byte) {} else {
-            text(rt, b"not back\n")?;
-        }
+    if !back(page, text, byte) {
+        println!(rt; "not back")?;
     }
     Ok(())
 }
@@ -93,8 +48,12 @@ fn page(rt: &impl Print, number: u32) -> io::Result<()> {
     Ok(())
 }
 
-fn answer(rt: &impl Print, a: Answer) -> io::Result<()> {
-    println!(rt; "refused {} at {}, length {}", a.refusal, a.place, a.length)
+fn answer(rt: &impl Print, a: Result<usize, Refusal>) -> io::Result<()> {
+    let (refusal, place, length) = match a {
+        Ok(length) => (0, 0, length),
+        Err(refusal) => (refusal.reason.number(), refusal.place, 0),
+    };
+    println!(rt; "refused {refusal} at {place}, length {length}")
 }
 
 // To windows-1252.
@@ -104,9 +63,9 @@ fn to_1252(rt: &impl Print, s: &[u8]) -> io::Result<()> {
 }
 
 fn main(rt: HostRuntime) -> io::Result<()> {
-    page(&rt, 1250)?;
-    page(&rt, 1251)?;
-    page(&rt, 1252)?;
+    for number in 1250..=1252 {
+        page(&rt, number)?;
+    }
     let mut out = [0u8; 1];
     // unknown pages; a byte without an entry, before an output that is too short; too short an output
     answer(&rt, to_utf8(1249, &[129], &mut out))?;

@@ -50,16 +50,14 @@ fn place(b: usize, e: usize, p: usize) -> usize
 fn placed(b: usize, e: usize, i: Step) -> Step
     ensures { by_number result ≡ inside.placed b e (by_number i) }
 {
-    match i {
-        Ok(at) => Ok(place(b, e, at)),
-        Err(refusal) => Err(Refusal {
-            place: place(b, e, refusal.place),
-            ..refusal
-        }),
-    }
+    i.map(|p| place(b, e, p)).map_err(|refusal| Refusal {
+        place: place(b, e, refusal.place),
+        ..refusal
+    })
 }
 
-// After the content of a region, which fills it.
+// After the content of a region, which fills it. A reader of a region has three lines: its part, its content and one of these. It stays so: by a
+// generic function over a production (production.rt), each content would be a struct and an impl of its own, which is longer.
 pub fn close(p: Span, i: Step) -> Step
     ensures { by_number result ≡ spec.close exact (by_number p) (by_number i) }
 {

@@ -10,6 +10,7 @@ use layout::run::skip;
 use layout::{LITTLE, Step};
 use value::value;
 
+// After an optional 01. These three stay functions: a generic one over a production (regions::production) would need a struct and an impl for each.
 fn marked_value(s: &[u8], st: Step, version: u64) -> Step
     ensures { Reads (notation.mark 0x01 (values.Value version)) s.now st result }
 {

@@ -1,6 +1,7 @@
 // The readers of a Value. Those of a value, of a template and of its arguments call each other: the depth that is left falls. A loop ends with its
 // count, or with a refusal: each Value and each argument takes a byte or more. So a count costs no more than the bytes that are there. The two
-// loops stand in that cycle, where a call of regions::production::times got no proof.
+// loops stand in that cycle, so they are not calls of regions::production::times: tried, and a call that leads back to this cycle through a trait
+// gets no proof.
 #![tactic(auto)]
 
 ghost use Rattle.std.specs.Prelude.{◌≡◌};
@@ -184,7 +185,7 @@ fn values(s: &[u8], st: Step, n: u64, depth: usize, version: u64) -> Step
     Ok(at)
 }
 
-// A Value, in a member of that version.
+// A Value, in a member of that version. The version stays a number, of which any gets an answer (what may not change: the parameter of this function).
 pub fn value(s: &[u8], st: Step, version: u64) -> Step
     ensures { Reads (grammar.Value version) s.now st result }
 {

@@ -1,5 +1,5 @@
 -- What the functions for other languages give of text in old code pages (document 02, T-08).
-use Rattle.std.specs.Prelude.{◌≡◌, List, [], ◌∷◌, ℕ, length, leb}
+use Rattle.std.specs.Prelude.{◌≡◌, List, [], ◌∷◌, ℕ, length, leb, Result, Ok, Err}
 use Rattle.sizes.specs.Sizes.{write_answer_words}
 use Rattle.sizes.specs.Basics.{pick}
 use Rattle.layout.specs.Words.{word32}
@@ -11,6 +11,11 @@ use Rattle.convert.specs.Convert.{Outcome, refused, written, after}
 unfoldable pub outcome_words : Outcome → List ℕ
 outcome_words (refused n p) = n ∷ word32 p ∷ 0 ∷ []
 outcome_words (written v) = 0 ∷ 0 ∷ word32 (length v) ∷ []
+
+-- the words of an answer: the length, or the refusal and its place
+abbrev pub answer_words : Result ℕ (ℕ × ℕ) → List ℕ
+answer_words (Ok n) = 0 ∷ 0 ∷ word32 n ∷ []
+answer_words (Err (n, p)) = n ∷ word32 p ∷ 0 ∷ []
 
 -- a call whose outcome is o, and which gave n
 pub record Converted (o : Outcome) (out answer : List ℕ) (n : ℕ) (out' answer' : List ℕ) : Type 0 where

@@ -32,8 +32,7 @@ use Rattle.grammar.specs.Table.{Cell, Cells}
 use Rattle.grammar.specs.Records.{cell_index, cell_words_of, rows_words, cell_value, cells_of, cell_record}
 use Rattle.grammar.specs.Laws.Table.LeastBytes.{cell_bytes, least_cell}
 use Rattle.table.specs.Laws.Within.{RecordSizes, needed, Room}
-use Rattle.cells.specs.declared.CellRead.{CellRead}
-use Rattle.cells.specs.declared.CellRead.TheVariants.{Whole, BadIndex, BadValue}
+use Rattle.cells.specs.CellRead.{CellRead, Whole, BadIndex, BadValue}
 use Rattle.axes.specs.Laws.Rows.{Kind, Row, Rows, all_rows, row_of, after, before, first_set, second_set}
 
 -- the cell records

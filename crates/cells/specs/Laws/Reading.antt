@@ -10,7 +10,7 @@ use Rattle.grammar.specs.RecordWords.{word}
 use Rattle.grammar.specs.Repeat.{strided, Before, FirstRepeat}
 use Rattle.repeats.specs.Laws.Repeats.{AllNew, before_among, none_among}
 use Rattle.grammar.specs.Laws.Table.LeastBytes.{least_cell}
-use Rattle.cells.specs.declared.CellRead.TheVariants.{Whole, BadIndex, BadValue}
+use Rattle.cells.specs.CellRead.{Whole, BadIndex, BadValue}
 use Rattle.axes.specs.Laws.Rows.{Storing, storing, stores_on, stores_off, stores_to}
 use Rattle.cells.specs.Laws.Cells.{cell_kind, cell_of, OneCell, Stored, CellDone, bad_index, bad_value, whole, AllRead}
 

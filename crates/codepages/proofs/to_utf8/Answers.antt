@@ -1,12 +1,12 @@
-use Rattle.codepages.specs.Laws.Answers.{answers_refused, answers_same}
+use Rattle.std.proofs.lemmas.Result.{err_from_is_err_and}
+use Rattle.codepages.proofs.Outcomes.{known_err}
 use Rattle.codepages.proofs.to_utf8.Goals as goal
 
-pub returns-then-k-lt-PAGE_COUNT : goal.returns-then-k-lt-PAGE_COUNT
-returns-then-k-lt-PAGE_COUNT c =
-    let w = answers_same _ _ _ _ _ (c.page_number-k.ensures.known c.if-k-lt-PAGE_COUNT.true _ _ _) (c.to_page.ensures.value, c.to_page.ensures.out_after) in
-    record { value = w.0; out_after = w.1 }
+pub returns-in_err-page-clause-value : goal.returns-in_err-page-clause-value
+returns-in_err-page-clause-value c =
+    let p = err_from_is_err_and c.from_residual.result c.from_residual.ensures.1 in
+    let k = rw c.in_err-page.was at c.known_page.ensures in
+    rw (p.1, p.2) (known_err _ _ _ _ c.args.out.now _ k).0
 
-pub returns : goal.returns
-returns c =
-    let w = answers_refused _ _ _ _ _ (c.page_number-k.ensures.unknown c.if-k-lt-PAGE_COUNT.false _ _ _) c.refuse.ensures in
-    record { value = w.0; out_after = w.1 }
+pub returns-in_err-page-clause-out_after : goal.returns-in_err-page-clause-out_after
+returns-in_err-page-clause-out_after c = (known_err _ _ _ _ _ _ (rw c.in_err-page.was at c.known_page.ensures)).1

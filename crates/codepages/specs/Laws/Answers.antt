@@ -1,9 +1,8 @@
 -- The order of the refusals, as the code tests for them, and the answers.
-use Rattle.std.specs.Prelude.{◌≡◌, refl, List, ◌++◌, ℕ, ◌≤◌, ◌<◌, length, drop}
+use Rattle.std.specs.Prelude.{◌≡◌, refl, List, ◌++◌, ℕ, ◌≤◌, ◌<◌, length, drop, Result, Ok}
 use Rattle.std.proofs.Common.{arith}
 use borrow.Author.Tests.{lt-ltb, le-ltb}
 use Rattle.sizes.specs.Basics.{pick}
-use Rattle.codepages.specs.declared.Answer.{Answer}
 use Rattle.convert.specs.Convert.{Step, valid_up_to, output, no_character, output_short, Outcome, refused, written, outcome, after}
 use Rattle.convert.proofs.Laws.Steps.{up_to_most}
 use Rattle.codepages.specs.Answer.{answer}
@@ -26,15 +25,15 @@ module _ (f : List ℕ → Step) (room : ℕ) (u : List ℕ) (p n : ℕ) (t : (p
   pub may_write : length u ≤ p → n ≤ room → (valid_up_to f 0 0 u ≡ length u) × (length (output f 0 u) ≤ room)
   may_write h l = (omega (arith, t.0, up_to_most f 0 0 u), omega (arith, t.1.exact l))
 
-pub answers_refused : (s : Outcome) (o : List ℕ) (n p : ℕ) (a : Answer) → s ≡ refused n p → a ≡ answer (refused n p) → (a ≡ answer s) × (o ≡ after s o)
+pub answers_refused : (s : Outcome) (o : List ℕ) (n p : ℕ) (a : Result ℕ (ℕ × ℕ)) → s ≡ refused n p → a ≡ answer (refused n p) → (a ≡ answer s) × (o ≡ after s o)
 unfolding after
 answers_refused s o n p a e g = rw e (g, refl)
 
 pub answers_written : (s : Outcome) (o o' v : List ℕ) (n : ℕ) → s ≡ written v → n ≡ length v → o' ≡ v ++ drop (length v) o
-    → (◌≡◌ {A = Answer} (record { refusal = 0; place = 0; length = n }) (answer s)) × (o' ≡ after s o)
+    → (◌≡◌ {A = Result ℕ (ℕ × ℕ)} (Ok n) (answer s)) × (o' ≡ after s o)
 unfolding answer after
 answers_written s o o' v n e g h = rw (e, g) (refl, h)
 
 -- the answer for an outcome that is the same
-pub answers_same : (s t : Outcome) (o o' : List ℕ) (a : Answer) → s ≡ t → (a ≡ answer t) × (o' ≡ after t o) → (a ≡ answer s) × (o' ≡ after s o)
+pub answers_same : (s t : Outcome) (o o' : List ℕ) (a : Result ℕ (ℕ × ℕ)) → s ≡ t → (a ≡ answer t) × (o' ≡ after t o) → (a ≡ answer s) × (o' ≡ after s o)
 answers_same s t o o' a e g = rw e g

@@ -8,13 +8,13 @@ use Rattle.std.proofs.lemmas.List.Edits.{sets, sets-eq}
 use Rattle.sizes.specs.Basics.{pick}
 use Rattle.convert.specs.Pages.{page_count, ascii, no_code_point, no_byte, page, listed, code_point, byte}
 use Rattle.convert.specs.Utf8.{two_bytes, three_bytes, four_bytes, surrogates, encode, row_two, row_three, decode}
-use Rattle.convert.specs.Convert.{invalid, converts, to, from, way, valid_up_to, output}
+use Rattle.convert.specs.Convert.{Step, invalid, converts, to, from, way, valid_up_to, output}
 use Rattle.convert.proofs.Laws.Pages.{side, point_high, point_byte, byte_low, byte_below, byte_none}
 use Rattle.convert.proofs.Laws.Utf8.{encode_one, encode_two, encode_three, encode_four, encode_length, row_one_is, row_two_is, row_three_is, decoded_by, Decoded, from_one, from_two, from_three, from_four, encode_decode}
 use Rattle.convert.proofs.Laws.Steps.{to_converts, to_invalid, from_converts, from_invalid}
 use Rattle.ascii.specs.Runs.{Run}
 use Rattle.ascii.specs.Laws.{ascii_one, ascii_more}
-use Rattle.codepages.specs.Laws.Passes.{half, Tally, tally, tally_step, Grown, sets_append, passes_ascii, Passes, passes_one, Skips, skips, Found, found_some, Ready, not_refused, fits, Wrote, wrote}
+use Rattle.codepages.specs.Laws.Passes.{half, Tally, tally, tally_step, Grown, sets_append, Plain, passes_ascii, Passes, passes_one, Skips, skips, Found, found_some, Ready, not_refused, fits, Wrote, wrote}
 
 pub past : (u : List ℕ) (i : ℕ) → length u ≤ i → 0 ≡ get_or u i 0
 past u i h = sym (get_or-eq_default u 0 {n = i} h)
@@ -132,80 +132,80 @@ unfolding way
 way_to back k e = rw e
 
 -- bytes under 128 from i up to r
-module _ (back : Bool) (k : ℕ) {u : List ℕ} {i r : ℕ} (t : Run u i r) (h : i ≤ length u) where
-  run_passes : Passes (way back k) u i (r - i) (take (r - i) (drop i u))
-  run_passes = passes_ascii back k u i (r - i) (omega (arith, t.onward, t.inside h)) t.all
+module _ {f : List ℕ → Step} (p : Plain f) {u : List ℕ} {i r : ℕ} (t : Run u i r) (h : i ≤ length u) where
+  run_passes : Passes f u i (r - i) (take (r - i) (drop i u))
+  run_passes = passes_ascii p u i (r - i) (omega (arith, t.onward, t.inside h)) t.all
 
   run_length : length (take (r - i) (drop i u)) ≡ r - i
   run_length = length-take-le (r - i) (drop i u) (omega (arith, length-drop i u, t.inside h))
 
-  pub run_skips : Skips (way back k) u i (r - i) (r - i)
+  pub run_skips : Skips f u i (r - i) (r - i)
   run_skips = rw run_length at (skips run_passes)
 
-  pub run_fits : {o : List ℕ} {w : ℕ} → Ready (way back k) u i o w → w + (r - i) ≤ length o
+  pub run_fits : {o : List ℕ} {w : ℕ} → Ready f u i o w → w + (r - i) ≤ length o
   run_fits q = rw run_length at (fits q run_passes)
 
-  pub run_wrote : {o o' : List ℕ} {w : ℕ} → i < r → o' ≡ sets o w (take (r - i) (drop i u)) → Wrote (way back k) u i o w (r - i) (r - i) o'
+  pub run_wrote : {o o' : List ℕ} {w : ℕ} → i < r → o' ≡ sets o w (take (r - i) (drop i u)) → Wrote f u i o w (r - i) (r - i) o'
   run_wrote l e = rw run_length at (wrote run_passes (omega arith) e)
 
 -- a byte under 128, and those after it
-pub run_found : (back : Bool) (k : ℕ) (u : List ℕ) (i r : ℕ) → get_or u i 0 < ascii → i < length u → Run u (i + 1) r → length u < half → Found (way back k) u i (r - i) (r - i)
-run_found back k u i r a l t h =
+pub run_found : {f : List ℕ → Step} → Plain f → (u : List ℕ) (i r : ℕ) → get_or u i 0 < ascii → i < length u → Run u (i + 1) r → length u < half → Found f u i (r - i) (r - i)
+run_found p u i r a l t h =
     let z : r - i ≡ 1 + (r - (i + 1)) = omega (arith, t.onward) in
     let whole : Run u i r = record {
       onward = omega (arith, t.onward);
       inside = λ _. t.inside (omega arith);
       all = rw z (ascii_more u i 1 (r - (i + 1)) (ascii_one u i a) t.all);
     } in
-    found_some (omega (arith, t.onward)) (run_skips back k whole (omega arith)) (omega (arith, t.inside (omega arith)))
+    found_some (omega (arith, t.onward)) (run_skips p whole (omega arith)) (omega (arith, t.inside (omega arith)))
 
 -- the run that a text begins with: both passes go on from its end
-module _ (back : Bool) (k : ℕ) {u : List ℕ} {r : ℕ} (t : Run u 0 r) where
+module _ {f : List ℕ → Step} (p : Plain f) {u : List ℕ} {r : ℕ} (t : Run u 0 r) where
   whole : r - 0 ≡ r
   whole = omega arith
 
-  first_passes : Passes (way back k) u 0 r (take r u)
-  first_passes = rw whole at (run_passes back k t (omega arith))
+  first_passes : Passes f u 0 r (take r u)
+  first_passes = rw whole at (run_passes p t (omega arith))
 
   first_length : length (take r u) ≡ r
-  first_length = rw whole at (run_length back k t (omega arith))
+  first_length = rw whole at (run_length p t (omega arith))
 
-  first_skips : Skips (way back k) u 0 r r
-  first_skips = rw whole at (run_skips back k t (omega arith))
+  first_skips : Skips f u 0 r r
+  first_skips = rw whole at (run_skips p t (omega arith))
 
-  pub first_tally : (room : ℕ) → Tally (way back k) u room r r
+  pub first_tally : (room : ℕ) → Tally f u room r r
   first_tally room =
       let g : Grown 0 r room r = record { grows = λ h. omega arith; stays = λ h. absurd (omega arith) } in
-      rw zero-add at (tally_step (tally (way back k) u room) r first_skips g)
+      rw zero-add at (tally_step (tally f u room) r first_skips g)
 
-  pub first_fits : (room : ℕ) → length (output (way back k) 0 u) ≤ room → 0 + (r - 0) ≤ room
+  pub first_fits : (room : ℕ) → length (output f 0 u) ≤ room → 0 + (r - 0) ≤ room
   first_fits room h = omega (arith, first_skips.counts)
 
   -- its n bytes are copied to the output o, which then is o'
-  module _ (o o' : List ℕ) (n : ℕ) (h : length (output (way back k) 0 u) ≤ length o) (c : (o' ≡ sets o 0 (take (r - 0) (drop 0 u))) × (n ≡ r - 0)) where
+  module _ (o o' : List ℕ) (n : ℕ) (h : length (output f 0 u) ≤ length o) (c : (o' ≡ sets o 0 (take (r - 0) (drop 0 u))) × (n ≡ r - 0)) where
     first_end : n ≡ r
     first_end = omega (arith, c.1)
 
     first_copied : o' ≡ sets o 0 (take r u)
     first_copied = let z : r - 0 ≡ r = omega arith in rw z at c.0
 
-    pub first_ready : valid_up_to (way back k) 0 0 u ≡ length u → Ready (way back k) u n o' n
+    pub first_ready : valid_up_to f 0 0 u ≡ length u → Ready f u n o' n
     first_ready e =
-        let p : valid_up_to (way back k) 0 0 u ≡ valid_up_to (way back k) 0 r (drop r u) = rw zero-add at first_skips.goes in
-        let y : length (output (way back k) 0 u) ≡ r + length (output (way back k) 0 (drop r u)) = rw zero-add at first_skips.counts in
+        let q : valid_up_to f 0 0 u ≡ valid_up_to f 0 r (drop r u) = rw zero-add at first_skips.goes in
+        let y : length (output f 0 u) ≡ r + length (output f 0 (drop r u)) = rw zero-add at first_skips.counts in
         let l : length o' ≡ length o = ap length first_copied ∙ length-sets o 0 (take r u) in
-        rw first_end (record { ends = sym p ∙ e; roomy = omega arith })
+        rw first_end (record { ends = sym q ∙ e; roomy = omega arith })
 
-    pub first_rest : (m : ℕ) → m ≡ length (output (way back k) 0 u) → m ≡ n + length (output (way back k) 0 (drop n u))
+    pub first_rest : (m : ℕ) → m ≡ length (output f 0 u) → m ≡ n + length (output f 0 (drop n u))
     first_rest m e = rw first_end (e ∙ (rw zero-add at first_skips.counts))
 
-    pub first_then : {o'' : List ℕ} → o'' ≡ sets o' n (output (way back k) 0 (drop n u)) → o'' ≡ output (way back k) 0 u ++ drop (length (output (way back k) 0 u)) o
+    pub first_then : {o'' : List ℕ} → o'' ≡ sets o' n (output f 0 (drop n u)) → o'' ≡ output f 0 u ++ drop (length (output f 0 u)) o
     first_then q =
-        let v = output (way back k) 0 u in
+        let v = output f 0 u in
         let m : 0 + length v ≤ length o = omega arith in
-        let w : v ≡ take r u ++ output (way back k) 0 (drop r u) = rw zero-add at first_passes.writes in
-        let a = sets_append (take r u) (output (way back k) 0 (drop r u)) o 0 in
-        let s : sets o 0 v ≡ sets (sets o 0 (take r u)) r (output (way back k) 0 (drop r u)) = rw w (rw (first_length, zero-add) at a) in
+        let w : v ≡ take r u ++ output f 0 (drop r u) = rw zero-add at first_passes.writes in
+        let a = sets_append (take r u) (output f 0 (drop r u)) o 0 in
+        let s : sets o 0 v ≡ sets (sets o 0 (take r u)) r (output f 0 (drop r u)) = rw w (rw (first_length, zero-add) at a) in
         (rw first_end at q) ∙ rw first_copied (sym s) ∙ sets-eq v o 0 m ∙ rw zero-add
 
 -- to UTF-8

@@ -5,7 +5,7 @@ use Rattle.std.proofs.lemmas.List.Edits.{sets}
 use Rattle.std.proofs.Math.Seq.{length-sets}
 use Rattle.convert.specs.Pages.{ascii}
 use Rattle.convert.specs.Utf8.{decode}
-use Rattle.convert.specs.Convert.{Step, invalid, converts, way, valid_up_to, output}
+use Rattle.convert.specs.Convert.{Step, invalid, converts, to, from, way, valid_up_to, output}
 use Rattle.convert.proofs.Laws.Pages.{side, point_low, byte_low}
 use Rattle.convert.proofs.Laws.Utf8.{encode_one, row_one_is}
 use Rattle.convert.proofs.Laws.Steps.{up_to_step, output_step, up_to_invalid, output_invalid, up_to_end, output_end, to_converts, from_converts}
@@ -37,23 +37,35 @@ unfolding way decode
 plain false k a u h = to_converts k (a ∷ u) a (point_low k a h) (omega arith) ∙ rw (encode_one a h)
 plain true k a u h = from_converts k (a ∷ u) a a (row_one_is a _ _ _ h) (byte_low k a h) (omega arith) ∙ rw (encode_one a h)
 
-pub passes_ascii : (back : Bool) (k : ℕ) (u : List ℕ) (i n : ℕ) → i + n ≤ length u → Ascii u i n → Passes (way back k) u i n (take n (drop i u))
-passes_ascii back k u i zero h a = let z : i + 0 ≡ i = omega arith in record { inside = h; goes = rw z; writes = rw z }
-passes_ascii back k u i (suc n) h a =
+-- a way to convert in which bytes under 128 stand for themselves
+pub record Plain (f : List ℕ → Step) : Type 0 where
+  pub itself : (a : ℕ) (u : List ℕ) → a < ascii → f (a ∷ u) ≡ converts 0 (a ∷ [])
+
+pub plain_to : (k : ℕ) → Plain (to k)
+unfolding way
+plain_to k = record { itself = λ a u h. plain false k a u h }
+
+pub plain_from : (k : ℕ) → Plain (from k)
+unfolding way
+plain_from k = record { itself = λ a u h. plain true k a u h }
+
+pub passes_ascii : {f : List ℕ → Step} → Plain f → (u : List ℕ) (i n : ℕ) → i + n ≤ length u → Ascii u i n → Passes f u i n (take n (drop i u))
+passes_ascii {f} p u i zero h a = let z : i + 0 ≡ i = omega arith in record { inside = h; goes = rw z; writes = rw z }
+passes_ascii {f} p u i (suc n) h a =
     let c = drop-cons u i 0 (omega arith) in
     let z : i + 0 ≡ i = omega arith in
     let b = get_or u i 0 in
     let l : b < ascii = rw z at (a.under 0 (omega arith)) in
-    let e : way back k (drop i u) ≡ converts 0 (b ∷ []) = rw c (plain back k b (drop (suc i) u) l) in
-    let p = passes_one {f = way back k} {u = u} {i = i} 0 (b ∷ []) e (omega arith) in
+    let e : f (drop i u) ≡ converts 0 (b ∷ []) = rw c (p.itself b (drop (suc i) u) l) in
+    let s = passes_one {f = f} {u = u} {i = i} 0 (b ∷ []) e (omega arith) in
     let y : i + 1 ≡ suc i = omega arith in
     let r : Ascii u (suc i) n = record { under = λ j m. let x : suc i + j ≡ i + suc j = omega arith in rw x (a.under (suc j) (omega arith)) } in
-    let q = passes_ascii back k u (suc i) n (omega arith) r in
+    let q = passes_ascii p u (suc i) n (omega arith) r in
     let x : suc i + n ≡ i + suc n = omega arith in
     record {
       inside = h;
-      goes = p.goes ∙ (rw (← y) at (rw x at q.goes));
-      writes = p.writes ∙ rw (c, y) (ap (λ (v : List ℕ). b ∷ v) (rw x at q.writes));
+      goes = s.goes ∙ (rw (← y) at (rw x at q.goes));
+      writes = s.writes ∙ rw (c, y) (ap (λ (v : List ℕ). b ∷ v) (rw x at q.writes));
     }
 
 -- ---- the first pass

@@ -1,8 +1,0 @@
-use native.Mathlib.Omega.{arith}
-use Rattle.ascii.proofs.least.Goals as goal
-
-pub returns-then-m-n : goal.returns-then-m-n
-returns-then-m-n c = (omega arith, omega arith)
-
-pub returns-else-m-n : goal.returns-else-m-n
-returns-else-m-n c = (omega arith, omega arith)
