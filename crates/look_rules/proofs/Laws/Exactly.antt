@@ -14,6 +14,7 @@ use Rattle.grammar.specs.Laws.Layout.Read.{Got, got, no}
 use Rattle.grammar.specs.Laws.Layout.Check.{check}
 use Rattle.layout.specs.Reads.{forget}
 use Rattle.grammar.specs.Conventions.{int16, int32}
+use Rattle.store.specs.Laws.Refusals.{same_refusal}
 use Rattle.look.specs.Look.{name, Separator, TableLook}
 use Rattle.look_rules.specs.StyleRule.{asks, separator_rule, last_valign, last_halign, align_rule, alignment_rule, size_rule, font_rule, name_rule, typeface_rule, AreaStyleRule, MostAreasRule, V2StylesIfRule, style_rule}
 use Rattle.look_rules.proofs.Laws.Own.{Own, same, own, Owns, Given, own_reading}
@@ -140,4 +141,4 @@ refused_exactly bs h n p = (λ e. (exactly.breaks_exactly style_rule bs h 0 n p)
   where
     go : (y : Got (Tree TableLook)) → forget y ≡ Err (n, p) → y ≡ no n p
     go (got t r q) i = absurd (let z : ◌≡◌ {A = ℕ} 0 1 = cc in omega arith)
-    go (no m q) i = let a : m ≡ n = cc in let b : q ≡ p = cc in rw (a, b)
+    go (no m q) i = let a = same_refusal i in rw (a.0, a.1)

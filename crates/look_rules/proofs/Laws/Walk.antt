@@ -3,7 +3,9 @@ use Rattle.std.specs.Prelude.{◌≡◌, refl, Bool, true, false, List, [], ◌�
 use Rattle.std.proofs.Common.{sym, ap, ◌∙◌, add-zero, lt_irrefl, sub-one, arith}
 use Rattle.std.proofs.Math.Option.{none, some}
 use Rattle.layout.specs.Step.{Step}
-use Rattle.std.specs.Prelude.{Ok, Err}
+use Rattle.std.specs.Prelude.{Result, Ok, Err}
+use Rattle.refusals.specs.declared.Refusal.{Refusal}
+use Rattle.refusals.specs.Numbers.{by_number}
 use Rattle.sizes.specs.Basics.{pick}
 use Rattle.grammar.specs.Layout.{Order, Test, any_bytes, no_zero, Layout, empty, number, string, Tree, passes, suits, Bytes}
 use Rattle.grammar.specs.Rule.{Rule, plain, numbered}
@@ -14,11 +16,11 @@ use Rattle.layout.specs.Reads.{forget, step, chain, ReadsTo, peek}
 use Rattle.layout.specs.Steps.Chain.{then, forget_map, chain_next}
 use Rattle.layout.specs.Steps.Slices.{drop_bytes}
 use Rattle.store.specs.Fields.{Fields, placed}
-use Rattle.fields.specs.Gives.{ShowsTo, GivesTo, GivesValueTo}
-use Rattle.fields.specs.Laws.Shows.{numbered_of, peeked, shows_of}
+use Rattle.fields.specs.Gives.{ShowsTo, GivesTo, GivesValue}
+use Rattle.fields.specs.Laws.Shows.{numbered_of, peeked, shows_of, refused_shows}
 use Rattle.fields.specs.Laws.Gives.{to_shows}
 use Rattle.look_rules.specs.StyleRule.{◌▹◌, each, asks}
-use Rattle.look_rules.specs.Checks.{Checks, told}
+use Rattle.look_rules.specs.Checks.{ChecksTo, past, told}
 
 -- ---- one after the other
 
@@ -41,7 +43,7 @@ chained {A} x f F (Ok at) {q} {r} same i e = go (x at) refl i
 chained x f F (Err (n, p)) same i e = e ∙ rw i
 
 infixl 20 ◌⟩◌
-pub ◌⟩◌ : {a b : Layout} {u : Rule a} {v : Rule b} {s : List ℕ} {st q r : Step} → Checks u s st q → Checks v s q r → Checks (u ▹ v) s st r
+pub ◌⟩◌ : {a b : Layout} {u : Rule a} {v : Rule b} {s : List ℕ} {st q r : Step} → ChecksTo u s st q → ChecksTo v s q r → ChecksTo (u ▹ v) s st r
 unfolding check
 ◌⟩◌ {u = u} {v = v} {s = s} {st = st} x y = record {
   is = λ bs. chained (λ at. check u (drop at s) at) (λ t s₁ at₁. bind (check v s₁ at₁) (λ w s₂ at₂. got (t, w) s₂ at₂)) (λ p. forget (check v (drop p s) p)) st
@@ -49,15 +51,18 @@ unfolding check
 }
 
 -- no test but those of the layout
-pub of_reads : {g : Layout} {s : List ℕ} {st r : Step} → ReadsTo g s st r → Checks (plain g) s st r
+pub of_reads : {g : Layout} {s : List ℕ} {st r : Step} → ReadsTo g s st r → ChecksTo (plain g) s st r
 unfolding check step
 of_reads h = record { is = λ bs. h.is }
 
 pub gives_reads : {g : Layout} {s : List ℕ} {st r : Step} {f : Fields g} → GivesTo g s st r f → ReadsTo g s st r
 gives_reads h = h.reads
 
-pub value_reads : {A : Type 0} {g : Layout} {s : List ℕ} {st r : Step} {f : Fields g} {v zero : A} → GivesValueTo g s st r f v zero → ReadsTo g s st r
-value_reads h = h.gives.reads
+-- what was read without its value
+pub past_reads : {A : Type 0} {g : Layout} {s : List ℕ} (k : A → Fields g) (st : Result ℕ Refusal) (r : Result (A × ℕ) Refusal) {q : Result ℕ Refusal}
+    → GivesValue g k s st r → q ≡ past r → ReadsTo g s (by_number st) (by_number q)
+past_reads k st (Ok y) h e = rw e h.reads
+past_reads k st (Err x) h e = rw e h
 
 -- ---- that many times
 
@@ -74,11 +79,11 @@ steady {A} f (suc n) done done' s at = go (f s at) (steady f n)
     go (got t s₁ at₁) h = rw (h (t ∷ done) (t ∷ done') s₁ at₁)
     go (no m p) h = refl
 
-each_none : {a : Layout} {u : Rule a} {s : List ℕ} {st : Step} (n : ℕ) → n ≤ 0 → Checks (each {n = n} u) s st st
+each_none : {a : Layout} {u : Rule a} {s : List ℕ} {st : Step} (n : ℕ) → n ≤ 0 → ChecksTo (each {n = n} u) s st st
 unfolding check check_times
 each_none {st = st} n h = let e : n ≡ 0 = omega arith in rw e (record { is = λ bs. sym (chain_next st) })
 
-each_suc : {a : Layout} {u : Rule a} {s : List ℕ} {st q r : Step} (n : ℕ) → Checks u s st q → Checks (each {n = n} u) s q r → Checks (each {n = suc n} u) s st r
+each_suc : {a : Layout} {u : Rule a} {s : List ℕ} {st q r : Step} (n : ℕ) → ChecksTo u s st q → ChecksTo (each {n = n} u) s q r → ChecksTo (each {n = suc n} u) s st r
 unfolding check check_times
 each_suc {u = u} {s = s} {st = st} n x y = record {
   is = λ bs. chained (λ at. check u (drop at s) at) (λ t s₁ at₁. bind (check_times (λ _ s₂ at₂. check u s₂ at₂) (t ∷ []) n s₁ at₁) (λ ts s₂ at₂. got (t ∷ ts) s₂ at₂))
@@ -87,18 +92,18 @@ each_suc {u = u} {s = s} {st = st} n x y = record {
       (x.is bs) (y.is bs);
 }
 
-each_more : {a : Layout} {u : Rule a} {s : List ℕ} {st q r : Step} (n : ℕ) → 0 < n → Checks u s st q → Checks (each {n = n - 1} u) s q r → Checks (each {n = n} u) s st r
+each_more : {a : Layout} {u : Rule a} {s : List ℕ} {st q r : Step} (n : ℕ) → 0 < n → ChecksTo u s st q → ChecksTo (each {n = n - 1} u) s q r → ChecksTo (each {n = n} u) s st r
 each_more zero h x y = absurd (lt_irrefl 0 h)
 each_more (suc n) h x y = each_suc n x (simp sub-one at y)
 
 -- what a loop keeps: what k more take at to, n take st to
 abbrev pub Left : {a : Layout} → Rule a → List ℕ → ℕ → Step → ℕ → Step → Type 0
-Left u s n st k at = (r : Step) → Checks (each {n = k} u) s at r → Checks (each {n = n} u) s st r
+Left u s n st k at = (r : Step) → ChecksTo (each {n = k} u) s at r → ChecksTo (each {n = n} u) s st r
 
-pub left_more : {a : Layout} {u : Rule a} {s : List ℕ} {n k : ℕ} {st at q : Step} → Left u s n st k at → 0 < k → Checks u s at q → Left u s n st (k - 1) q
+pub left_more : {a : Layout} {u : Rule a} {s : List ℕ} {n k : ℕ} {st at q : Step} → Left u s n st k at → 0 < k → ChecksTo u s at q → Left u s n st (k - 1) q
 left_more {k = k} inv h x = λ r y. inv r (each_more k h x y)
 
-pub left_none : {a : Layout} {u : Rule a} {s : List ℕ} {n k : ℕ} {st at : Step} → Left u s n st k at → k ≤ 0 → Checks (each {n = n} u) s st at
+pub left_none : {a : Layout} {u : Rule a} {s : List ℕ} {n k : ℕ} {st at : Step} → Left u s n st k at → k ≤ 0 → ChecksTo (each {n = n} u) s st at
 left_none {k = k} inv h = inv _ (each_none k h)
 
 -- ---- what a number asks for
@@ -124,7 +129,7 @@ check_number o w test {l} k s at = go (read_number o w s at)
 
 -- a number, which is v, and then what v asks for
 pub switch_of : {o : Order} {w : ℕ} {test : Test} {l : ℕ → Layout} (k : (n : ℕ) → Rule (l n)) {s : List ℕ} {st q r : Step} {v : ℕ}
-    → v ≡ peek o w s st → ReadsTo (number o w test (λ _. empty)) s st q → Checks (k v) s q r → Checks (numbered {o = o} {w = w} {test = test} k) s st r
+    → v ≡ peek o w s st → ReadsTo (number o w test (λ _. empty)) s st q → ChecksTo (k v) s q r → ChecksTo (numbered {o = o} {w = w} {test = test} k) s st r
 unfolding step
 switch_of {o} {w} {test} k {s} {st} {v = v} e h y = record {
   is = λ bs. simp (check_number o w test k) (chained (λ at. read (number o w test (λ _. empty)) (drop at s) at)
@@ -139,13 +144,13 @@ switch_of {o} {w} {test} k {s} {st} {v = v} e h y = record {
 
 -- b is the test of what was read from st to q
 pub asks_of : {g : Layout} {n : ℕ} {test : Tree g → Bool} {s : List ℕ} {st q r : Step} {b good : Bool}
-    → ShowsTo g (λ t at. test t) s st q b → good ≡ b → r ≡ told st q good n → Checks (asks g n test) s st r
+    → ShowsTo g (λ t at. test t) s st q b → good ≡ b → r ≡ told st q good n → ChecksTo (asks g n test) s st r
 unfolding check judge step told chain bind pick
 asks_of {g} {n} {test} {s} {st} {q} {r} {b} h i e = record { is = λ bs. e ∙ rw i (go bs st refl h.reads.is) }
   where
     judged : (b : Bool) (at : ℕ) (t : Tree g) (r₁ : List ℕ) (p : ℕ) → pick b (Ok p) (Err (n, at)) ≡ forget (judge n at (pick b none (some 0)) t r₁ p)
     judged true at t r₁ p = refl
-    judged false at t r₁ p = ap (Refused n) (sym (add-zero at))
+    judged false at t r₁ p = rw (add-zero at)
 
     same : {A : Type 0} (b : Bool) (x : A) → pick b x x ≡ x
     same true x = refl
@@ -166,9 +171,18 @@ asks_of {g} {n} {test} {s} {st} {q} {r} {b} h i e = record { is = λ bs. e ∙ r
     go bs (Ok at) i j = reached bs at i (read g (drop at s) at) refl j
     go bs (Err (m, p)) i j = rw j (same b (Err (m, p)))
 
+-- after a refusal, and of what is refused itself
+pub refused_checks : {g : Layout} {u : Rule g} {s : List ℕ} {e : ℕ × ℕ} → ChecksTo u s (Err e) (Err e)
+unfolding chain
+refused_checks = record { is = λ bs. refl }
+
+pub refused_asks : {g : Layout} {n : ℕ} (test : Tree g → Bool) {s : List ℕ} {st : Step} {e : ℕ × ℕ} → ReadsTo g s st (Err e) → ChecksTo (asks g n test) s st (Err e)
+unfolding told pick
+refused_asks {n = n} test h = asks_of {n = n} {test = test} {b = true} {good = true} (refused_shows refl h) refl refl
+
 -- of a number alone, by its value
 pub asks_number : {o : Order} {w : ℕ} {t : Test} (ok : ℕ → Bool) {n : ℕ} {s : List ℕ} {st q r : Step} {v : ℕ} {good : Bool}
-    → GivesTo (number o w t (λ _. empty)) s st q (v, tt) → good ≡ ok v → r ≡ told st q good n → Checks (asks (number o w t (λ _. empty)) n (λ x. ok x.0)) s st r
+    → GivesTo (number o w t (λ _. empty)) s st q (v, tt) → good ≡ ok v → r ≡ told st q good n → ChecksTo (asks (number o w t (λ _. empty)) n (λ x. ok x.0)) s st r
 unfolding placed
 asks_number {o} {w} {t} ok h i e = asks_of (shows_of (λ (f : Fields (number o w t (λ _. empty))). ok f.0) (λ x at. refl) (to_shows h)) i e
 
@@ -188,9 +202,9 @@ asks_string o w s at = go (read_counted o w s at)
     go (no m p) = refl
 
 pub string_asks : {o : Order} {w : ℕ} {s : List ℕ} {st r : Step} → ReadsTo (string o w no_zero) s st r
-    → Checks (asks (string o w any_bytes) zero_byte (λ t. suits no_zero t)) s st r
+    → ChecksTo (asks (string o w any_bytes) zero_byte (λ t. suits no_zero t)) s st r
 unfolding step
 string_asks {o} {w} h = record { is = λ bs. simp (asks_string o w) h.is }
 
 -- a straight line of calls: `search checks` finds the chain
-pub ruleset checks = (◌⟩◌, of_reads, then, gives_reads, value_reads)
+pub ruleset checks = (◌⟩◌, of_reads, then, gives_reads)

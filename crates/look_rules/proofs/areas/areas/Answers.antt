@@ -1,8 +1,16 @@
+use Rattle.std.proofs.Common.{◌≡◌, ◌+◌, ◌-◌, arith}
 use Rattle.look_rules.proofs.Laws.Walk.{left_more, left_none}
 use Rattle.look_rules.proofs.areas.areas.Goals as goal
 
-pub loop-k-preserved : goal.loop-k-preserved
-loop-k-preserved c = left_more c.loop-k.invariant c.loop-k-test.true c.area-at.ensures
+pub loop-init : goal.loop-init
+loop-init c =
+    let all : c.args.n - 0 ≡ c.args.n = omega arith in
+    rw all (λ r h. h)
+
+pub loop-preserved : goal.loop-preserved
+loop-preserved c =
+    let left : c.args.n - (c.loop.counter + 1) ≡ c.args.n - c.loop.counter - 1 = omega arith in
+    rw left (left_more c.loop.invariant (omega arith) c.area-st.ensures)
 
 pub returns : goal.returns
-returns c = left_none c.loop-k.invariant c.loop-k-test.false
+returns c = left_none c.loop.invariant (omega arith)

@@ -1,9 +1,8 @@
+use Rattle.std.proofs.Common.{◌-◌}
+use Rattle.refusals.specs.Numbers.{by_number}
 use Rattle.look_rules.specs.StyleRule.{MostAreasRule}
 use Rattle.look_rules.proofs.Laws.Walk.{Left}
 use Rattle.look_rules.proofs.areas.areas.Given as goal
 
-abbrev pub invariant-loop-k : goal.invariant-loop-k
-invariant-loop-k l = Left MostAreasRule l.s l.n l.initial.at l.k l.at
-
-abbrev pub decreases-loop-k : goal.decreases-loop-k
-decreases-loop-k l = l.k
+abbrev pub invariant-loop : goal.invariant-loop
+invariant-loop l = Left MostAreasRule l.s l.n (by_number l.initial.st) (l.n - l.counter) (by_number l.st)

@@ -1,16 +1,16 @@
-use Rattle.std.proofs.Common.{eq-eqb, ne_eqb}
+use Rattle.std.proofs.Common.{arith, ne_eqb}
 use Rattle.sizes.specs.Basics.{pick}
 use Rattle.look_rules.specs.StyleRule.{listed}
 use Rattle.look_rules.proofs.borders.listed.Goals as goal
 
-pub returns-then-single : goal.returns-then-single
+pub returns-in-0 : goal.returns-in-0
 unfolding listed pick
-returns-then-single c = rw (eq-eqb _ _ c.if-single.true)
+returns-in-0 c = rw c.in-0.is
 
-pub returns-then-double : goal.returns-then-double
+pub returns-in-1 : goal.returns-in-1
 unfolding listed pick
-returns-then-double c = rw (ne_eqb _ _ c.if-single.false, eq-eqb _ _ c.if-double.true)
+returns-in-1 c = rw c.in-1.is
 
-pub returns-else-double : goal.returns-else-double
+pub returns-in_default : goal.returns-in_default
 unfolding listed pick
-returns-else-double c = rw (ne_eqb _ _ c.if-single.false, ne_eqb _ _ c.if-double.false)
+returns-in_default c = rw (ne_eqb c.args.style 0 (omega arith), ne_eqb c.args.style 1 (omega arith))

@@ -7,14 +7,6 @@ pub returns-then-good : goal.returns-then-good
 unfolding told chain pick
 returns-then-good c = rw c.if-good.true
 
-pub returns-in-Ok-next : goal.returns-in-Ok-next
+pub returns-else-good : goal.returns-else-good
 unfolding told chain pick
-returns-in-Ok-next c = rw (c.if-good.false, c.in-Ok.is, c.in-Ok-next.is)
-
-pub returns-in-Err-next : goal.returns-in-Err-next
-unfolding told chain pick
-returns-in-Err-next c = rw (c.if-good.false, c.in-Ok.is, c.in-Err-next.is)
-
-pub returns-in-Err : goal.returns-in-Err
-unfolding told chain pick
-returns-in-Err c = rw (c.if-good.false, c.in-Err.is)
+returns-else-good c = rw c.if-good.false
