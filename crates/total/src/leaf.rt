@@ -50,7 +50,7 @@ pub fn answered(nodes: u32, cells: u32, s: Sums) -> LeafTotal
 fn leaf_sums(member: &[u8], a: Answer, records: &[u32], dimension: u32, leaf: u32) -> Sums
     ensures { result ≡ words.word_sums member.now a records.now dimension leaf }
 {
-    let g = grid_of(member, a, dimension);
+    let g = grid_of(member, &a, dimension);
     sums_under(member, g.version, records, g.cells, g.block, g.step, leaf)
 }
 
@@ -64,8 +64,7 @@ pub fn leaf_answer(
 ) -> LeafTotal
     ensures { result ≡ words.word_answer member.now a records.now dimension leaf }
 {
-    let dims = a.dimensions;
-    if is_there(dims, a.dims, dimension, leaf) {
+    if is_there(&a.dimensions, a.dims, dimension, leaf) {
         let s = leaf_sums(member, a, records, dimension, leaf);
         answered(a.nodes, a.cells, s)
     } else {

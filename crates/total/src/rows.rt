@@ -181,7 +181,7 @@ pub fn fill(member: &[u8], a: Answer, records: &[u32], dimension: u32, n: usize,
     requires { (n < 2 ^ 32) × (leaf_total_words * n ≤ length area.old) }
     ensures { area.new ≡ laws.leaf_rows member.now a records.now dimension n ++ drop (leaf_total_words * n) area.old }
 {
-    let g = grid_of(member, a, dimension);
+    let g = grid_of(member, &a, dimension);
     clear(area, n);
     scatter_all(
         member, g.version, records, g.cells, g.block, g.step, n, area,
