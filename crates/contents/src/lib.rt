@@ -9,12 +9,13 @@ pub mod plain; // numbers with nothing but a format and a double
 ghost use Rattle.std.specs.Prelude.{◌≡◌};
 ghost use Rattle.contents.specs.Answers as spec;
 
-use crate::forms::{blank, position, raw_value};
-pub use double::{Double, number};
+use crate::forms::raw_value;
+pub use double::number;
 pub use figure::{Figure, read_figure};
-use layout::number::{peek, unless_either};
+use layout::LITTLE;
+use layout::number::peek;
 use layout::run::skip;
-use layout::{LITTLE, Step};
+use refusals::{Reason, Refusal};
 use sizes::{BELOW_VALUE, MEMBER_BYTES};
 use store::Name;
 use value::{argument, cell_zeros};
@@ -42,11 +43,9 @@ pub struct RawValue {
     pub first_argument: usize,
 }
 
-// What reading a Value gives: a refusal, or how long it is, how many bytes 00 it begins with, and its fields.
+// What a Value says: how long it is, how many bytes 00 it begins with, and its fields.
 #[derive(Clone, Copy)]
 pub struct Contents {
-    pub refusal: u32,
-    pub place: usize,
     pub length: usize,
     pub zeros: usize,
     pub raw: RawValue,
@@ -55,110 +54,53 @@ pub struct Contents {
 // The same of an Argument: how many values it has, and where the first starts.
 #[derive(Clone, Copy)]
 pub struct Argument {
-    pub refusal: u32,
-    pub place: usize,
     pub length: usize,
     pub values: u32,
     pub first: usize,
 }
 
-// The refusal of bytes that are not read; 0 for none.
-fn unread(s: &[u8], version: u64) -> u32
-    ensures { result ≡ spec.unread version s.now }
+// Whether bytes are read at all.
+fn readable(s: &[u8], version: u64) -> Result<(), Refusal>
+    ensures { spec.Readable version s.now result }
 {
-    let short = s.len() <= MEMBER_BYTES;
-    if short {
-        unless_either(version, 1, 3, 4)
+    let reason = if MEMBER_BYTES < s.len() {
+        Reason::TooLong
+    } else if version != 1 && version != 3 {
+        Reason::Version
     } else {
-        1
-    }
-}
-
-fn refused(n: u32, p: usize) -> Contents
-    ensures { result ≡ spec.refused n p }
-{
-    Contents {
-        refusal: n,
-        place: p,
-        length: 0,
-        zeros: 0,
-        raw: blank(0),
-    }
+        return Ok(());
+    };
+    Err(Refusal { reason, place: 0 })
 }
 
 // What the Value in front of the bytes says, in a member of that version.
-pub fn read_value(s: &[u8], version: u64) -> Contents
-    ensures { spec.ValueAnswers version s.now result }
+pub fn read_value(s: &[u8], version: u64) -> Result<Contents, Refusal>
+    ensures { spec.ValueAnswers version s.now (spec.contents_of result) }
 {
-    let n = unread(s, version);
-    if n != 0 {
-        return refused(n, 0);
-    }
-    let start = skip(s, Ok(0), 0, cell_zeros(version));
-    let got = raw_value(s, start, version);
-    let next = got.next;
-    match next {
-        Ok(length) => {
-            let raw = got.value;
-            Contents {
-                refusal: 0,
-                place: 0,
-                length,
-                zeros: position(start),
-                raw,
-            }
-        }
-        Err(refusal) => refused(n, p),
-    }
-}
-
-fn refused_argument(n: u32, p: usize) -> Argument
-    ensures { result ≡ spec.refused_argument_answer n p }
-{
-    Argument {
-        refusal: n,
-        place: p,
-        length: 0,
-        values: 0,
-        first: 0,
-    }
+    readable(s, version)?;
+    let zeros = skip(s, Ok(0), 0, cell_zeros(version))?;
+    let (raw, length) = raw_value(s, Ok(zeros), version)?;
+    Ok(Contents { length, zeros, raw })
 }
 
 // How many values an argument has whose first number is x, and where the first of them starts.
 fn argument_of(length: usize, x: u32) -> Argument
-    ensures { result ≡ spec.argument_of length x }
+    ensures { spec.argument_said result ≡ spec.argument_of length x }
 {
-    let one = x == 0;
-    if one {
-        Argument {
-            refusal: 0,
-            place: 0,
-            length,
-            values: 1,
-            first: 4,
-        }
-    } else {
-        Argument {
-            refusal: 0,
-            place: 0,
-            length,
-            values: x,
-            first: 8,
-        }
+    let (values, first) = if x == 0 { (1, 4) } else { (x, 8) };
+    Argument {
+        length,
+        values,
+        first,
     }
 }
 
 // What the Argument in front of the bytes says, in a member of that version.
-pub fn read_argument(s: &[u8], version: u64) -> Argument
-    ensures { spec.ArgumentAnswers version s.now result }
+pub fn read_argument(s: &[u8], version: u64) -> Result<Argument, Refusal>
+    ensures { spec.ArgumentAnswers version s.now (spec.argument_answered result) }
 {
-    let n = unread(s, version);
-    if n != 0 {
-        return refused_argument(n, 0);
-    }
+    readable(s, version)?;
     let x = peek(s, Ok(0), LITTLE, 4);
-    match argument(s, Ok(0), BELOW_VALUE, version) {
-        Ok(length) => argument_of(length, x as u32),
-        Err(refusal) => refused_argument(n, p),
-    }
+    let length = argument(s, Ok(0), BELOW_VALUE, version)?;
+    Ok(argument_of(length, x as u32))
 }

@@ -6,9 +6,9 @@ ghost use Rattle.grammar.specs.Layout.{little};
 ghost use Rattle.layout.specs.Reads.{peek};
 ghost use Rattle.contents.specs.Laws.Plain as spec;
 
-use crate::unread;
+use crate::readable;
+use layout::LITTLE;
 use layout::number::peek;
-use layout::{LITTLE, Step};
 
 // Its length in bytes.
 pub const PLAIN_BYTES: usize = 14;
@@ -16,22 +16,10 @@ pub const PLAIN_BYTES: usize = 14;
 pub fn is_plain(s: &[u8], version: u64) -> bool
     ensures { result ≡ spec.plain version s.now }
 {
-    let long = PLAIN_BYTES <= s.len();
-    if long {
-        let read = unread(s, version) == 0;
-        if read {
-            let number = peek(s, Ok(0), LITTLE, 1) == 1;
-            if number {
-                peek(s, Ok(1), LITTLE, 1) == 0x58
-            } else {
-                false
-            }
-        } else {
-            false
-        }
-    } else {
-        false
-    }
+    PLAIN_BYTES <= s.len()
+        && readable(s, version).is_ok()
+        && peek(s, Ok(0), LITTLE, 1) == 1
+        && peek(s, Ok(1), LITTLE, 1) == 0x58
 }
 
 // The fields of one.

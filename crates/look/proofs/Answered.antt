@@ -11,6 +11,7 @@ use Rattle.grammar.specs.Layout.{Tree, Bytes}
 use Rattle.grammar.specs.Laws.Layout.Read.{Got, got, no, read}
 use Rattle.layout.specs.Reads.{forget, step, chain, ReadsTo}
 use Rattle.store.specs.Fields.{placed}
+use Rattle.store.specs.Laws.Refusals.{same_refusal}
 use Rattle.fields.specs.Gives.{ShowsTo}
 use Rattle.look.specs.declared.Look.{Look}
 use Rattle.look.specs.Look.{TableLook}
@@ -23,7 +24,7 @@ when_refused {s} {r} {n} {p} h e = go (read TableLook s 0) (sym h.is ∙ e)
   where
     go : (x : Got (Tree TableLook)) → forget x ≡ Err (n, p) → refused n p ≡ expected x
     go (got t rest q) i = absurd (let z : ◌≡◌ {A = ℕ} 0 1 = cc in omega arith)
-    go (no m q) i = let a : n ≡ m = cc in let b : p ≡ q = cc in rw (a, b)
+    go (no m q) i = let a = same_refusal i in rw (a.0, a.1)
 
 module _ {s : List ℕ} {r : Step} (x : Look) (g : ShowsTo TableLook (λ t at. look_of (placed TableLook t at)) s (Ok 0) r (values.fields x)) (bs : Bytes s) {p : ℕ} (e : r ≡ Ok p) where
   pub when_left : p < length s → refused 11 p ≡ expected (read TableLook s 0)

@@ -1,2 +1,4 @@
+mod Exits
+mod Separators
 mod Versions
 mod Answered

@@ -1,170 +1,104 @@
 // Readers of the borders: separators one by one, in fours and in elevens.
+ghost use Rattle.std.specs.Prelude.{map};
 ghost use Rattle.grammar.specs.Layout.{times};
-ghost use Rattle.fields.specs.Gives.{Gives};
+ghost use Rattle.fields.specs.Gives.{GivesValue};
 ghost use Rattle.look.specs.Look as grammar;
 ghost use Rattle.look.specs.Values as values;
 
 use crate::section::section;
 use crate::{Frame, Frames, Lines, Separator};
+use fields::Read;
 use fields::read::{color, fixed_byte, int16};
 use layout::number::{one_of_two, peek};
 use layout::{LITTLE, Step};
 
-#[derive(Clone, Copy)]
-pub struct GotSeparator {
-    pub value: Separator,
-    pub next: Step,
-}
-
-pub fn separator(s: &[u8], st: Step) -> GotSeparator
-    ensures { Gives grammar.Separator s.now st result.next (values.separator result.value) }
+pub fn separator(s: &[u8], st: Step) -> Read<Separator>
+    ensures { GivesValue grammar.Separator values.separator s.now st result }
 {
     let drawn = peek(s, st, LITTLE, 1) == 1;
     let st = one_of_two(s, st, 0, 1);
     let st = fixed_byte(s, st, 0);
-    if drawn {
-        let color = color(s, st);
-        let st = color.next;
-        let style = int16(s, st);
-        let st = style.next;
-        let width = int16(s, st);
-        let next = width.next;
-        GotSeparator {
-            value: Separator::Drawn {
-                color: color.value,
-                style: style.value,
-                width: width.value,
-            },
-            next,
-        }
-    } else {
-        GotSeparator {
-            value: Separator::NotDrawn,
-            next: st,
-        }
+    if !drawn {
+        return Ok((Separator::NotDrawn, st?));
     }
+    let (color, at) = color(s, st)?;
+    let (style, at) = int16(s, Ok(at))?;
+    let (width, end) = int16(s, Ok(at))?;
+    let value = Separator::Drawn {
+        color,
+        style,
+        width,
+    };
+    Ok((value, end))
 }
 
-#[derive(Clone, Copy)]
-pub struct GotLines {
-    pub value: Lines,
-    pub next: Step,
-}
-
-pub fn lines(s: &[u8], st: Step) -> GotLines
-    ensures { Gives (times 4 grammar.Separator) s.now st result.next (values.lines result.value) }
+// So many separators.
+fn separators<const N: usize>(s: &[u8], st: Step) -> Read<[Separator; N]>
+    ensures { GivesValue (times N grammar.Separator) (map values.separator) s.now st result }
 {
-    let got = separator(s, st);
-    let horizontal_dimension = got.value;
-    let st = got.next;
-    let got = separator(s, st);
-    let vertical_dimension = got.value;
-    let st = got.next;
-    let got = separator(s, st);
-    let horizontal_category = got.value;
-    let st = got.next;
-    let got = separator(s, st);
-    let vertical_category = got.value;
-    let next = got.next;
-    GotLines {
-        value: Lines {
-            horizontal_dimension,
-            vertical_dimension,
-            horizontal_category,
-            vertical_category,
-        },
-        next,
+    let mut found = [Separator::NotDrawn; N];
+    let mut at = st?;
+    for x in &mut found {
+        let (value, next) = separator(s, Ok(at))?;
+        *x = value;
+        at = next;
     }
+    Ok((found, at))
 }
 
-#[derive(Clone, Copy)]
-pub struct GotSeparators {
-    pub rows: Lines,
-    pub columns: Lines,
-    pub next: Step,
+pub fn lines(s: &[u8], st: Step) -> Read<Lines>
+    ensures { GivesValue (times 4 grammar.Separator) values.lines s.now st result }
+{
+    let (found, end) = separators::<4>(s, st)?;
+    let [
+        horizontal_dimension,
+        vertical_dimension,
+        horizontal_category,
+        vertical_category,
+    ] = found;
+    let value = Lines {
+        horizontal_dimension,
+        vertical_dimension,
+        horizontal_category,
+        vertical_category,
+    };
+    Ok((value, end))
 }
 
-pub fn separator_style(s: &[u8], st: Step) -> GotSeparators
-    ensures { Gives grammar.PVSeparatorStyle s.now st result.next (values.separator_style result.rows result.columns) }
+// The lines of rows, and those of columns.
+pub fn separator_style(s: &[u8], st: Step) -> Read<(Lines, Lines)>
+    ensures { GivesValue grammar.PVSeparatorStyle (λ x. values.separator_style x.0 x.1) s.now st result }
 {
     let st = section(s, st, b"PVSeparatorStyle");
     let st = fixed_byte(s, st, 0);
-    let got = lines(s, st);
-    let rows = got.value;
-    let st = got.next;
-    let st = fixed_byte(s, st, 3);
+    let (rows, at) = lines(s, st)?;
+    let st = fixed_byte(s, Ok(at), 3);
     let st = fixed_byte(s, st, 0x80);
     let st = fixed_byte(s, st, 0);
-    let got = lines(s, st);
-    let columns = got.value;
-    let next = got.next;
-    GotSeparators {
-        rows,
-        columns,
-        next,
-    }
+    let (columns, end) = lines(s, st)?;
+    Ok(((rows, columns), end))
 }
 
-#[derive(Clone, Copy)]
-pub struct GotFrames {
-    pub value: Frames,
-    pub next: Step,
-}
-
-pub fn frames(s: &[u8], st: Step) -> GotFrames
-    ensures { Gives (times 11 grammar.Separator) s.now st result.next (values.frames result.value) }
+pub fn frames(s: &[u8], st: Step) -> Read<Frames>
+    ensures { GivesValue (times 11 grammar.Separator) values.frames s.now st result }
 {
-    let got = separator(s, st);
-    let title = got.value;
-    let st = got.next;
-    let got = separator(s, st);
-    let inner_left = got.value;
-    let st = got.next;
-    let got = separator(s, st);
-    let inner_right = got.value;
-    let st = got.next;
-    let got = separator(s, st);
-    let inner_top = got.value;
-    let st = got.next;
-    let got = separator(s, st);
-    let inner_bottom = got.value;
-    let st = got.next;
-    let got = separator(s, st);
-    let outer_left = got.value;
-    let st = got.next;
-    let got = separator(s, st);
-    let outer_right = got.value;
-    let st = got.next;
-    let got = separator(s, st);
-    let outer_top = got.value;
-    let st = got.next;
-    let got = separator(s, st);
-    let outer_bottom = got.value;
-    let st = got.next;
-    let got = separator(s, st);
-    let data_left = got.value;
-    let st = got.next;
-    let got = separator(s, st);
-    let data_top = got.value;
-    let next = got.next;
-    GotFrames {
-        value: Frames {
-            title,
-            inner: Frame {
-                left: inner_left,
-                right: inner_right,
-                top: inner_top,
-                bottom: inner_bottom,
-            },
-            outer: Frame {
-                left: outer_left,
-                right: outer_right,
-                top: outer_top,
-                bottom: outer_bottom,
-            },
-            data_left,
-            data_top,
+    let (found, end) = separators::<11>(s, st)?;
+    let value = Frames {
+        title: found[0],
+        inner: Frame {
+            left: found[1],
+            right: found[2],
+            top: found[3],
+            bottom: found[4],
         },
-        next,
-    }
+        outer: Frame {
+            left: found[5],
+            right: found[6],
+            top: found[7],
+            bottom: found[8],
+        },
+        data_left: found[9],
+        data_top: found[10],
+    };
+    Ok((value, end))
 }

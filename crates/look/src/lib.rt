@@ -6,6 +6,7 @@ pub mod borders; // separators
 pub mod read; // the reader
 pub mod section; // the first bytes of a section
 
+use refusals::Refusal;
 use store::Name;
 
 // A border: "either not drawn or drawn with color, style and width" (document 01).
@@ -142,9 +143,5 @@ pub struct Look {
     pub v2: V2Styles,
 }
 
-// What reading a look answers: the look, or the refusal's number and place.
-#[derive(Clone, Copy)]
-pub enum Answer {
-    Accepted(Look),
-    Refused(u32, usize),
-}
+// What reading a look answers: the look, or a refusal.
+pub type Answer = Result<Look, Refusal>;

@@ -6,13 +6,13 @@ use Prim.Native.Nat.{ℕ}
 use Rattle.layout.specs.Step.{Step}
 use Rattle.layout.specs.Steps.Chain.{empty_of}
 use Rattle.look_rules.specs.StyleRule.{V2StylesRule, V2StylesIfRule}
-use Rattle.look_rules.specs.Checks.{Checks}
+use Rattle.look_rules.specs.Checks.{ChecksTo}
 use Rattle.look_rules.proofs.Laws.Walk.{of_reads}
 
-pub with_v2 : (b : Bool) {s : List ℕ} {st r : Step} → b ≡ true → Checks V2StylesRule s st r → Checks (V2StylesIfRule b) s st r
+pub with_v2 : (b : Bool) {s : List ℕ} {st r : Step} → b ≡ true → ChecksTo V2StylesRule s st r → ChecksTo (V2StylesIfRule b) s st r
 with_v2 true e h = h
 with_v2 false e h = absurd (false≢true e)
 
-pub without_v2 : (b : Bool) {s : List ℕ} {st : Step} → b ≡ false → Checks (V2StylesIfRule b) s st st
+pub without_v2 : (b : Bool) {s : List ℕ} {st : Step} → b ≡ false → ChecksTo (V2StylesIfRule b) s st st
 without_v2 true e = absurd (false≢true (sym e))
 without_v2 false e = of_reads empty_of

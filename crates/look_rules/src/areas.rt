@@ -4,12 +4,13 @@ ghost use Rattle.look_rules.specs.StyleRule as spec;
 ghost use Rattle.look_rules.specs.StyleRule.{each, align_rule, alignment_rule, size_rule, font_rule, name_rule, typeface_rule, AreaStyleRule, MostAreasRule, PVTextStyleRule};
 ghost use Rattle.look_rules.specs.Checks.{Checks};
 
-use crate::verdict::{LIMIT_PASSED, NOT_LISTED, told};
-use fields::read::{color, fixed_byte, four_zeros, int16, int32, two_zeros};
+use crate::verdict::{past, told};
+use fields::read::{color, fixed_byte, int16, int32, zeros};
 use layout::number::{any, boolean};
 use layout::{LITTLE, Step};
 use look::areas::area_color;
 use look::section::section;
+use refusals::Reason;
 use regions::region::string;
 
 // The last valign and the last halign that 002 lists.
@@ -24,10 +25,9 @@ const MOST_HEIGHT: u64 = 1000000;
 fn aligned(s: &[u8], st: Step, last: u16) -> Step
     ensures { Checks (align_rule last) s.now st result }
 {
-    let got = int16(s, st);
-    let next = got.next;
-    let good = got.value <= last;
-    told(st, next, good, NOT_LISTED)
+    let at = st?;
+    let (value, next) = int16(s, Ok(at))?;
+    told(at, next, value <= last, Reason::NoMeaning)
 }
 
 // valign, halign, decimal-offset and the margins.
@@ -51,21 +51,15 @@ fn alignment(s: &[u8], st: Step) -> Step
 fn has_height(bits: u32) -> bool
     ensures { result ≡ spec.has_height bits }
 {
-    let negative = 2147483648 <= bits;
-    if negative {
-        4294967296 - bits as u64 <= MOST_HEIGHT
-    } else {
-        false
-    }
+    2147483648 <= bits && 4294967296 - u64::from(bits) <= MOST_HEIGHT
 }
 
 fn font_size(s: &[u8], st: Step) -> Step
     ensures { Checks size_rule s.now st result }
 {
-    let got = int32(s, st);
-    let next = got.next;
-    let good = has_height(got.value);
-    told(st, next, good, LIMIT_PASSED)
+    let at = st?;
+    let (bits, next) = int32(s, Ok(at))?;
+    told(at, next, has_height(bits), Reason::Limit)
 }
 
 fn font(s: &[u8], st: Step) -> Step
@@ -73,11 +67,11 @@ fn font(s: &[u8], st: Step) -> Step
 {
     let st = font_size(s, st);
     let st = any(s, st, 2);
-    let st = two_zeros(s, st);
+    let st = zeros(s, st, 2);
     let st = any(s, st, 4);
-    let st = four_zeros(s, st);
+    let st = zeros(s, st, 4);
     let st = any(s, st, 2);
-    two_zeros(s, st)
+    zeros(s, st, 2)
 }
 
 // A font name without a zero byte.
@@ -96,9 +90,8 @@ fn typeface(s: &[u8], st: Step) -> Step
     let st = any(s, st, 4);
     let st = any(s, st, 1);
     let st = font_name(s, st);
-    let got = color(s, st);
-    let st = got.next;
-    two_zeros(s, st)
+    let st = past(color(s, st));
+    zeros(s, st, 2)
 }
 
 fn area_style(s: &[u8], st: Step) -> Step
@@ -114,25 +107,22 @@ fn area(s: &[u8], st: Step) -> Step
 {
     let st = fixed_byte(s, st, 6);
     let st = fixed_byte(s, st, 0x80);
-    let got = area_color(s, st);
-    let st = got.next;
+    let st = past(area_color(s, st));
     let st = fixed_byte(s, st, 8);
     let st = fixed_byte(s, st, 0x80);
     let st = fixed_byte(s, st, 0);
     area_style(s, st)
 }
 
-// n areas, layers first.
+// n areas, layers first. As `borders::separators`: one function of both would take the rule by a trait, and be longer than the two loops.
 fn areas(s: &[u8], st: Step, n: usize) -> Step
     ensures { Checks (each {n = n} MostAreasRule) s.now st result }
 {
-    let mut at = st;
-    let mut k = n;
-    while 0 < k {
-        at = area(s, at);
-        k -= 1;
+    let mut st = st;
+    for _ in 0..n {
+        st = area(s, st);
     }
-    at
+    st
 }
 
 pub fn text_style(s: &[u8], st: Step) -> Step

@@ -4,24 +4,21 @@ ghost use Rattle.look_rules.specs.StyleRule as spec;
 ghost use Rattle.look_rules.specs.StyleRule.{each, listed_border, separator_rule, PVSeparatorStyleRule};
 ghost use Rattle.look_rules.specs.Checks.{Checks};
 
-use crate::verdict::{NOT_LISTED, told};
+use crate::verdict::told;
 use fields::read::fixed_byte;
 use layout::Step;
 use look::section::section;
 use look::{Separator, borders as read};
+use refusals::Reason;
 
 // Whether 002 lists a line of this style and width.
 fn listed(style: u16, width: u16) -> bool
     ensures { result ≡ spec.listed style width }
 {
-    let single = style == 0;
-    let double = style == 1;
-    if single {
-        width <= 3
-    } else if double {
-        width <= 1
-    } else {
-        style == 2
+    match style {
+        0 => width <= 3,
+        1 => width <= 1,
+        _ => style == 2,
     }
 }
 
@@ -42,24 +39,20 @@ fn listed_border(x: Separator) -> bool
 fn separator(s: &[u8], st: Step) -> Step
     ensures { Checks separator_rule s.now st result }
 {
-    let got = read::separator(s, st);
-    let value = got.value;
-    let next = got.next;
-    let good = listed_border(value);
-    told(st, next, good, NOT_LISTED)
+    let at = st?;
+    let (value, next) = read::separator(s, Ok(at))?;
+    told(at, next, listed_border(value), Reason::NoMeaning)
 }
 
 // n separators.
 pub fn separators(s: &[u8], st: Step, n: usize) -> Step
     ensures { Checks (each {n = n} separator_rule) s.now st result }
 {
-    let mut at = st;
-    let mut k = n;
-    while 0 < k {
-        at = separator(s, at);
-        k -= 1;
+    let mut st = st;
+    for _ in 0..n {
+        st = separator(s, st);
     }
-    at
+    st
 }
 
 pub fn separator_style(s: &[u8], st: Step) -> Step

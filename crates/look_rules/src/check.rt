@@ -2,12 +2,14 @@
 ghost use Rattle.std.specs.Prelude.{◌≡◌};
 ghost use Rattle.grammar.specs.Layout.{Bytes};
 ghost use Rattle.grammar.specs.Laws.Layout.Check.{check};
+ghost use Rattle.refusals.specs.Numbers.{by_number};
 ghost use Rattle.layout.specs.Reads.{forget};
 ghost use Rattle.look_rules.specs.StyleRule.{V2StylesRule, V2StylesIfRule, sections_rule, style_rule};
 ghost use Rattle.look_rules.specs.Checks.{Checks};
 
 use crate::areas::text_style;
 use crate::borders::{separator_style, separators};
+use crate::verdict::past;
 use fields::read::name;
 use layout::number::{any, field, peek};
 use layout::{LITTLE, Step};
@@ -20,8 +22,7 @@ fn v2_styles(s: &[u8], st: Step) -> Step
     ensures { Checks V2StylesRule s.now st result }
 {
     let st = separators(s, st, 11);
-    let got = name(s, st);
-    let st = got.next;
+    let st = past(name(s, st));
     let st = any(s, st, 4);
     let st = any(s, st, 4);
     let st = any(s, st, 4);
@@ -39,8 +40,7 @@ fn sections(s: &[u8], st: Step, new: bool) -> Step
     ensures { Checks (sections_rule (V2StylesIfRule new)) s.now st result }
 {
     let st = separator_style(s, st);
-    let got = cell_style(s, st);
-    let st = got.next;
+    let st = past(cell_style(s, st));
     let st = text_style(s, st);
     v2_styles_if(s, st, new)
 }
@@ -51,15 +51,13 @@ fn table_look(s: &[u8], st: Step) -> Step
     let st = section(s, st, b"PTTableLook");
     let v = peek(s, st, LITTLE, 1);
     let st = field(s, st, 1, known_two(v, 0, 2));
-    let got = settings(s, st);
-    let st = got.next;
-    let new = v == 2;
-    sections(s, st, new)
+    let st = past(settings(s, st));
+    sections(s, st, v == 2)
 }
 
-// Whether a look can become the styles of a member: past its last byte, or the refusal's number and its place in the file.
+// Whether a look can become the styles of a member: past its last byte, or a refusal, by its place in the file.
 pub fn check_styles(file: &[u8]) -> Step
-    ensures { (result ≡ forget (check style_rule file.now 0)) × Bytes file.now }
+    ensures { (by_number result ≡ forget (check style_rule file.now 0)) × Bytes file.now }
 {
     table_look(file, Ok(0))
 }

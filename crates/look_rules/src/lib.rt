@@ -5,4 +5,4 @@
 mod areas; // alignments, fonts and their names
 mod borders; // separators
 pub mod check; // the whole look
-mod verdict; // a symbol that doesn't pass its test
+mod verdict; // past a symbol, and one that doesn't pass its test

@@ -1,27 +1,27 @@
-// A symbol that doesn't pass its test.
-ghost use Rattle.std.specs.Prelude.{◌≡◌};
+// Past a symbol, and one that doesn't pass its test.
+ghost use Rattle.std.specs.Prelude.{◌≡◌, Ok};
+ghost use Rattle.refusals.specs.Numbers.{number, by_number};
 ghost use Rattle.look_rules.specs.Checks as spec;
 
+use fields::Read;
 use layout::Step;
+use refusals::{Reason, Refusal};
 
-// A style, width or alignment that 002 doesn't list.
-pub const NOT_LISTED: u32 = 29;
+// The position after a value, whichever it is.
+pub fn past<T: Copy>(read: Read<T>) -> Step
+    ensures { result ≡ spec.past read }
+{
+    let (_, at) = read?;
+    Ok(at)
+}
 
-// A limit passed.
-pub const LIMIT_PASSED: u32 = 7;
-
-// What was read from st to next; or the refusal n at st, where that isn't good.
-pub fn told(st: Step, next: Step, good: bool, n: u32) -> Step
-    ensures { result ≡ spec.told st next good n }
+// Past a symbol that was read from one position to the next; or refused where it begins, where it isn't good.
+pub fn told(at: usize, next: usize, good: bool, reason: Reason) -> Step
+    ensures { by_number result ≡ spec.told (Ok at) (Ok next) good (number reason) }
 {
     if good {
-        return next;
-    }
-    match st {
-        Ok(at) => match next {
-            Ok(_) => Err(TODO(n, at)),
-            Err(refusal) => Err(refusal),
-        },
-        Err(refusal) => Err(refusal),
+        Ok(next)
+    } else {
+        Err(Refusal { reason, place: at })
     }
 }

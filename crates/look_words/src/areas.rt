@@ -49,7 +49,6 @@ fn font(out: &mut [u32], st: Step, x: Font) -> Step
 fn typeface(out: &mut [u32], st: Step, x: Typeface) -> Step
     ensures { PutsWords (spec.typeface x) out.old st out.new result }
 {
-    let font_name = x.font_name;
     put(
         out,
         st,
@@ -59,8 +58,8 @@ fn typeface(out: &mut [u32], st: Step, x: Typeface) -> Step
             x.strikethrough as u32,
             x.rtf_charset_number,
             x.x as u32,
-            (font_name.place % 4294967296) as u32,
-            (font_name.length % 4294967296) as u32,
+            (x.font_name.place % 4294967296) as u32,
+            (x.font_name.length % 4294967296) as u32,
             x.text_color,
         ],
     )
@@ -69,32 +68,20 @@ fn typeface(out: &mut [u32], st: Step, x: Typeface) -> Step
 pub fn area(out: &mut [u32], st: Step, x: Area) -> Step
     ensures { PutsWords (spec.area x) out.old st out.new result }
 {
-    let color = x.color;
-    let style = x.style;
-    let alignment_of = style.alignment;
-    let font_of = style.font;
-    let typeface_of = style.typeface;
-    let st = area_color(out, st, color);
-    let st = alignment(out, st, alignment_of);
-    let st = font(out, st, font_of);
-    typeface(out, st, typeface_of)
+    let st = area_color(out, st, x.color);
+    let st = alignment(out, st, x.style.alignment);
+    let st = font(out, st, x.style.font);
+    typeface(out, st, x.style.typeface)
 }
 
 pub fn most_areas(out: &mut [u32], st: Step, x: MostAreas) -> Step
     ensures { PutsWords (spec.most_areas x) out.old st out.new result }
 {
-    let layers = x.layers;
-    let corner = x.corner;
-    let row_labels = x.row_labels;
-    let column_labels = x.column_labels;
-    let data = x.data;
-    let caption = x.caption;
-    let footer = x.footer;
-    let st = area(out, st, layers);
-    let st = area(out, st, corner);
-    let st = area(out, st, row_labels);
-    let st = area(out, st, column_labels);
-    let st = area(out, st, data);
-    let st = area(out, st, caption);
-    area(out, st, footer)
+    let st = area(out, st, x.layers);
+    let st = area(out, st, x.corner);
+    let st = area(out, st, x.row_labels);
+    let st = area(out, st, x.column_labels);
+    let st = area(out, st, x.data);
+    let st = area(out, st, x.caption);
+    area(out, st, x.footer)
 }

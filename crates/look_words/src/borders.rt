@@ -31,41 +31,28 @@ fn four(out: &mut [u32], st: Step, a: Separator, b: Separator, c: Separator, d: 
 pub fn lines(out: &mut [u32], st: Step, x: Lines) -> Step
     ensures { PutsWords (spec.lines x) out.old st out.new result }
 {
-    let horizontal_dimension = x.horizontal_dimension;
-    let vertical_dimension = x.vertical_dimension;
-    let horizontal_category = x.horizontal_category;
-    let vertical_category = x.vertical_category;
     four(
         out,
         st,
-        horizontal_dimension,
-        vertical_dimension,
-        horizontal_category,
-        vertical_category,
+        x.horizontal_dimension,
+        x.vertical_dimension,
+        x.horizontal_category,
+        x.vertical_category,
     )
 }
 
 fn frame(out: &mut [u32], st: Step, x: Frame) -> Step
     ensures { PutsWords (spec.frame x) out.old st out.new result }
 {
-    let left = x.left;
-    let right = x.right;
-    let top = x.top;
-    let bottom = x.bottom;
-    four(out, st, left, right, top, bottom)
+    four(out, st, x.left, x.right, x.top, x.bottom)
 }
 
 pub fn frames(out: &mut [u32], st: Step, x: Frames) -> Step
     ensures { PutsWords (spec.frames x) out.old st out.new result }
 {
-    let title = x.title;
-    let inner = x.inner;
-    let outer = x.outer;
-    let data_left = x.data_left;
-    let data_top = x.data_top;
-    let st = separator(out, st, title);
-    let st = frame(out, st, inner);
-    let st = frame(out, st, outer);
-    let st = separator(out, st, data_left);
-    separator(out, st, data_top)
+    let st = separator(out, st, x.title);
+    let st = frame(out, st, x.inner);
+    let st = frame(out, st, x.outer);
+    let st = separator(out, st, x.data_left);
+    separator(out, st, x.data_top)
 }

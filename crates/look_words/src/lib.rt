@@ -17,7 +17,7 @@ use crate::areas::{area, most_areas};
 use crate::borders::{frames, lines};
 use layout::Step;
 use look::read::read_look;
-use look::{Answer, Continuation, Look, V2Styles};
+use look::{Continuation, Look, V2Styles};
 use sizes::{LOOK_ANSWER_WORDS, LOOK_WORDS, NO_PLACE};
 use store::words::put;
 
@@ -41,8 +41,7 @@ fn continuation_of(out: &mut [u32], st: Step, x: Continuation) -> Step
 fn v2_numbers(out: &mut [u32], st: Step, x: V2Styles) -> Step
     ensures { PutsWords (spec.v2_numbers x) out.old st out.new result }
 {
-    let continuation = x.continuation;
-    let st = continuation_of(out, st, continuation);
+    let st = continuation_of(out, st, x.continuation);
     put(
         out,
         st,
@@ -59,29 +58,22 @@ fn v2_numbers(out: &mut [u32], st: Step, x: V2Styles) -> Step
 fn whole(out: &mut [u32], st: Step, x: Look) -> Step
     ensures { PutsWords (look_words_of x) out.old st out.new result }
 {
-    let settings = x.settings;
-    let rows = x.rows;
-    let columns = x.columns;
-    let title = x.title;
-    let most = x.most_areas;
-    let v2 = x.v2;
-    let frames_of = v2.frames;
     let st = put(
         out,
         st,
         &[
             x.version as u32,
-            settings.flags as u32,
-            settings.nested_row_labels as u32,
-            settings.footnote_marker_subscripts as u32,
+            x.settings.flags as u32,
+            x.settings.nested_row_labels as u32,
+            x.settings.footnote_marker_subscripts as u32,
         ],
     );
-    let st = lines(out, st, rows);
-    let st = lines(out, st, columns);
-    let st = area(out, st, title);
-    let st = most_areas(out, st, most);
-    let st = frames(out, st, frames_of);
-    v2_numbers(out, st, v2)
+    let st = lines(out, st, x.rows);
+    let st = lines(out, st, x.columns);
+    let st = area(out, st, x.title);
+    let st = most_areas(out, st, x.most_areas);
+    let st = frames(out, st, x.v2.frames);
+    v2_numbers(out, st, x.v2)
 }
 
 // Reads a look and puts its answer at the front of an area: the refusal, 0 if the look is accepted, and its place; then the words of the
@@ -89,20 +81,19 @@ fn whole(out: &mut [u32], st: Step, x: Look) -> Step
 pub fn look_answer(file: &[u8], area: &mut [u32]) -> usize
     ensures { AtFront look_answer_words (answer_words_of (expected (read TableLook file.now 0))) area.old result area.new }
 {
-    let room = LOOK_ANSWER_WORDS <= area.len();
-    if room {
-        match read_look(file) {
-            Ok(look) => {
-                let st = put(area, Ok(0), &[0, 0]);
-                whole(area, st, look);
-            }
-            Err(refusal) => {
-                let st = put(area, Ok(0), &[n, (p % 4294967296) as u32]);
-                put(area, st, &[0u32; LOOK_WORDS]);
-            }
-        }
-        LOOK_ANSWER_WORDS
-    } else {
-        0
+    if area.len() < LOOK_ANSWER_WORDS {
+        return 0;
     }
+    match read_look(file) {
+        Ok(look) => {
+            let st = put(area, Ok(0), &[0, 0]);
+            whole(area, st, look);
+        }
+        Err(refusal) => {
+            let place = (refusal.place % 4294967296) as u32;
+            let st = put(area, Ok(0), &[refusal.reason.number(), place]);
+            put(area, st, &[0u32; LOOK_WORDS]);
+        }
+    }
+    LOOK_ANSWER_WORDS
 }

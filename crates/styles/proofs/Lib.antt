@@ -1,3 +1,2 @@
-mod Mixing
 mod Floats
 mod Heights

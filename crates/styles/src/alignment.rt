@@ -4,6 +4,8 @@ ghost use Rattle.styles.specs.Styles as spec;
 
 use units::{Pt, pt_to_px};
 
+// From 002's numbers to 003's. Numbers on both sides: `spec.halign` is the table of the two, and an enum between them would only be two
+// tables in place of one.
 pub fn halign(n: u16) -> u32
     ensures { result ≡ spec.halign n }
 {
@@ -28,10 +30,9 @@ pub fn valign(n: u16) -> u32
     }
 }
 
-// In pixels, from 20ths of a point.
+// In pixels, from 20ths of a point: so few that none is too many.
 pub fn margin(n: u16) -> u32
     ensures { result ≡ spec.margin n }
 {
-    let pixels = pt_to_px(Pt((n / 20) as u32));
-    pixels.value.0
+    pt_to_px(Pt(u32::from(n / 20))).unwrap().0
 }

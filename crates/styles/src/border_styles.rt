@@ -29,6 +29,7 @@ fn doubled(width: u16) -> u32
     }
 }
 
+// From 002's numbers to 003's, as `alignment::halign`.
 fn stroke(style: u16, width: u16) -> u32
     ensures { result ≡ spec.stroke style width }
 {
@@ -40,46 +41,37 @@ fn stroke(style: u16, width: u16) -> u32
     }
 }
 
-fn border_of(x: Separator) -> Border
-    ensures { result ≡ spec.border x }
-{
-    match x {
-        Separator::NotDrawn => Border {
-            stroke: 0,
-            color: 0xff00_0000,
-        },
-        Separator::Drawn {
-            color,
-            style,
-            width,
-        } => Border {
-            stroke: stroke(style, width),
-            color: opaque(color),
-        },
+impl From<Separator> for Border {
+    ghost from_gives = { λ x border. border ≡ spec.border x };
+
+    fn from(x: Separator) -> Border {
+        match x {
+            Separator::NotDrawn => Border {
+                stroke: 0,
+                color: 0xff00_0000,
+            },
+            Separator::Drawn {
+                color,
+                style,
+                width,
+            } => Border {
+                stroke: stroke(style, width),
+                color: opaque(color),
+            },
+        }
     }
 }
 
-fn frame_of(x: look::Frame) -> Frame
-    ensures { result ≡ spec.frame x }
-{
-    let left = x.left;
-    let top = x.top;
-    let right = x.right;
-    let bottom = x.bottom;
-    Frame {
-        left: border_of(left),
-        top: border_of(top),
-        right: border_of(right),
-        bottom: border_of(bottom),
-    }
-}
+impl From<look::Frame> for Frame {
+    ghost from_gives = { λ x frame. frame ≡ spec.frame x };
 
-fn pair_of(horizontal: Separator, vertical: Separator) -> Pair
-    ensures { result ≡ spec.pair horizontal vertical }
-{
-    Pair {
-        horizontal: border_of(horizontal),
-        vertical: border_of(vertical),
+    fn from(x: look::Frame) -> Frame {
+        Frame {
+            left: x.left.into(),
+            top: x.top.into(),
+            right: x.right.into(),
+            bottom: x.bottom.into(),
+        }
     }
 }
 
@@ -87,33 +79,30 @@ fn pair_of(horizontal: Separator, vertical: Separator) -> Pair
 fn dimension_of(x: Lines) -> Pair
     ensures { result ≡ spec.dimension x }
 {
-    let horizontal = x.horizontal_dimension;
-    let vertical = x.vertical_dimension;
-    pair_of(horizontal, vertical)
+    Pair {
+        horizontal: x.horizontal_dimension.into(),
+        vertical: x.vertical_dimension.into(),
+    }
 }
 
 fn category_of(x: Lines) -> Pair
     ensures { result ≡ spec.category x }
 {
-    let horizontal = x.horizontal_category;
-    let vertical = x.vertical_category;
-    pair_of(horizontal, vertical)
+    Pair {
+        horizontal: x.horizontal_category.into(),
+        vertical: x.vertical_category.into(),
+    }
 }
 
 pub fn borders_of(rows: Lines, columns: Lines, x: Frames) -> Borders
     ensures { result ≡ spec.borders rows columns x }
 {
-    let title = x.title;
-    let outer = x.outer;
-    let inner = x.inner;
-    let data_left = x.data_left;
-    let data_top = x.data_top;
     Borders {
-        title: border_of(title),
-        outer: frame_of(outer),
-        inner: frame_of(inner),
-        data_left: border_of(data_left),
-        data_top: border_of(data_top),
+        title: x.title.into(),
+        outer: x.outer.into(),
+        inner: x.inner.into(),
+        data_left: x.data_left.into(),
+        data_top: x.data_top.into(),
         dimension_rows: dimension_of(rows),
         dimension_columns: dimension_of(columns),
         category_rows: category_of(rows),

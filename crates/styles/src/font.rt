@@ -9,17 +9,13 @@ use units::font_height;
 pub fn size(font_size: i32) -> u32
     ensures { result ≡ spec.size (twos font_size) }
 {
-    let height = font_height(font_size);
-    f32::to_bits(std::num::nearest_u32_to_f32(height.value))
+    let height = font_height(font_size).unwrap_or(0);
+    f32::to_bits(std::num::nearest_u32_to_f32(height))
 }
 
 pub fn style(weight: u16, italic: bool) -> u32
     ensures { result ≡ spec.style weight italic }
 {
     let bold = 700 <= weight;
-    if bold {
-        if italic { 3 } else { 1 }
-    } else {
-        if italic { 2 } else { 0 }
-    }
+    u32::from(bold) + u32::from(italic) * 2
 }

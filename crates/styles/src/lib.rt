@@ -90,14 +90,8 @@ pub struct Styles {
 pub fn styles_of(look: Look) -> Styles
     ensures { result ≡ spec.styles look }
 {
-    let title = look.title;
-    let most = look.most_areas;
-    let rows = look.rows;
-    let columns = look.columns;
-    let v2 = look.v2;
-    let frames = v2.frames;
     Styles {
-        areas: areas_of(title, most),
-        borders: borders_of(rows, columns, frames),
+        areas: areas_of(look.title, look.most_areas),
+        borders: borders_of(look.rows, look.columns, look.v2.frames),
     }
 }

@@ -1,10 +1,38 @@
 -- Document 01, "The looks": points, pixels, and the height of a font.
-use Rattle.std.specs.Prelude.{Bool, true, false, ℕ, suc, ◌+◌, ◌*◌, ◌/◌, leb, ℤ, pos, negsuc}
+use Rattle.std.specs.Prelude.{Bool, true, false, ℕ, suc, ◌+◌, ◌*◌, ◌/◌, leb, ℤ, pos, negsuc, Result, Ok, Err}
+use Rattle.refusals.specs.declared.Refusal.{Refusal}
+use Rattle.refusals.specs.Numbers.{number}
 use Rattle.units.specs.declared.Pt.{Pt}
 use Rattle.units.specs.declared.Px.{Px}
-use Rattle.units.specs.declared.Pixels.{Pixels}
-use Rattle.units.specs.declared.Points.{Points}
-use Rattle.units.specs.declared.Height.{Height}
+
+-- the refusal's number, or 0, and its place; then the value
+pub record Answer (A : Type 0) : Type 0 where
+  pub refusal : ℕ
+  pub place : ℕ
+  pub value : A
+
+abbrev pub Pixels : Type 0
+Pixels = Answer Px
+
+abbrev pub Points : Type 0
+Points = Answer Pt
+
+abbrev pub Height : Type 0
+Height = Answer ℕ
+
+-- what code gives, so; where it is refused the value is one that stands for none
+abbrev pub answer_or : {A : Type 0} → A → Result A Refusal → Answer A
+answer_or none (Ok x) = record { refusal = 0; place = 0; value = x }
+answer_or none (Err e) = record { refusal = number e.reason; place = e.place; value = none }
+
+abbrev pub pixels_of : Result Px Refusal → Pixels
+pixels_of r = answer_or (record { 0 = 0 }) r
+
+abbrev pub points_of : Result Pt Refusal → Points
+points_of r = answer_or (record { 0 = 0 }) r
+
+abbrev pub height_of : Result ℕ Refusal → Height
+height_of r = answer_or 0 r
 
 -- "px = pt × 133/100 rounded up"
 abbrev pub to_pixels : ℕ → ℕ

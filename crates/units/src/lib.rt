@@ -4,89 +4,49 @@
 ghost use Rattle.std.specs.Prelude.{◌≡◌};
 ghost use Rattle.units.specs.Units as spec;
 
-#[derive(Clone, Copy)]
+use refusals::{Reason, Refusal};
+
+#[derive(Clone, Copy, Debug, PartialEq, Eq, PartialOrd, Ord)]
 pub struct Pt(pub u32);
 
-#[derive(Clone, Copy)]
+#[derive(Clone, Copy, Debug, PartialEq, Eq, PartialOrd, Ord)]
 pub struct Px(pub u32);
 
-// The refusal's number, or 0, and its place; then the value, 0 where it is refused.
-#[derive(Clone, Copy)]
-pub struct Pixels {
-    pub refusal: u32,
-    pub place: usize,
-    pub value: Px,
-}
+// Why a number has no counterpart. Nothing of a file is read, so the place is 0.
+const NO_NUMBER: Refusal = Refusal {
+    reason: Reason::Limit,
+    place: 0,
+};
 
-#[derive(Clone, Copy)]
-pub struct Points {
-    pub refusal: u32,
-    pub place: usize,
-    pub value: Pt,
-}
-
-#[derive(Clone, Copy)]
-pub struct Height {
-    pub refusal: u32,
-    pub place: usize,
-    pub value: u32,
-}
-
-pub fn pt_to_px(points: Pt) -> Pixels
-    ensures { result ≡ spec.in_pixels points }
+pub fn pt_to_px(points: Pt) -> Result<Px, Refusal>
+    ensures { spec.pixels_of result ≡ spec.in_pixels points }
 {
     let n = points.0;
-    let small = n <= 1000000;
-    if small {
-        Pixels {
-            refusal: 0,
-            place: 0,
-            value: Px((n * 133 + 99) / 100),
-        }
+    if n <= 1000000 {
+        Ok(Px((n * 133 + 99) / 100))
     } else {
-        Pixels {
-            refusal: 7,
-            place: 0,
-            value: Px(0),
-        }
+        Err(NO_NUMBER)
     }
 }
 
-pub fn px_to_pt(pixels: Px) -> Points
-    ensures { result ≡ spec.in_points pixels }
+pub fn px_to_pt(pixels: Px) -> Result<Pt, Refusal>
+    ensures { spec.points_of result ≡ spec.in_points pixels }
 {
     let n = pixels.0;
-    let small = n <= 1330000;
-    if small {
-        Points {
-            refusal: 0,
-            place: 0,
-            value: Pt(n * 100 / 133),
-        }
+    if n <= 1330000 {
+        Ok(Pt(n * 100 / 133))
     } else {
-        Points {
-            refusal: 7,
-            place: 0,
-            value: Pt(0),
-        }
+        Err(NO_NUMBER)
     }
 }
 
 // The height of a font, in 96ths of an inch: its size is the negative of that.
-pub fn font_height(size: i32) -> Height
-    ensures { result ≡ spec.height size }
+pub fn font_height(size: i32) -> Result<u32, Refusal>
+    ensures { spec.height_of result ≡ spec.height size }
 {
     if size < 0 {
-        Height {
-            refusal: 0,
-            place: 0,
-            value: -(size as i64) as u32,
-        }
+        Ok(size.unsigned_abs())
     } else {
-        Height {
-            refusal: 7,
-            place: 0,
-            value: 0,
-        }
+        Err(NO_NUMBER)
     }
 }

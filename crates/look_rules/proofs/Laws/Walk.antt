@@ -18,7 +18,7 @@ use Rattle.fields.specs.Gives.{ShowsTo, GivesTo, GivesValueTo}
 use Rattle.fields.specs.Laws.Shows.{numbered_of, peeked, shows_of}
 use Rattle.fields.specs.Laws.Gives.{to_shows}
 use Rattle.look_rules.specs.StyleRule.{◌▹◌, each, asks}
-use Rattle.look_rules.specs.Checks.{Checks, told}
+use Rattle.look_rules.specs.Checks.{ChecksTo, told}
 
 -- ---- one after the other
 
@@ -41,7 +41,7 @@ chained {A} x f F (Ok at) {q} {r} same i e = go (x at) refl i
 chained x f F (Err (n, p)) same i e = e ∙ rw i
 
 infixl 20 ◌⟩◌
-pub ◌⟩◌ : {a b : Layout} {u : Rule a} {v : Rule b} {s : List ℕ} {st q r : Step} → Checks u s st q → Checks v s q r → Checks (u ▹ v) s st r
+pub ◌⟩◌ : {a b : Layout} {u : Rule a} {v : Rule b} {s : List ℕ} {st q r : Step} → ChecksTo u s st q → ChecksTo v s q r → ChecksTo (u ▹ v) s st r
 unfolding check
 ◌⟩◌ {u = u} {v = v} {s = s} {st = st} x y = record {
   is = λ bs. chained (λ at. check u (drop at s) at) (λ t s₁ at₁. bind (check v s₁ at₁) (λ w s₂ at₂. got (t, w) s₂ at₂)) (λ p. forget (check v (drop p s) p)) st
@@ -49,7 +49,7 @@ unfolding check
 }
 
 -- no test but those of the layout
-pub of_reads : {g : Layout} {s : List ℕ} {st r : Step} → ReadsTo g s st r → Checks (plain g) s st r
+pub of_reads : {g : Layout} {s : List ℕ} {st r : Step} → ReadsTo g s st r → ChecksTo (plain g) s st r
 unfolding check step
 of_reads h = record { is = λ bs. h.is }
 
@@ -74,11 +74,11 @@ steady {A} f (suc n) done done' s at = go (f s at) (steady f n)
     go (got t s₁ at₁) h = rw (h (t ∷ done) (t ∷ done') s₁ at₁)
     go (no m p) h = refl
 
-each_none : {a : Layout} {u : Rule a} {s : List ℕ} {st : Step} (n : ℕ) → n ≤ 0 → Checks (each {n = n} u) s st st
+each_none : {a : Layout} {u : Rule a} {s : List ℕ} {st : Step} (n : ℕ) → n ≤ 0 → ChecksTo (each {n = n} u) s st st
 unfolding check check_times
 each_none {st = st} n h = let e : n ≡ 0 = omega arith in rw e (record { is = λ bs. sym (chain_next st) })
 
-each_suc : {a : Layout} {u : Rule a} {s : List ℕ} {st q r : Step} (n : ℕ) → Checks u s st q → Checks (each {n = n} u) s q r → Checks (each {n = suc n} u) s st r
+each_suc : {a : Layout} {u : Rule a} {s : List ℕ} {st q r : Step} (n : ℕ) → ChecksTo u s st q → ChecksTo (each {n = n} u) s q r → ChecksTo (each {n = suc n} u) s st r
 unfolding check check_times
 each_suc {u = u} {s = s} {st = st} n x y = record {
   is = λ bs. chained (λ at. check u (drop at s) at) (λ t s₁ at₁. bind (check_times (λ _ s₂ at₂. check u s₂ at₂) (t ∷ []) n s₁ at₁) (λ ts s₂ at₂. got (t ∷ ts) s₂ at₂))
@@ -87,18 +87,18 @@ each_suc {u = u} {s = s} {st = st} n x y = record {
       (x.is bs) (y.is bs);
 }
 
-each_more : {a : Layout} {u : Rule a} {s : List ℕ} {st q r : Step} (n : ℕ) → 0 < n → Checks u s st q → Checks (each {n = n - 1} u) s q r → Checks (each {n = n} u) s st r
+each_more : {a : Layout} {u : Rule a} {s : List ℕ} {st q r : Step} (n : ℕ) → 0 < n → ChecksTo u s st q → ChecksTo (each {n = n - 1} u) s q r → ChecksTo (each {n = n} u) s st r
 each_more zero h x y = absurd (lt_irrefl 0 h)
 each_more (suc n) h x y = each_suc n x (simp sub-one at y)
 
 -- what a loop keeps: what k more take at to, n take st to
 abbrev pub Left : {a : Layout} → Rule a → List ℕ → ℕ → Step → ℕ → Step → Type 0
-Left u s n st k at = (r : Step) → Checks (each {n = k} u) s at r → Checks (each {n = n} u) s st r
+Left u s n st k at = (r : Step) → ChecksTo (each {n = k} u) s at r → ChecksTo (each {n = n} u) s st r
 
-pub left_more : {a : Layout} {u : Rule a} {s : List ℕ} {n k : ℕ} {st at q : Step} → Left u s n st k at → 0 < k → Checks u s at q → Left u s n st (k - 1) q
+pub left_more : {a : Layout} {u : Rule a} {s : List ℕ} {n k : ℕ} {st at q : Step} → Left u s n st k at → 0 < k → ChecksTo u s at q → Left u s n st (k - 1) q
 left_more {k = k} inv h x = λ r y. inv r (each_more k h x y)
 
-pub left_none : {a : Layout} {u : Rule a} {s : List ℕ} {n k : ℕ} {st at : Step} → Left u s n st k at → k ≤ 0 → Checks (each {n = n} u) s st at
+pub left_none : {a : Layout} {u : Rule a} {s : List ℕ} {n k : ℕ} {st at : Step} → Left u s n st k at → k ≤ 0 → ChecksTo (each {n = n} u) s st at
 left_none {k = k} inv h = inv _ (each_none k h)
 
 -- ---- what a number asks for
@@ -124,7 +124,7 @@ check_number o w test {l} k s at = go (read_number o w s at)
 
 -- a number, which is v, and then what v asks for
 pub switch_of : {o : Order} {w : ℕ} {test : Test} {l : ℕ → Layout} (k : (n : ℕ) → Rule (l n)) {s : List ℕ} {st q r : Step} {v : ℕ}
-    → v ≡ peek o w s st → ReadsTo (number o w test (λ _. empty)) s st q → Checks (k v) s q r → Checks (numbered {o = o} {w = w} {test = test} k) s st r
+    → v ≡ peek o w s st → ReadsTo (number o w test (λ _. empty)) s st q → ChecksTo (k v) s q r → ChecksTo (numbered {o = o} {w = w} {test = test} k) s st r
 unfolding step
 switch_of {o} {w} {test} k {s} {st} {v = v} e h y = record {
   is = λ bs. simp (check_number o w test k) (chained (λ at. read (number o w test (λ _. empty)) (drop at s) at)
@@ -139,7 +139,7 @@ switch_of {o} {w} {test} k {s} {st} {v = v} e h y = record {
 
 -- b is the test of what was read from st to q
 pub asks_of : {g : Layout} {n : ℕ} {test : Tree g → Bool} {s : List ℕ} {st q r : Step} {b good : Bool}
-    → ShowsTo g (λ t at. test t) s st q b → good ≡ b → r ≡ told st q good n → Checks (asks g n test) s st r
+    → ShowsTo g (λ t at. test t) s st q b → good ≡ b → r ≡ told st q good n → ChecksTo (asks g n test) s st r
 unfolding check judge step told chain bind pick
 asks_of {g} {n} {test} {s} {st} {q} {r} {b} h i e = record { is = λ bs. e ∙ rw i (go bs st refl h.reads.is) }
   where
@@ -168,7 +168,7 @@ asks_of {g} {n} {test} {s} {st} {q} {r} {b} h i e = record { is = λ bs. e ∙ r
 
 -- of a number alone, by its value
 pub asks_number : {o : Order} {w : ℕ} {t : Test} (ok : ℕ → Bool) {n : ℕ} {s : List ℕ} {st q r : Step} {v : ℕ} {good : Bool}
-    → GivesTo (number o w t (λ _. empty)) s st q (v, tt) → good ≡ ok v → r ≡ told st q good n → Checks (asks (number o w t (λ _. empty)) n (λ x. ok x.0)) s st r
+    → GivesTo (number o w t (λ _. empty)) s st q (v, tt) → good ≡ ok v → r ≡ told st q good n → ChecksTo (asks (number o w t (λ _. empty)) n (λ x. ok x.0)) s st r
 unfolding placed
 asks_number {o} {w} {t} ok h i e = asks_of (shows_of (λ (f : Fields (number o w t (λ _. empty))). ok f.0) (λ x at. refl) (to_shows h)) i e
 
@@ -188,7 +188,7 @@ asks_string o w s at = go (read_counted o w s at)
     go (no m p) = refl
 
 pub string_asks : {o : Order} {w : ℕ} {s : List ℕ} {st r : Step} → ReadsTo (string o w no_zero) s st r
-    → Checks (asks (string o w any_bytes) zero_byte (λ t. suits no_zero t)) s st r
+    → ChecksTo (asks (string o w any_bytes) zero_byte (λ t. suits no_zero t)) s st r
 unfolding step
 string_asks {o} {w} h = record { is = λ bs. simp (asks_string o w) h.is }
 

@@ -1,17 +1,12 @@
-use Rattle.fields.specs.Laws.Gives.{more_gives, none_gives}
+use Rattle.std.proofs.Common.{◌≡◌, length, rules}
+use Rattle.look.proofs.Exits.{whole, exit}
+use Rattle.look.proofs.Separators.{eleven_placed}
 use Rattle.look.proofs.borders.frames.Goals as goal
+
+pub returns-in_err-found : goal.returns-in_err-found
+returns-in_err-found c = exit _ _ _ _ _ c.from_residual.ensures whole c.in_err-found.ensures
 
 pub returns : goal.returns
 returns c =
-    (more_gives {n = 10} c.separator-got.ensures
-    (more_gives {n = 9} c.separator-got-2.ensures
-    (more_gives {n = 8} c.separator-got-3.ensures
-    (more_gives {n = 7} c.separator-got-4.ensures
-    (more_gives {n = 6} c.separator-got-5.ensures
-    (more_gives {n = 5} c.separator-got-6.ensures
-    (more_gives {n = 4} c.separator-got-7.ensures
-    (more_gives {n = 3} c.separator-got-8.ensures
-    (more_gives {n = 2} c.separator-got-9.ensures
-    (more_gives {n = 1} c.separator-got-10.ensures
-    (more_gives {n = 0} c.separator-got-11.ensures
-    none_gives)))))))))))
+    let long : length c.in_ok-found.found ≡ 11 = search rules in
+    rw (← (eleven_placed c.in_ok-found.found long)) c.in_ok-found.ensures

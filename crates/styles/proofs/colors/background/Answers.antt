@@ -1,3 +1,4 @@
+use Rattle.std.proofs.Common.{arith}
 use Rattle.styles.specs.Styles.{background}
 use Rattle.styles.proofs.colors.background.Goals as goal
 
@@ -5,6 +6,7 @@ pub returns : goal.returns
 unfolding background
 returns c =
     rw (
+      c.from_le_bytes.ensures,
       c.mixed-r.ensures,
       c.red-2.ensures,
       c.red.ensures,
@@ -15,3 +17,4 @@ returns c =
       c.blue-2.ensures,
       c.blue.ensures,
     )
+    (omega arith)

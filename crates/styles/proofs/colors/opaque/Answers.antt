@@ -3,4 +3,4 @@ use Rattle.styles.proofs.colors.opaque.Goals as goal
 
 pub returns : goal.returns
 unfolding opaque
-returns c = rw (c.red-r.ensures, c.green-g.ensures, c.blue-b.ensures)
+returns c = rw (c.from_be_bytes.ensures, c.red.ensures, c.green.ensures, c.blue.ensures)

@@ -1,19 +1,13 @@
-use Rattle.std.proofs.lemmas.Bool.{le-leb, lt-leb}
+use Rattle.std.proofs.Common.{◌≡◌, refl, Bool, true, false}
+use mir.Val.{bool_byte}
+use Rattle.store.specs.Values.{bit}
 use Rattle.styles.specs.Styles.{style}
 use Rattle.styles.proofs.font.style.Goals as goal
 
-pub returns-then-italic : goal.returns-then-italic
-unfolding style
-returns-then-italic c = simp (le-leb 700 _ c.if-bold.true, c.if-italic.true)
+bit_byte : (b : Bool) → bool_byte b ≡ bit b
+bit_byte true = refl
+bit_byte false = refl
 
-pub returns-else-italic : goal.returns-else-italic
+pub returns : goal.returns
 unfolding style
-returns-else-italic c = simp (le-leb 700 _ c.if-bold.true, c.if-italic.false)
-
-pub returns-then-italic-2 : goal.returns-then-italic-2
-unfolding style
-returns-then-italic-2 c = simp (lt-leb 700 _ c.if-bold.false, c.if-italic-2.true)
-
-pub returns-else-italic-2 : goal.returns-else-italic-2
-unfolding style
-returns-else-italic-2 c = simp (lt-leb 700 _ c.if-bold.false, c.if-italic-2.false)
+returns c = simp (c.from.ensures, c.from-2.ensures, bit_byte)
