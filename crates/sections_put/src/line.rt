@@ -29,7 +29,8 @@ fn frame(buf: &mut [u8], st: Step, kind: u8, x: Frame) -> Step
     border(buf, st, first + 3, x.bottom)
 }
 
-// Two borders, of this type and the next.
+// Two borders, of this type and the next. (One function of four or two would go by a list of borders and count their types beside it, which
+// says no more.)
 fn pair(buf: &mut [u8], st: Step, kind: u8, x: Pair) -> Step
     ensures { PutsPlain (times 2 grammar.Border) (spec.pair kind x) buf.old st buf.new result }
 {
