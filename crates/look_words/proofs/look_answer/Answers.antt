@@ -1,3 +1,4 @@
+use Rattle.std.proofs.Common.{ap}
 use Rattle.std.proofs.lemmas.Bool.{le-leb, lt-leb}
 use Rattle.refusals.specs.Numbers.{by_number}
 use Rattle.sizes.specs.Sizes.{look_answer_words}
@@ -18,10 +19,10 @@ pub returns-in-Ok : goal.returns-in-Ok
 returns-in-Ok c =
     let a = c.args in
     answered a.file.now c.read_look.ensures.1 a.area.now (by_number c.read_look.result) c.read_look.ensures.0 (le-leb _ _ c.if-area-lt-LOOK_ANSWER_WORDS.false)
-    (rw c.in-Ok.is) (c.put-st.ensures ⟩ c.whole.ensures)
+    (ap by_number c.in-Ok.is) (c.put-st.ensures ⟩ c.whole.ensures)
 
 pub returns-in-Err : goal.returns-in-Err
 returns-in-Err c =
     let a = c.args in
     answered a.file.now c.read_look.ensures.1 a.area.now (by_number c.read_look.result) c.read_look.ensures.0 (le-leb _ _ c.if-area-lt-LOOK_ANSWER_WORDS.false)
-    (rw c.in-Err.is) (rw (c.word.ensures, c.number.ensures) at (c.put-st-in-Err.ensures ⟩ c.put.ensures))
+    (ap by_number c.in-Err.is) (rw (c.word.ensures, c.number.ensures) at (c.put-st-in-Err.ensures ⟩ c.put.ensures))
