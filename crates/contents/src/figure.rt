@@ -12,7 +12,7 @@ use layout::number::{any, peek};
 use layout::run::skip;
 use value::cell_zeros;
 
-// The form, 1 or 2, and the bits of the double.
+// The form, 1 or 2, by its number as in `RawValue`, and the bits of the double.
 #[derive(Clone, Copy)]
 pub struct Figure {
     pub form: u32,

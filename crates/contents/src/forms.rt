@@ -1,4 +1,4 @@
-// The fields of each form of a Value, read in the order of 003.
+// The fields of each form of a Value, read in the order of 003: each form has its own, in its own order, so each function is its line there.
 ghost use Rattle.sizes.specs.Sizes.{below_value};
 ghost use Rattle.grammar.specs.Layout.{◌▸◌};
 ghost use Rattle.refusals.specs.Numbers.{number};

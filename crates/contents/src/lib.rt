@@ -23,7 +23,7 @@ use value::{argument, cell_zeros};
 // The fields of a Value without the bytes 00 before it; 0 for those that its form has not.
 #[derive(Clone, Copy)]
 pub struct RawValue {
-    // 1 to 6, or 7 for a template
+    // 1 to 6, or 7 for a template: a number, since C gets it (`digarumbi_value`)
     pub form: u32,
     pub format: u32,
     // the double's

@@ -1,4 +1,4 @@
-// The words of areas: their colors and styles.
+// The words of areas: their colors and styles. Each function puts the fields of its own type: one for all would take them as a list.
 ghost use Rattle.look_words.specs.LookWords as spec;
 ghost use Rattle.store.specs.Puts.{PutsWords};
 

@@ -87,12 +87,12 @@ pub fn look_answer(file: &[u8], area: &mut [u32]) -> usize
     match read_look(file) {
         Ok(look) => {
             let st = put(area, Ok(0), &[0, 0]);
-            whole(area, st, look);
+            let _ = whole(area, st, look);
         }
         Err(refusal) => {
             let place = (refusal.place % 4294967296) as u32;
             let st = put(area, Ok(0), &[refusal.reason.number(), place]);
-            put(area, st, &[0u32; LOOK_WORDS]);
+            let _ = put(area, st, &[0u32; LOOK_WORDS]);
         }
     }
     LOOK_ANSWER_WORDS
