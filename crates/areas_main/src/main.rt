@@ -12,6 +12,11 @@ const NODES: usize = 9 * NODE_WORDS;
 
 const CELLS: usize = 10 * CELL_WORDS;
 
+// One word less.
+const FEW_NODES: usize = NODES - 1;
+
+const FEW_CELLS: usize = CELLS - 1;
+
 fn counts(rt: &impl Print, a: Answer) -> io::Result<()> {
     let mut out = [0u8; LINE_BYTES];
     let k = report::line(a, &mut out);
@@ -19,37 +24,19 @@ fn counts(rt: &impl Print, a: Answer) -> io::Result<()> {
     println!(rt; "{} {}", a.nodes, a.cells)
 }
 
-fn none(rt: &impl Print, s: &[u8]) -> io::Result<()> {
-    let mut nodes = [0u32; 0];
-    let mut cells = [0u32; 0];
-    counts(rt, member::read_member(s, &mut nodes, &mut cells))
-}
-
-fn few_node_words(rt: &impl Print, s: &[u8]) -> io::Result<()> {
-    let mut nodes = [0u32; NODES - 1];
-    let mut cells = [0u32; CELLS];
-    counts(rt, member::read_member(s, &mut nodes, &mut cells))
-}
-
-fn few_cell_words(rt: &impl Print, s: &[u8]) -> io::Result<()> {
-    let mut nodes = [0u32; NODES];
-    let mut cells = [0u32; CELLS - 1];
-    counts(rt, member::read_member(s, &mut nodes, &mut cells))
-}
-
-fn exact(rt: &impl Print, s: &[u8]) -> io::Result<()> {
-    let mut nodes = [0u32; NODES];
-    let mut cells = [0u32; CELLS];
+// What it gets with areas of these lengths.
+fn with_areas<const N: usize, const C: usize>(rt: &impl Print, s: &[u8]) -> io::Result<()> {
+    let mut nodes = [0u32; N];
+    let mut cells = [0u32; C];
     counts(rt, member::read_member(s, &mut nodes, &mut cells))
 }
 
 fn main(rt: HostRuntime) -> io::Result<()> {
     let mut buf = [0u8; input::LARGE];
     let got = input::read(&mut rt.stdin(), &mut buf)?;
-    let n = got.bytes;
-    let s = &buf[..n];
-    none(&rt, s)?;
-    few_node_words(&rt, s)?;
-    few_cell_words(&rt, s)?;
-    exact(&rt, s)
+    let s = &buf[..got.bytes];
+    with_areas::<0, 0>(&rt, s)?;
+    with_areas::<FEW_NODES, CELLS>(&rt, s)?;
+    with_areas::<NODES, FEW_CELLS>(&rt, s)?;
+    with_areas::<NODES, CELLS>(&rt, s)
 }

@@ -94,7 +94,8 @@ impl FromUtf8 {
         None
     }
 
-    // How many characters of two bytes stand at a place, one after the other. (A loop of its own, since they come in runs.)
+    // How many characters of two bytes stand at a place, one after the other. (A loop of its own, since they come in runs. A `for`
+    // would need the most that there can be, and end in two ways.)
     fn find_twos(&self, input: &[u8], i: usize) -> usize
         requires { i ≤ length input.now }
         ensures { Skips (from (index self.now.page)) input.now i (2 * result) result }

@@ -1,9 +1,7 @@
-// The rows of UTF-8, by value.
+// The rows of UTF-8, by value. (An entry of a page is a number and no `char`: to be one it would be tested again.)
 ghost use Rattle.std.specs.Prelude.{◌≡◌, length};
 ghost use Rattle.convert.specs.Utf8 as utf8;
 ghost use Rattle.codepages.specs.Laws.Branches.{lead_size};
-
-pub const NO_CODE_POINT: u32 = 1114112;
 
 pub const TWO_BYTES: u32 = 128;
 

@@ -1,4 +1,5 @@
-// A way to convert a text, character by character.
+// A way to convert a text, character by character. (Places are those of the whole text and output: refusals name them, and `valid_up_to` counts
+// them so.)
 ghost use Rattle.std.specs.Prelude.{◌≡◌, ◌<◌, List, ℕ, length};
 ghost use Rattle.codepages.specs.Laws.Passes.{Plain, Ready, Wrote};
 ghost use Rattle.codepages.specs.Found.{FoundAt};

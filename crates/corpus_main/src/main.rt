@@ -11,10 +11,9 @@ use std::rt::{Env, Files};
 
 fn named(rt: &(impl Files + Print + Eprint), name: &[u8], sections: bool) -> io::Result<()> {
     let mut buf = [0u8; input::LARGE];
-    let got = input::read_file(rt, name, &mut buf)?;
-    if !got.found {
+    let Some(got) = input::read_file(rt, name, &mut buf)? else {
         return Ok(());
-    }
+    };
     rt.write_all(name)?;
     let n = got.bytes;
     if sections {

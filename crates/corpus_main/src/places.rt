@@ -1,64 +1,55 @@
 // The place after each section of a member from Header to Formats, or the refusal of the first section that is refused.
 use layout::number::peek;
 use layout::{LITTLE, Step};
+use refusals::Refusal;
 use report::LINE_BYTES;
+use sections::areas::areas;
+use sections::borders::borders;
+use sections::footnotes::footnotes;
+use sections::formats::formats;
+use sections::header::{rest, start, version as known_version};
+use sections::print_settings::print_settings;
+use sections::table_settings::table_settings;
+use sections::titles::titles;
 use std::io;
 
-// The place, or the refusal and the end of the line; and whether to go on.
-fn told(rt: &impl Print, st: Step) -> io::Result<bool> {
-    match st {
-        Ok(at) => {
-            print!(rt; " {at}")?;
-            Ok(true)
-        }
-        Err(refusal) => {
-            rt.write_all(b" ")?;
-            let mut out = [0u8; LINE_BYTES];
-            let k = report::refusal(number, place, &mut out);
-            rt.write_all(&out[..k])?;
-            Ok(false)
-        }
-    }
+fn refused(rt: &impl Print, refusal: Refusal) -> io::Result<()> {
+    rt.write_all(b" ")?;
+    let mut out = [0u8; LINE_BYTES];
+    let k = report::refusal(refusal.reason.number(), refusal.place, &mut out);
+    rt.write_all(&out[..k])
 }
 
-// Areas and what comes after them.
-fn later(rt: &impl Print, s: &[u8], st: Step, version: u64) -> io::Result<()> {
-    let st = sections::areas::areas(s, st, version);
-    if !told(rt, st)? {
-        return Ok(());
-    }
-    let st = sections::borders::borders(s, st);
-    if !told(rt, st)? {
-        return Ok(());
-    }
-    let st = sections::print_settings::print_settings(s, st);
-    if !told(rt, st)? {
-        return Ok(());
-    }
-    let st = sections::table_settings::table_settings(s, st, version);
-    if !told(rt, st)? {
-        return Ok(());
-    }
-    if told(rt, sections::formats::formats(s, st, version))? {
-        rt.write_all(b"\n")?;
-    }
-    Ok(())
+// What reading each section gives: a refusal is handed on to those after it.
+fn steps(s: &[u8]) -> [Step; 8] {
+    let st = start(s, Ok(0));
+    let version = peek(s, st, LITTLE, 4);
+    let header = rest(s, known_version(s, st));
+    let titles = titles(s, header, version);
+    let footnotes = footnotes(s, titles, version);
+    let areas = areas(s, footnotes, version);
+    let borders = borders(s, areas);
+    let print_settings = print_settings(s, borders);
+    let table_settings = table_settings(s, print_settings, version);
+    let formats = formats(s, table_settings, version);
+    [
+        header,
+        titles,
+        footnotes,
+        areas,
+        borders,
+        print_settings,
+        table_settings,
+        formats,
+    ]
 }
 
 pub(crate) fn line(rt: &impl Print, s: &[u8]) -> io::Result<()> {
-    let st = sections::header::start(s, Ok(0));
-    let version = peek(s, st, LITTLE, 4);
-    let st = sections::header::rest(s, sections::header::version(s, st));
-    if !told(rt, st)? {
-        return Ok(());
+    for st in steps(s) {
+        match st {
+            Ok(at) => print!(rt; " {at}")?,
+            Err(refusal) => return refused(rt, refusal),
+        }
     }
-    let st = sections::titles::titles(s, st, version);
-    if !told(rt, st)? {
-        return Ok(());
-    }
-    let st = sections::footnotes::footnotes(s, st, version);
-    if !told(rt, st)? {
-        return Ok(());
-    }
-    later(rt, s, st, version)
+    rt.write_all(b"\n")
 }

@@ -1,17 +1,30 @@
 // What a cell counts as (document 02, T-01): which doubles are counts, by their bits.
 #![tactic(auto)]
 
-ghost use Rattle.std.specs.Prelude.{◌≡◌, ◌-◌, ◌^◌, ◌≤◌};
+ghost use Rattle.std.specs.Prelude.{◌≡◌, ◌-◌, ◌^◌, ◌≤◌, unwrap_or};
 ghost use Rattle.counts.specs.Count as spec;
 
 // What a cell is here.
-#[derive(Clone, Copy)]
+#[derive(Clone, Copy, Debug, PartialEq, Eq)]
 pub enum Kind {
     Text,
     Missing,
     Number(u32),
     Bad,
 }
+
+// A double is a sign, the highest of its bits, 11 bits of exponent and 52 of fraction.
+const SIGN: u64 = 9223372036854775808;
+
+const FRACTIONS: u64 = 4503599627370496;
+
+// The exponents of the numbers from 1 to below 4,294,967,296.
+const LEAST_EXPONENT: u64 = 1023;
+
+const GREATEST_EXPONENT: u64 = 1054;
+
+// Minus the largest finite double.
+const MISSING: u64 = 18442240474082181119;
 
 // 2 to the power k.
 fn power(k: u64) -> u64
@@ -21,64 +34,45 @@ fn power(k: u64) -> u64
     1 << k
 }
 
-// The whole number that a double's bits are, if it is one from 0 to 4,294,967,295; else the number after that.
-fn count(bits: u64) -> u64
-    ensures { result ≡ spec.count bits }
+// The whole number that a double's bits are, if it is one from 0 to 4,294,967,295.
+fn count(bits: u64) -> Option<u32>
+    ensures { unwrap_or result spec.no_count ≡ spec.count bits }
 {
-    let magnitude = bits % 9223372036854775808;
-    let zero = magnitude == 0;
-    if zero {
-        return 0;
+    let magnitude = bits % SIGN;
+    if magnitude == 0 {
+        return Some(0);
     }
-    let positive = bits < 9223372036854775808;
-    if positive {
-        let e = magnitude / 4503599627370496;
-        let large = 1023 <= e;
-        if large {
-            let small = e <= 1054;
-            if small {
-                let d = power(1075 - e);
-                let s = 4503599627370496 + bits % 4503599627370496;
-                let whole = s % d == 0;
-                if whole {
-                    return s / d;
-                }
-                return 4294967296;
-            }
-            return 4294967296;
-        }
-        return 4294967296;
+    let e = magnitude / FRACTIONS;
+    if SIGN <= bits || e < LEAST_EXPONENT || GREATEST_EXPONENT < e {
+        return None;
     }
-    4294967296
+    let d = power(1075 - e);
+    let s = FRACTIONS + bits % FRACTIONS;
+    if s % d != 0 {
+        return None;
+    }
+    Some((s / d) as u32)
 }
 
 // What a double's bits make of a cell.
 fn double_kind(bits: u64) -> Kind
     ensures { result ≡ spec.double_kind bits }
 {
-    let missing = bits == 18442240474082181119;
-    if missing {
+    if bits == MISSING {
         return Kind::Missing;
     }
-    let n = count(bits);
-    let small = n < 4294967296;
-    if small {
-        Kind::Number(n as u32)
-    } else {
-        Kind::Bad
+    match count(bits) {
+        Some(n) => Kind::Number(n),
+        None => Kind::Bad,
     }
 }
 
+// What a cell is, by the form of its Value and the bits of its double. The form is a number: there is an answer for every one.
 pub fn kind_of(form: u32, bits: u64) -> Kind
     ensures { result ≡ spec.kind form bits }
 {
-    let number = form == 1;
-    let labelled = form == 2;
-    if number {
-        double_kind(bits)
-    } else if labelled {
-        double_kind(bits)
-    } else {
-        Kind::Text
+    match form {
+        1 | 2 => double_kind(bits),
+        _ => Kind::Text,
     }
 }

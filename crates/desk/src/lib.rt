@@ -1,4 +1,4 @@
-// The member and its filled node area, kept together (01, "What the caller gets"). The functions over `Desk` are thin; the work is in
+// The member and its filled node area, kept together (01, "What the caller gets"). The methods of `Desk` are thin; the work is in
 // `filled`, `name_of` and `after_of`, which take slices.
 #![tactic(auto)]
 
@@ -16,12 +16,6 @@ use sizes::{NAME_LENGTH, NAME_PLACE, NODE_SIZE, NODE_WORDS};
 pub struct Desk<'a, 'b> {
     member: &'a [u8],
     nodes: &'b [u32],
-}
-
-fn wide(x: u32) -> usize
-    ensures { result ≡ x }
-{
-    x as usize
 }
 
 // The words of that many node records. An area that has fewer was not filled with so many: the empty part. The test divides,
@@ -46,34 +40,19 @@ fn name_of<'a, 'b>(member: &'a [u8], nodes: &'b [u32], i: usize) -> &'a [u8]
         let at = NODE_WORDS * i;
         part(
             member,
-            wide(nodes[at + NAME_PLACE]),
-            wide(nodes[at + NAME_LENGTH]),
+            nodes[at + NAME_PLACE] as usize,
+            nodes[at + NAME_LENGTH] as usize,
         )
     } else {
         &member[..0]
     }
 }
 
-// Keeps the two together. Of the area only the words of `count` records go in, so no name comes from beyond them.
-pub fn open<'a, 'b>(member: &'a [u8], area: &'b [u32], count: usize) -> Desk<'a, 'b>
-    ensures { (result.member ≡ member.entry) × (result.nodes.now ≡ filled_of area.now count) }
-{
-    let nodes = filled(area, count);
-    Desk { member, nodes }
-}
-
-// The name of node i.
-pub fn name<'a, 'b>(desk: Desk<'a, 'b>, i: usize) -> &'a [u8]
-    ensures { result.now ≡ name_of desk.entry.member.now desk.entry.nodes.now i }
-{
-    name_of(desk.member, desk.nodes, i)
-}
-
 // The same of a member and a node area with that many records, for callers that hold no Desk.
 pub fn node_name<'a, 'b>(member: &'a [u8], area: &'b [u32], count: usize, i: usize) -> &'a [u8]
     ensures { result.now ≡ name_of member.now (filled_of area.now count) i }
 {
-    name(open(member, area, count), i)
+    Desk::open(member, area, count).name(i)
 }
 
 // The node after node i's group, of that many nodes: as many further as its record says it contains. `count` where there is none, and
@@ -83,11 +62,9 @@ fn after_of(nodes: &[u32], count: usize, i: usize) -> usize
 {
     let records = nodes.len() / NODE_WORDS;
     if i < records {
-        let n = wide(nodes[NODE_WORDS * i + NODE_SIZE]);
-        if 1 <= n {
-            if i + n <= count {
-                return i + n;
-            }
+        let n = nodes[NODE_WORDS * i + NODE_SIZE] as usize;
+        if 1 <= n && i + n <= count {
+            return i + n;
         }
     }
     count
@@ -107,9 +84,26 @@ fn after_in(nodes: &[u32], i: usize) -> usize
     after_of(nodes, nodes.len() / NODE_WORDS, i)
 }
 
-// The node after node i's group; the number of nodes where there is none.
-pub fn after<'a, 'b>(desk: Desk<'a, 'b>, i: usize) -> usize
-    ensures { result ≡ after_of desk.entry.nodes.now (length desk.entry.nodes.now / node_words) i }
-{
-    after_in(desk.nodes, i)
+impl<'a, 'b> Desk<'a, 'b> {
+    // Keeps the two together. Of the area only the words of `count` records go in, so no name comes from beyond them.
+    pub fn open(member: &'a [u8], area: &'b [u32], count: usize) -> Desk<'a, 'b>
+        ensures { (result.member ≡ member.entry) × (result.nodes.now ≡ filled_of area.now count) }
+    {
+        let nodes = filled(area, count);
+        Desk { member, nodes }
+    }
+
+    // The name of node i.
+    pub fn name(self, i: usize) -> &'a [u8]
+        ensures { result.now ≡ name_of self.entry.member.now self.entry.nodes.now i }
+    {
+        name_of(self.member, self.nodes, i)
+    }
+
+    // The node after node i's group; the number of nodes where there is none.
+    pub fn after(self, i: usize) -> usize
+        ensures { result ≡ after_of self.entry.nodes.now (length self.entry.nodes.now / node_words) i }
+    {
+        after_in(self.nodes, i)
+    }
 }

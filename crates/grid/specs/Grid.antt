@@ -4,7 +4,7 @@ use Rattle.sizes.specs.Sizes.{most_dimensions, most_cells, most_places, dimensio
 use Rattle.grammar.specs.Layout.{little}
 use Rattle.grammar.specs.RecordWords.{word, sizes}
 use Rattle.grammar.specs.Index.{product}
-use Rattle.std.specs.Prelude.{Ok, Err}
+use Rattle.std.specs.Prelude.{Ok}
 use Rattle.layout.specs.Reads.{peek}
 use Rattle.answer.specs.declared.Answer.{Answer}
 use Rattle.grid.specs.declared.Grid.{Grid}

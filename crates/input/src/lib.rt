@@ -2,7 +2,7 @@
 // whose bytes are known, which.
 #![tactic(auto)]
 
-ghost use Rattle.std.specs.Prelude.{◌≡◌, ◌↔◌, ◌+◌, ◌<◌, ◌≤◌, ℕ, [], ◌∷◌, length, take, drop, IfOk, OnErr, IfSome, IsTrue, IsFalse};
+ghost use Rattle.std.specs.Prelude.{◌≡◌, ◌↔◌, ◌+◌, ◌<◌, ◌≤◌, ℕ, [], ◌∷◌, length, take, drop, IfOk, OnErr, IfSome, IsNone, IsTrue, IsFalse};
 ghost use Rattle.std.specs.Io.KnownBytes.{Consumes, IsAtEnd, Keeps};
 ghost use Rattle.input.specs.Stopped.{Stopped};
 ghost use Rattle.std.specs.Counts.{IsPrefixLen};
@@ -18,10 +18,8 @@ pub const LARGE: usize = 65536;
 
 pub const SMALL: usize = 4096;
 
-#[derive(Clone, Copy)]
+#[derive(Clone, Copy, Debug, PartialEq, Eq)]
 pub struct Input {
-    // whether it was there to be read
-    pub found: bool,
     // how many bytes were read, at the start of the buffer
     pub bytes: usize,
     // whether the buffer is full and there are more
@@ -96,28 +94,27 @@ pub fn read<R: Read>(reader: &mut R, buf: &mut [u8]) -> io::Result<Input>
     let bytes = read_full(reader, buf)?;
     let full = bytes == buf.len();
     Ok(Input {
-        found: true,
         bytes,
         more: full && more(reader)?,
     })
 }
 
 // Tells on standard error why a file cannot be opened.
-fn absent(rt: &impl Eprint, name: impl Display + Drop, why: io::Error) -> io::Result<Input>
-    ensures { IfOk result (λ input. input.bytes ≡ 0) }
+fn absent(rt: &impl Eprint, name: impl Display + Drop, why: io::Error) -> io::Result<Option<Input>>
+    ensures { IfOk result IsNone }
 {
     eprintln!(rt; "{name}: {why}")?;
-    Ok(Input {
-        found: false,
-        bytes: 0,
-        more: false,
-    })
+    Ok(None)
 }
 
-// What a file holds. One that cannot be opened is told of on standard error. The system's paths are text: no other name can be opened. After an
-// error the buffer is as long as it was; of its bytes nothing is known, since those that were read may stand there.
-pub fn read_file<R: Files + Eprint>(rt: &R, name: &[u8], buf: &mut [u8]) -> io::Result<Input>
-    ensures count { IfOk result (λ input. IsPrefixLen input.bytes buf.new) }
+// What a file holds; none for one that cannot be opened, which is told of on standard error. The system's paths are text: no other name can be
+// opened. After an error the buffer is as long as it was; of its bytes nothing is known, since those that were read may stand there.
+pub fn read_file<R: Files + Eprint>(
+    rt: &R,
+    name: &[u8],
+    buf: &mut [u8],
+) -> io::Result<Option<Input>>
+    ensures count { IfOk result (λ found. IfSome found (λ input. IsPrefixLen input.bytes buf.new)) }
     ensures err { OnErr result (length buf.new ≡ length buf.old) }
 {
     let Ok(path) = str::from_utf8(name) else {
@@ -125,7 +122,7 @@ pub fn read_file<R: Files + Eprint>(rt: &R, name: &[u8], buf: &mut [u8]) -> io::
         return absent(rt, name.escape_ascii(), why);
     };
     match File::open(rt, path) {
-        Ok(mut file) => read(&mut file, buf),
+        Ok(mut file) => Ok(Some(read(&mut file, buf)?)),
         Err(why) => absent(rt, path, why),
     }
 }

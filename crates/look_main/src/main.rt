@@ -1,32 +1,31 @@
 // The look on standard input, read and written as version 02: exactly the rewritten file's bytes, or the line `refused N at P`.
 #![tactic(auto)]
 
-use layout::Span;
-use look::Answer;
+use look::read::read_look;
+use look_write::write_look;
+use refusals::Refusal;
 use regions::region::bytes;
 use report::LINE_BYTES;
 use sizes::LONGEST_LOOK;
 use std::io;
-use store::Written;
 
-fn refused(rt: &impl Print, n: u32, place: usize) -> io::Result<()> {
+fn refused(rt: &impl Print, refusal: Refusal) -> io::Result<()> {
     let mut out = [0u8; LINE_BYTES];
-    let k = report::refusal(n, place, &mut out);
+    let k = report::refusal(refusal.reason.number(), refusal.place, &mut out);
     rt.write_all(&out[..k])
 }
 
+// Reads a look and writes it again.
+fn rewritten(file: &[u8], out: &mut [u8]) -> Result<usize, Refusal> {
+    let look = read_look(file)?;
+    write_look(look, file, out)
+}
+
 fn rewrite(rt: &impl Print, file: &[u8]) -> io::Result<()> {
-    let answer = look::read::read_look(file);
-    match answer {
-        Ok(look) => {
-            let mut out = [0u8; LONGEST_LOOK];
-            let written = look_write::write_look(look, file, &mut out);
-            match written {
-                Ok(n) => rt.write_all(bytes(&out, Ok((0, n)))),
-                Err(refusal) => refused(rt, n, p),
-            }
-        }
-        Err(refusal) => refused(rt, n, p),
+    let mut out = [0u8; LONGEST_LOOK];
+    match rewritten(file, &mut out) {
+        Ok(n) => rt.write_all(bytes(&out, Ok((0, n)))),
+        Err(refusal) => refused(rt, refusal),
     }
 }
 

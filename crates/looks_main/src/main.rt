@@ -3,8 +3,8 @@
 // name of 256 bytes, and with a title color whose high byte is 1.
 #![tactic(auto)]
 
-use layout::Span;
-use look::{Answer, Continuation, Look, V2Styles};
+use look::{Continuation, Look, V2Styles};
+use refusals::Refusal;
 use regions::region::bytes;
 use sizes::LONGEST_LOOK;
 use std::env::FillError;
@@ -23,14 +23,16 @@ fn number(rt: &impl Print, n: u64) -> io::Result<()> {
     print!(rt; "{n}")
 }
 
-fn refused(rt: &impl Print, n: u32, p: usize) -> io::Result<()> {
-    print!(rt; "refused {n} at {p}")
+fn refused(rt: &impl Print, refusal: Refusal) -> io::Result<()> {
+    let number = refusal.reason.number();
+    let place = refusal.place;
+    print!(rt; "refused {number} at {place}")
 }
 
 fn answer(rt: &impl Print, w: Written) -> io::Result<()> {
     match w {
         Ok(n) => number(rt, n as u64),
-        Err(refusal) => refused(rt, n, p),
+        Err(refusal) => refused(rt, refusal),
     }
 }
 
@@ -44,46 +46,29 @@ fn as_version(rt: &impl Print, look: Look, version: u8, file: &[u8]) -> io::Resu
 
 // What it answers for the look with the default continuation.
 fn with_default(rt: &impl Print, look: Look, file: &[u8]) -> io::Result<()> {
-    let v2 = look.v2;
-    let frames = v2.frames;
-    let with = V2Styles {
-        frames,
-        continuation: Continuation::Default,
-        min_col_width: v2.min_col_width,
-        max_col_width: v2.max_col_width,
-        min_row_height: v2.min_row_height,
-        max_row_height: v2.max_row_height,
+    let other = Look {
+        v2: V2Styles {
+            continuation: Continuation::Default,
+            ..look.v2
+        },
+        ..look
     };
-    let mut other = look;
-    other.v2 = with;
     let mut out = [0u8; LONGEST_LOOK];
     answer(rt, look_write::write_look(other, file, &mut out))
 }
 
 // What it answers for the look with another length of the title's font name.
 fn with_name(rt: &impl Print, look: Look, length: usize, file: &[u8]) -> io::Result<()> {
-    let mut name = look.title.style.typeface.font_name;
-    name.length = length;
-    let mut typeface = look.title.style.typeface;
-    typeface.font_name = name;
-    let mut style = look.title.style;
-    style.typeface = typeface;
-    let mut title = look.title;
-    title.style = style;
     let mut other = look;
-    other.title = title;
+    other.title.style.typeface.font_name.length = length;
     let mut out = [0u8; LONGEST_LOOK];
     answer(rt, look_write::write_look(other, file, &mut out))
 }
 
 // What it answers for the look with another first color of the title.
 fn with_color(rt: &impl Print, look: Look, color: u32, file: &[u8]) -> io::Result<()> {
-    let mut area = look.title.color;
-    area.color10 = color;
-    let mut title = look.title;
-    title.color = area;
     let mut other = look;
-    other.title = title;
+    other.title.color.color10 = color;
     let mut out = [0u8; LONGEST_LOOK];
     answer(rt, look_write::write_look(other, file, &mut out))
 }
@@ -96,8 +81,7 @@ fn short(rt: &impl Print, look: Look, file: &[u8]) -> io::Result<()> {
 
 fn rewritten(look: Look, file: &[u8]) -> bool {
     let mut out = [0u8; LONGEST_LOOK];
-    let written = look_write::write_look(look, file, &mut out);
-    match written {
+    match look_write::write_look(look, file, &mut out) {
         Ok(n) => bytes(&out, Ok((0, n))) == file,
         Err(_) => false,
     }
@@ -105,8 +89,7 @@ fn rewritten(look: Look, file: &[u8]) -> bool {
 
 // How the file that was written is rewritten itself.
 fn again(rt: &impl Print, file: &[u8]) -> io::Result<()> {
-    let read = look::read::read_look(file);
-    match read {
+    match look::read::read_look(file) {
         Ok(look) => {
             if rewritten(look, file) {
                 text(rt, b"the same")
@@ -114,20 +97,19 @@ fn again(rt: &impl Print, file: &[u8]) -> io::Result<()> {
                 text(rt, b"differently")
             }
         }
-        Err(refusal) => refused(rt, n, p),
+        Err(refusal) => refused(rt, refusal),
     }
 }
 
 // A file that isn't rewritten the same: of version 00.
 fn as_version_02(rt: &impl Print, look: Look, file: &[u8]) -> io::Result<()> {
     let mut out = [0u8; LONGEST_LOOK];
-    let written = look_write::write_look(look, file, &mut out);
-    match written {
+    match look_write::write_look(look, file, &mut out) {
         Ok(n) => {
             print!(rt; "as version 02, {n} bytes, and that ")?;
             again(rt, bytes(&out, Ok((0, n))))
         }
-        Err(refusal) => refused(rt, n, p),
+        Err(refusal) => refused(rt, refusal),
     }
 }
 
@@ -156,10 +138,9 @@ fn accepted(rt: &impl Print, look: Look, file: &[u8]) -> io::Result<()> {
 }
 
 fn report(rt: &impl Print, file: &[u8]) -> io::Result<()> {
-    let read = look::read::read_look(file);
-    match read {
+    match look::read::read_look(file) {
         Ok(look) => accepted(rt, look, file)?,
-        Err(refusal) => refused(rt, n, p)?,
+        Err(refusal) => refused(rt, refusal)?,
     }
     text(rt, b"\n")
 }
@@ -167,10 +148,9 @@ fn report(rt: &impl Print, file: &[u8]) -> io::Result<()> {
 // The file that an argument names.
 fn one(rt: &(impl Files + Print + Eprint), path: &[u8]) -> io::Result<()> {
     let mut buf = [0u8; input::SMALL];
-    let got = input::read_file(rt, path, &mut buf)?;
-    if !got.found {
+    let Some(got) = input::read_file(rt, path, &mut buf)? else {
         return Ok(());
-    }
+    };
     text(rt, path)?;
     text(rt, b": ")?;
     let n = got.bytes;

@@ -30,7 +30,7 @@ impl TryFrom<u32> for Page {
     }
 }
 
-// The number of a page, PAGE_COUNT if it is unknown.
+// The number of a page, PAGE_COUNT if it is unknown. (It stays beside `Page`, since docs/CONTRACTS.md names it.)
 pub fn page_number(page: u32) -> usize
     ensures { Numbered page result }
 {

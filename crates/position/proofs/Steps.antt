@@ -3,12 +3,12 @@ use mathlib.Core.Path.{◌≡◌, refl, sym, ◌∙◌}
 use mathlib.Core.Bool.{Bool, true, false, ◌&&◌, not}
 use mathlib.Core.List.{List, [], ◌∷◌}
 use Prim.Native.Nat.{ℕ, zero, suc, ◌+◌, ◌-◌, ◌*◌, ◌/◌, ◌%◌, ◌≤◌, ◌<◌, min}
-use native.Mathlib.Nat.{min-eq_left, min-eq_right, mul-zero, mul-one, mul_assoc, mul-le-mul_left, mul-le-mul_right, sub-zero, div-div-eq-div-mul, div-eq_of_lt}
-use native.Mathlib.Numerals.{sub-one}
+use native.Mathlib.Nat.{min-eq_left, min-eq_right, div-div-eq-div-mul, div-eq_of_lt}
+use native.Mathlib.Numerals.{add-one}
 use native.Mathlib.Omega.{arith}
 use borrow.Author.Tests.{eq-eqb, ne_eqb, eqb-true, eqb-false, lt-ltb, le-ltb, leb-true, leb-false}
 use lib.Dec.{leb, eqb}
-use lib.ListN.{length, get_or, set}
+use lib.ListN.{length, get_or, set, take, drop, take-append-drop}
 use lib.Seq.{get_or-set_same, get_or-set_other}
 use Rattle.sizes.specs.Sizes.{most_places}
 use Rattle.sizes.specs.Basics.{among, pick}
@@ -19,8 +19,8 @@ use Rattle.position.specs.Axes.{position_on, coordinate_on, coordinate_at, part,
 use Rattle.position.specs.Answers.{each_axis_once}
 use Rattle.position.specs.Laws.Turned.{Fits, placed, Placed}
 use Rattle.position.specs.Laws.Table.{down, index_below}
-use Rattle.position.specs.Laws.Accepted.{part_join, Accepted, axes_once, Axis, axis_later, axis_small, first_small}
-use Rattle.position.proofs.Fronts.{part_back, down_more}
+use Rattle.position.specs.Laws.Accepted.{Accepted, axes_once, Axis, axis_later, axis_small, first_small}
+use Rattle.position.proofs.Fronts.{n_front, n_back, down_more}
 
 -- ---- a coordinate, r, on a list of dimensions of which v is the first one's n
 
@@ -49,30 +49,6 @@ pub one_more : (n x : ℕ → ℕ) {ds more : List ℕ} {u p v y : ℕ} → more
 unfolding position_on
 one_more n x f m b s = rw (s, b, m, f)
 
--- ---- a product, as far as a limit
-
-by_size : (l a n : ℕ) (b : Bool) → leb a l ≡ b → min (min a l * n) l ≡ min (a * n) l
-by_size l a n true e = rw (min-eq_left (leb-true a l e))
-by_size l a zero false e = simp mul-zero
-by_size l a (suc m) false e =
-    let h : l ≤ a = omega (arith, leb-false a l e) in
-    let p : l * 1 ≤ l * suc m = mul-le-mul_left l (omega arith) in
-    let g : l ≤ l * suc m = rw mul-one at p in
-    let q : l * suc m ≤ a * suc m = mul-le-mul_right (suc m) h in
-    let r : l ≤ a * suc m = omega arith in
-    rw (min-eq_right h, min-eq_right g, min-eq_right r)
-
--- one factor more is taken from those that are left, where r is the whole product cut off at the limit
-pub one_factor : (l p : ℕ) {q w n r : ℕ} {ns rest : List ℕ} → q ≡ min (p * w) l → w ≡ n → ns ≡ n ∷ rest → min (p * product ns) l ≡ r → min (q * product rest) l ≡ r
-unfolding product
-one_factor l p {q} {w} {n} {r} {ns} {rest} e e' s i =
-    rw (e, e') (by_size l (p * n) (product rest) (leb (p * n) l) refl ∙ rw (mul_assoc p n (product rest)) (rw s at i))
-
--- none is left
-pub no_factor : (l p : ℕ) {r : ℕ} {ns : List ℕ} → ns ≡ [] → p ≤ l → min (p * product ns) l ≡ r → p ≡ r
-unfolding product
-no_factor l p e h i = sym (min-eq_left h) ∙ (rw (e, mul-one p) at i)
-
 -- ---- whether the numbers of a list stand once each
 
 module _ (d : ℕ) {ds rest : List ℕ} {x : ℕ} (front : ds ≡ x ∷ rest) {b : Bool} (is : each_axis_once d ds ≡ b) {u : ℕ} (entry : u ≡ x) where
@@ -94,12 +70,12 @@ none_after true = refl
 none_after false = refl
 
 -- those from entry i on do not, so all do not
-pub not_all : (d : ℕ) (w : ℕ → ℕ) (i : ℕ) → i ≤ d → false ≡ each_axis_once d (part w i (d - i)) → false ≡ each_axis_once d (part w 0 d)
+pub not_all : (d : ℕ) (xs : List ℕ) (i : ℕ) → i ≤ length xs → false ≡ each_axis_once d (drop i xs) → false ≡ each_axis_once d xs
 unfolding each_axis_once
-not_all d w zero h e = simp sub-zero at e
-not_all d w (suc i) h e =
-    let q = simp sub-one at (part_back w (suc i) d (omega arith) h) in
-    not_all d w i (omega arith) (rw (q, ← e) (sym (none_after (fresh d (part w (suc i) (d - suc i)) (w i)))))
+not_all d xs zero h e = e
+not_all d xs (suc i) h e =
+    let q = simp add-one at (n_front xs i (omega arith)) in
+    not_all d xs i (omega arith) (rw (q, ← e) (sym (none_after (fresh d (drop (suc i) xs) (word xs i)))))
 
 pub marked_again : (b : Bool) → not b ≡ false → b ≡ true
 marked_again true e = refl
@@ -109,25 +85,21 @@ pub not_marked : (b : Bool) → not b ≡ true → b ≡ false
 not_marked true e = sym e
 not_marked false e = refl
 
--- ---- the axis from entry i on
-
-pub axis_rest : {ns : List ℕ} {k : ℕ} (w : ℕ → ℕ) (from count i : ℕ) → Axis ns k (part w from count) → from ≤ i → i ≤ from + count → Axis ns k (part w i (from + count - i))
-axis_rest w from count i x h l =
-    let q : count ≡ (i - from) + (from + count - i) = omega arith in
-    let r : from + (i - from) ≡ i = omega arith in
-    rw r at (axis_later (part w from (i - from)) _ (rw (part_join w from (i - from) (from + count - i)) at (rw q at x)))
-
 -- ---- one dimension more of an axis; nothing is above the limit
 
-module _ {ns : List ℕ} {k : ℕ} (w : ℕ → ℕ) (from count i : ℕ) (x : Axis ns k (part w from count)) (more : from < i) (end : i ≤ from + count) where
-  pub one_outward : {p u v y : ℕ} → p ≡ position_on (word ns) (coordinate_on (word ns) (down (length ns)) k) (part w i (from + count - i))
-      → u ≡ w (i - 1) → y ≡ coordinate_on (word ns) (down (length ns)) k u → v ≡ word ns u
-      → (v * p + y ≡ position_on (word ns) (coordinate_on (word ns) (down (length ns)) k) (part w (i - 1) (from + count - (i - 1)))) × (v * p + y ≤ most_places)
+module _ {ns : List ℕ} {k : ℕ} {axis : List ℕ} (x : Axis ns k axis) (i : ℕ) where
+  axis_rest : Axis ns k (drop i axis)
+  axis_rest = axis_later (take i axis) (drop i axis) (rw (take-append-drop i axis) x)
+
+module _ {ns : List ℕ} {k : ℕ} {axis : List ℕ} (x : Axis ns k axis) (i : ℕ) (more : 0 < i) (end : i ≤ length axis) where
+  pub one_outward : {p u v y : ℕ} → p ≡ position_on (word ns) (coordinate_on (word ns) (down (length ns)) k) (drop i axis)
+      → u ≡ word axis (i - 1) → y ≡ coordinate_on (word ns) (down (length ns)) k u → v ≡ word ns u
+      → (v * p + y ≡ position_on (word ns) (coordinate_on (word ns) (down (length ns)) k) (drop (i - 1) axis)) × (v * p + y ≤ most_places)
   one_outward m a b s =
       let n = word ns in
       let X = coordinate_on n (down (length ns)) k in
-      let e = one_more n X (part_back w i (from + count) (omega arith) end) m (rw a at b) (rw a at s) in
-      (e, rw e (axis_small (axis_rest w from count (i - 1) x (omega arith) (omega arith))))
+      let e = one_more n X (n_back axis i more end) m (rw a at b) (rw a at s) in
+      (e, rw e (axis_small (axis_rest x (i - 1))))
 
 -- ---- coordinates put down, each at the place of its dimension
 

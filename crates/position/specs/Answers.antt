@@ -5,9 +5,19 @@ use Rattle.sizes.specs.Basics.{pick}
 use Rattle.grammar.specs.RecordWords.{word}
 use Rattle.grammar.specs.Once.{fresh}
 use Rattle.grammar.specs.Index.{product, coordinate}
-use Rattle.position.specs.declared.Position.{Position}
-use Rattle.position.specs.declared.CellIndex.{CellIndex}
 use Rattle.position.specs.Axes.{position_on, span, part, axes_of, index_at}
+
+-- where a cell stands: its layer, row and column position; or the number of a refusal, and else 0
+pub record Position : Type 0 where
+  pub refusal : ℕ
+  pub layer : ℕ
+  pub row : ℕ
+  pub column : ℕ
+
+-- the index of a cell; or the number of a refusal, and else 0
+pub record CellIndex : Type 0 where
+  pub refusal : ℕ
+  pub index : ℕ
 
 -- ---- refusals 7 and 9
 

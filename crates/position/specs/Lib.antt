@@ -1,4 +1,5 @@
 pub mod Axes
 pub mod Answers
+pub mod Views
 pub mod Examples
 pub mod Laws

@@ -3,9 +3,7 @@
 use Rattle.std.specs.Prelude.{List, [], ◌∷◌, ℕ}
 use Rattle.sizes.specs.Sizes.{position_answer_words, index_answer_words}
 use Rattle.store.specs.Puts.{AtFront}
-use Rattle.position.specs.declared.Position.{Position}
-use Rattle.position.specs.declared.CellIndex.{CellIndex}
-use Rattle.position.specs.Answers.{position, index_of}
+use Rattle.position.specs.Answers.{Position, CellIndex, position, index_of}
 
 -- 5 words: the refusal, its place, layer, row, column
 abbrev pub position_words : Position → List ℕ

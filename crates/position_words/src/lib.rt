@@ -1,29 +1,42 @@
 // The position of a cell and the index of a position, as words at the front of a lent area.
 #![tactic(auto)]
 
-ghost use Rattle.std.specs.Prelude.{Ok, Err};
-ghost use Rattle.store.specs.Puts.{PutsWords};
+ghost use Rattle.std.specs.Prelude.{◌≡◌};
+ghost use Rattle.store.specs.Puts.{AtFront};
+ghost use Rattle.position.specs.Views.{position_view, index_view};
 ghost use Rattle.position_words.specs.Positions as spec;
 
-use layout::Step;
-use position::{CellIndex, Position, index_of, position_of};
+use position::{Position, index_of, position_of};
+use refusals::Reason;
 use sizes::{INDEX_ANSWER_WORDS, POSITION_ANSWER_WORDS};
-use store::words::put;
 
-fn position_words(out: &mut [u32], x: Position) -> Step
-    ensures { PutsWords (spec.position_words x) out.old (Ok 0) out.new result }
+fn position_words(position: Result<Position, Reason>) -> [u32; POSITION_ANSWER_WORDS]
+    ensures { result ≡ spec.position_words (position_view position) }
 {
-    put(
-        out,
-        Ok(0),
-        &[x.refusal, 0, x.layer, x.row, x.column],
-    )
+    match position {
+        Ok(p) => [0, 0, p.layer, p.row, p.column],
+        Err(reason) => [reason.number(), 0, 0, 0, 0],
+    }
 }
 
-fn index_words(out: &mut [u32], x: CellIndex) -> Step
-    ensures { PutsWords (spec.index_words x) out.old (Ok 0) out.new result }
+fn index_words(index: Result<u32, Reason>) -> [u32; INDEX_ANSWER_WORDS]
+    ensures { result ≡ spec.index_words (index_view index) }
 {
-    put(out, Ok(0), &[x.refusal, 0, x.index])
+    match index {
+        Ok(k) => [0, 0, k],
+        Err(reason) => [reason.number(), 0, 0],
+    }
+}
+
+// Words at the front of an area, and how many they are; 0, with nothing changed, where it is shorter.
+fn put_front<const N: usize>(area: &mut [u32], words: [u32; N]) -> usize
+    ensures { AtFront N words.entry area.old result area.new }
+{
+    if area.len() < N {
+        return 0;
+    }
+    area[..N].copy_from_slice(&words);
+    N
 }
 
 // The position of the cell with that index: see `digarumbi_position` of `api`.
@@ -38,14 +51,8 @@ pub fn position_answer(
 ) -> usize
     ensures { spec.PositionGiven ns.now layers rows columns order.now index answer.old result answer.new }
 {
-    let room = POSITION_ANSWER_WORDS <= answer.len();
-    if room {
-        let x = position_of(ns, layers, rows, columns, order, index);
-        position_words(answer, x);
-        POSITION_ANSWER_WORDS
-    } else {
-        0
-    }
+    let position = position_of(ns, layers, rows, columns, order, index);
+    put_front(answer, position_words(position))
 }
 
 // The index of the cell at that position: see `digarumbi_index` of `api`.
@@ -62,12 +69,6 @@ pub fn index_answer(
 ) -> usize
     ensures { spec.IndexGiven ns.now layers rows columns order.now layer row column answer.old result answer.new }
 {
-    let room = INDEX_ANSWER_WORDS <= answer.len();
-    if room {
-        let x = index_of(ns, layers, rows, columns, order, layer, row, column);
-        index_words(answer, x);
-        INDEX_ANSWER_WORDS
-    } else {
-        0
-    }
+    let index = index_of(ns, layers, rows, columns, order, layer, row, column);
+    put_front(answer, index_words(index))
 }

@@ -9,14 +9,8 @@ use crate::text::{put, spaced};
 pub(crate) fn part(words: &[u32], from: usize, n: usize) -> &[u32]
     ensures { result.now ≡ take n (drop from words.now) }
 {
-    if words.len() < from {
-        return &words[..0];
-    }
-    if words.len() - from < n {
-        return &words[from..];
-    }
-    let e = from + n;
-    &words[from..e]
+    let rest = &words[from.min(words.len())..];
+    &rest[..n.min(rest.len())]
 }
 
 pub(crate) fn row(out: &mut [u8], at: usize, name: &[u8], words: &[u32]) -> usize
@@ -25,10 +19,8 @@ pub(crate) fn row(out: &mut [u8], at: usize, name: &[u8], words: &[u32]) -> usiz
     ensures upper_bound { result ≤ at + row_bytes name.now (length words.now) }
 {
     let mut p = put(out, at, name);
-    let mut i = 0;
-    while i < words.len() {
-        p = spaced(out, p, words[i]);
-        i += 1;
+    for word in words {
+        p = spaced(out, p, *word);
     }
     put(out, p, b"\n")
 }
@@ -37,13 +29,7 @@ pub(crate) fn row(out: &mut [u8], at: usize, name: &[u8], words: &[u32]) -> usiz
 fn further(from: usize, n: usize, end: usize) -> usize
     ensures { result ≡ min (from + n) end }
 {
-    if end < from {
-        return end;
-    }
-    if end - from < n {
-        return end;
-    }
-    from + n
+    from.saturating_add(n).min(end)
 }
 
 // n rows of that many words.
@@ -61,11 +47,9 @@ pub(crate) fn table(
 {
     let mut p = at;
     let mut from = 0;
-    let mut i = 0;
-    while i < n {
+    for _ in 0..n {
         p = row(out, p, name, part(words, from, size));
         from = further(from, size, words.len());
-        i += 1;
     }
     p
 }

@@ -1,15 +1,17 @@
--- Words copied into a list of words.
-use Rattle.std.proofs.Common.{◌≡◌, refl, ℕ, zero, suc, ◌+◌, ◌≤◌, List, [], ◌∷◌, length, take, set, drop-drop, length-set, append_assoc, arith}
-use Rattle.std.proofs.lemmas.List.Edits.{sets, sets-eq}
-use Rattle.grammar.specs.Laws.Table.Words.{sets_past}
-use borrow.Rule.Slice.PartMut.{put_mid}
+-- Words stored one after the other.
+use Rattle.std.proofs.Common.{◌≡◌, sym, ◌∙◌, ℕ, ◌+◌, ◌<◌, ◌≤◌, List, length, take, set, get_or, length-take-le, arith}
+use Rattle.std.proofs.lemmas.List.{take_more}
+use Rattle.std.proofs.Math.Seq.{length-sets}
+use Rattle.std.proofs.lemmas.List.Edits.{sets}
+use Rattle.grammar.specs.Laws.Table.Words.{set_past, sets_append}
 
--- all of them
-pub all_stored : (vs l ys : List ℕ) (i k : ℕ) → ys ≡ vs → k ≡ length vs → i + length vs ≤ length l → put_mid i k l ys ≡ sets l i vs
-all_stored vs l ys i k e f h = rw (e, f, drop-drop, sets-eq vs l i h, append_assoc)
+-- the one at place k
+pub next_set : (vs l : List ℕ) (i k : ℕ) → k < length vs → set (sets l i (take k vs)) (i + k) (get_or vs k 0) ≡ sets l i (take (k + 1) vs)
+next_set vs l i k h =
+    let n : length (take k vs) ≡ k = length-take-le k vs (omega arith) in
+    rw (take_more vs k 0 h, sets_append, n)
 
--- those past the end are left out
-pub cut : (n : ℕ) (vs l : List ℕ) (i : ℕ) → i + n ≡ length l → sets l i (take n vs) ≡ sets l i vs
-cut zero vs l i e = rw (sets_past vs l i (omega arith))
-cut (suc n) [] l i e = refl
-cut (suc n) (v ∷ vs) l i e = cut n vs (set l i v) (suc i) (omega (arith, length-set l i v))
+-- past the end there is none
+pub none_past : (vs l : List ℕ) (i k : ℕ) → k < length vs → length l ≤ i + k → sets l i (take k vs) ≡ sets l i (take (k + 1) vs)
+none_past vs l i k h m =
+    sym (set_past (sets l i (take k vs)) (i + k) (get_or vs k 0) (omega (arith, length-sets l i (take k vs)))) ∙ next_set vs l i k h

@@ -1,5 +1,5 @@
 -- A positive double that is a whole number below 2 ^ 32, by its fields: without a leading 1, with the largest exponent, and with any other.
-use Rattle.std.specs.Prelude.{◌≡◌, Bool, cond, ltb, ℤ, pos, negsuc, Float}
+use Rattle.std.specs.Prelude.{◌≡◌, Bool, cond, ℤ, pos, negsuc, Float}
 use Rattle.std.proofs.Math.Path.{refl, ap}
 use Rattle.std.proofs.Common.{sym, ◌∙◌, mul-one, mul_assoc, mul_right_comm, mul-pos, suc-mul, mul-le-mul_right, arith, pow-add, pow_pos, shl_lt}
 use Rattle.std.proofs.Math.Bool.{true, false}

@@ -1,9 +1,9 @@
 -- A count is the value of its double: what the bits are by IEEE 754 is that whole number.
-use Rattle.std.specs.Prelude.{◌≡◌, Bool, ◌&&◌, not, ltb, pos, Float}
+use Rattle.std.specs.Prelude.{◌≡◌, Bool, ◌&&◌, ltb, pos, Float}
 use Rattle.std.proofs.Math.Path.{refl, sym, ap}
 use Rattle.std.proofs.Common.{◌∙◌, mul-one, mul_right_comm, pow-add, pow_pos}
 use Rattle.std.proofs.Math.Bool.{true, false}
-use Prim.Native.Nat.{ℕ, zero, suc, ◌+◌, ◌-◌, ◌*◌, ◌/◌, ◌%◌, ◌^◌, ◌≤◌, ◌<◌}
+use Prim.Native.Nat.{ℕ, suc, ◌+◌, ◌-◌, ◌*◌, ◌/◌, ◌%◌, ◌^◌, ◌≤◌, ◌<◌}
 use Rattle.std.proofs.Math.Nat.{mul_assoc, eq_of_mul-eq-mul_right, div-add-mod'}
 use native.Mathlib.Omega.{arith}
 use Rattle.std.proofs.Math.Dec.{eqb, leb}

@@ -1,16 +1,16 @@
 -- The other half of Value.antt: every double that is a whole number from 0 to 4,294,967,295 has that count.
-use Rattle.std.specs.Prelude.{◌≡◌, Bool, pos}
+use Rattle.std.specs.Prelude.{◌≡◌, Bool}
 use Rattle.std.proofs.Math.Path.{refl}
 use Rattle.std.proofs.Common.{◌∙◌, mul-one, arith}
 use Rattle.std.proofs.Math.Bool.{true, false}
-use Prim.Native.Nat.{ℕ, zero, suc, ◌-◌, ◌%◌, ◌^◌, ◌<◌}
+use Prim.Native.Nat.{ℕ, zero, suc, ◌%◌, ◌^◌, ◌<◌}
 use Rattle.std.proofs.Math.Dec.{eqb, leb}
 use borrow.Author.Tests.{eqb-true, eqb-false, leb-true, leb-false}
 use Rattle.std.specs.Float.Ieee.{binary64, of_bits}
 use Rattle.std.specs.Float.Ieee.Exact.{HasValue}
 use Rattle.sizes.specs.Basics.{pick}
 use Rattle.counts.specs.Count.{no_count, exponent, count}
-use Rattle.counts.proofs.Laws.Value.{normal, zero_value}
+use Rattle.counts.proofs.Laws.Value.{zero_value}
 use Rattle.counts.proofs.Laws.Normal.{same_size, no_leading_one, no_number, counts_normal}
 
 module _ (bits n : ℕ) (few : n < no_count) (positive : bits < 2 ^ 63) (v : HasValue (of_bits binary64 bits) false n 1) where

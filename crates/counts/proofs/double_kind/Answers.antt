@@ -1,19 +1,16 @@
-use borrow.Author.Tests.{ltb-true}
+use Rattle.std.proofs.Common.{arith}
+use borrow.Author.Tests.{eq-eqb, ne_eqb, lt-ltb}
 use Rattle.sizes.specs.Basics.{pick}
 use Rattle.counts.proofs.double_kind.Goals as goal
 
-pub returns-then-missing : goal.returns-then-missing
+pub returns-then-bits-eq-MISSING : goal.returns-then-bits-eq-MISSING
 unfolding pick
-returns-then-missing c = rw c.if-missing.true-raw
+returns-then-bits-eq-MISSING c = rw (eq-eqb _ _ c.if-bits-eq-MISSING.true)
 
-pub overflow_cast-result : goal.overflow_cast-result
+pub returns-in-Some : goal.returns-in-Some
 unfolding pick
-overflow_cast-result c = record { fits = ltb-true _ _ c.if-small.true-raw }
+returns-in-Some c = rw (ne_eqb _ _ c.if-bits-eq-MISSING.false, ← c.in-Some.ensures, lt-ltb c.in-Some.n 4294967296 (omega arith))
 
-pub returns-then-small : goal.returns-then-small
+pub returns-in-None : goal.returns-in-None
 unfolding pick
-returns-then-small c = rw (c.if-missing.false-raw, ← c.count-n.ensures, c.if-small.true-raw)
-
-pub returns-else-small : goal.returns-else-small
-unfolding pick
-returns-else-small c = rw (c.if-missing.false-raw, ← c.count-n.ensures, c.if-small.false-raw)
+returns-in-None c = rw (ne_eqb _ _ c.if-bits-eq-MISSING.false, ← c.in-None.ensures)

@@ -1,15 +1,24 @@
+use Rattle.std.proofs.Common.{◌≡◌, ◌<◌, ◌≤◌, ℕ, zero, suc, true, [], ◌∷◌, refl, arith}
+use borrow.Author.Tests.{ne_eqb}
 use Rattle.sizes.specs.Basics.{pick, among}
 use Rattle.counts.specs.Count.{kind}
 use Rattle.counts.proofs.kind_of.Goals as goal
 
-pub returns-then-number : goal.returns-then-number
-unfolding kind pick among
-returns-then-number c = rw c.if-number.true-raw c.double_kind.ensures
+one_or_two : (n : ℕ) → 1 ≤ n → n < 3 → among n (1 ∷ 2 ∷ []) ≡ true
+unfolding among
+one_or_two zero h l = absurd (omega arith)
+one_or_two (suc zero) h l = refl
+one_or_two (suc (suc zero)) h l = refl
+one_or_two (suc (suc (suc n))) h l = absurd (omega arith)
 
-pub returns-then-labelled : goal.returns-then-labelled
-unfolding kind pick among
-returns-then-labelled c = rw (c.if-number.false-raw, c.if-labelled.true-raw) c.double_kind-then-labelled.ensures
+pub returns-in-1 : goal.returns-in-1
+unfolding kind pick
+returns-in-1 c = rw (one_or_two c.args.form (omega arith) (omega arith)) c.double_kind.ensures
 
-pub returns-else-labelled : goal.returns-else-labelled
+pub returns-in_default : goal.returns-in_default
 unfolding kind pick among
-returns-else-labelled c = rw (c.if-number.false-raw, c.if-labelled.false-raw)
+returns-in_default c = rw (ne_eqb c.args.form 1 (λ e. omega arith), ne_eqb c.args.form 2 (λ e. omega arith))
+
+pub returns-in_default-2 : goal.returns-in_default-2
+unfolding kind pick among
+returns-in_default-2 c = rw (ne_eqb c.args.form 1 (λ e. omega arith), ne_eqb c.args.form 2 (λ e. omega arith))

@@ -1,4 +1,4 @@
-use mathlib.Core.Path.{◌∙◌}
+use mathlib.Core.Path.{refl, ◌∙◌}
 use native.Mathlib.Omega.{arith}
 use Rattle.desk.proofs.Tests.{points_to, no_whole_record}
 use Rattle.desk.proofs.name_of.Goals as goal
@@ -7,7 +7,7 @@ pub returns-then-i-nodes : goal.returns-then-i-nodes
 returns-then-i-nodes c =
     let a = c.args in
     c.part.ensures
-    ∙ points_to a.member.now a.nodes.now a.i (omega arith) c.wide.ensures c.wide-then-i-nodes.ensures
+    ∙ points_to a.member.now a.nodes.now a.i (omega arith) refl refl
 
 pub returns-else-i-nodes : goal.returns-else-i-nodes
 returns-else-i-nodes c =

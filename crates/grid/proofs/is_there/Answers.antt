@@ -2,10 +2,10 @@ use Rattle.std.proofs.lemmas.Bool.{le-ltb, lt-ltb}
 use Rattle.grid.specs.Grid.{there_of}
 use Rattle.grid.proofs.is_there.Goals as goal
 
-pub returns-then-inside : goal.returns-then-inside
+pub returns-then-dimension-d : goal.returns-then-dimension-d
 unfolding there_of
-returns-then-inside c = rw (lt-ltb _ _ c.if-inside.true, c.word-n.ensures)
+returns-then-dimension-d c = rw (lt-ltb _ _ c.if-dimension-d.true, c.word.ensures)
 
-pub returns-else-inside : goal.returns-else-inside
+pub returns-else-dimension-d : goal.returns-else-dimension-d
 unfolding there_of
-returns-else-inside c = rw (le-ltb _ _ c.if-inside.false)
+returns-else-dimension-d c = rw (le-ltb _ _ c.if-dimension-d.false)

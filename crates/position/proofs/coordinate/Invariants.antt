@@ -1,7 +1,5 @@
 -- The loop keeps the answer: the coordinate of what is left of the index, on the dimensions that are left.
-use Prim.Native.Nat.{◌+◌, ◌/◌, ◌≤◌}
-use mathlib.Core.Path.{◌≡◌}
-use lib.ListN.{length}
+use Rattle.std.proofs.Common.{◌≡◌, ◌+◌, ◌/◌, ◌≤◌, length}
 use Rattle.sizes.specs.Sizes.{most_places}
 use Rattle.grammar.specs.RecordWords.{word}
 use Rattle.position.specs.Axes.{coordinate_on}
@@ -10,6 +8,3 @@ use Rattle.position.proofs.coordinate.Given as goal
 
 abbrev pub invariant-loop-i : goal.invariant-loop-i
 invariant-loop-i l = (l.step ≤ most_places + 1) × (coordinate_on (word l.ns) (down l.i) (l.k / l.step) l.e ≡ coordinate_on (word l.ns) (down (length l.ns)) l.k l.e)
-
-abbrev pub decreases-loop-i : goal.decreases-loop-i
-decreases-loop-i l = l.i

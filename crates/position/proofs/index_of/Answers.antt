@@ -1,32 +1,49 @@
 -- Each way out gives the answer that the specification gives there.
-use mathlib.Core.Path.{◌∙◌}
-use native.Mathlib.Omega.{arith}
-use Rattle.position.proofs.Answering.{counted, no_cell, layer_outside, row_outside, column_outside, fit, cell_at}
+use Rattle.std.proofs.Common.{arith}
+use Rattle.std.proofs.lemmas.Result.{err_from_is_err_and}
+use Rattle.refusals.specs.Verdicts.{number_not_0}
+use Rattle.position.proofs.Answering.{spanned, no_cell, layer_outside, row_outside, column_outside, fit, cell_at}
 use Rattle.position.proofs.index_of.Goals as goal
+use Rattle.position.proofs.index_of.Goals.{then-span-from-via-then-span-from, then-span-from-via-else-span-from+then-span-from-2, then-span-from-via-else-span-from+else-span-from-2+then-span-from-3}
 
-pub returns-then-no-ne0 : goal.returns-then-no-ne0
-returns-then-no-ne0 c = c.no_index.ensures ∙ no_cell _ _ _ _ _ _ _ _ c.refusal-no.ensures c.if-no-ne0.true
+pub returns-in_err-table : goal.returns-in_err-table
+returns-in_err-table c =
+    let p = err_from_is_err_and c.from_residual.result c.from_residual.ensures.1 in
+    rw (p.1, p.2) (no_cell _ _ _ _ _ _ _ _ c.in_err-table.ensures (number_not_0 _))
 
-pub span-requires : goal.span-requires
-span-requires c = omega (arith, counted _ _ _ _ _ c.refusal-no.ensures c.if-no-ne0.false)
-
-pub returns-then-span-layer : goal.returns-then-span-layer
-returns-then-span-layer c = c.no_index-then-span-layer.ensures ∙ layer_outside _ _ _ _ _ _ _ _ c.refusal-no.ensures c.if-no-ne0.false c.span.ensures (omega arith) (omega arith)
-
-pub span-requires-2 : goal.span-requires-2
-span-requires-2 c = omega (arith, counted _ _ _ _ _ c.refusal-no.ensures c.if-no-ne0.false)
-
-pub returns-then-span-row : goal.returns-then-span-row
-returns-then-span-row c = c.no_index-then-span-row.ensures ∙ row_outside _ _ _ _ _ _ _ _ c.refusal-no.ensures c.if-no-ne0.false c.span.ensures (omega arith) c.span-2.ensures (omega arith) (omega arith)
-
-pub span-requires-3 : goal.span-requires-3
-span-requires-3 c = omega (arith, counted _ _ _ _ _ c.refusal-no.ensures c.if-no-ne0.false)
-
-pub returns-then-span-column : goal.returns-then-span-column
-returns-then-span-column c = c.no_index-then-span-column.ensures ∙ column_outside _ _ _ _ _ _ _ _ c.refusal-no.ensures c.if-no-ne0.false c.span.ensures (omega arith) c.span-2.ensures (omega arith) c.span-3.ensures (omega arith) (omega arith)
+pub returns-then-span-from : goal.returns-then-span-from
+returns-then-span-from c =
+    let a = c.args in
+    let e = c.in_ok-table.ensures in
+    let none = rw (e.0, e.1, e.2, e.3, e.4) at c.in_ok-table.table.accepted in
+    let p = spanned a.ns.now a.layers a.rows a.columns a.order.now 0 a.layers c.span.ensures (rw (e.1, e.4) at c.layers.ensures) in
+    elim c.then-span-from.branch [
+      | then-span-from-via-then-span-from w ↦ layer_outside _ _ _ _ _ _ _ _ none p (omega arith) (omega arith)
+      | then-span-from-via-else-span-from+then-span-from-2 w ↦
+          let q = spanned a.ns.now a.layers a.rows a.columns a.order.now a.layers a.rows w.span-else-span-from.ensures (rw (e.1, e.2, e.4) at w.rows.ensures) in
+          row_outside _ _ _ _ _ _ _ _ none p (omega arith) q (omega arith) (omega arith)
+      | then-span-from-via-else-span-from+else-span-from-2+then-span-from-3 w ↦
+          let q = spanned a.ns.now a.layers a.rows a.columns a.order.now a.layers a.rows w.span-else-span-from.ensures (rw (e.1, e.2, e.4) at w.rows.ensures) in
+          let s = spanned a.ns.now a.layers a.rows a.columns a.order.now _ _ w.span-else-span-from-2.ensures (rw (e.1, e.2, e.3, e.4) at w.columns.ensures) in
+          column_outside _ _ _ _ _ _ _ _ none p (omega arith) q (omega arith) s (omega arith) (omega arith)
+    ]
 
 pub index_at-requires : goal.index_at-requires
-index_at-requires c = fit _ _ _ _ _ _ _ _ c.refusal-no.ensures c.if-no-ne0.false c.span.ensures (omega arith) c.span-2.ensures (omega arith) c.span-3.ensures (omega arith)
+index_at-requires c =
+    let a = c.args in
+    let e = c.in_ok-table.ensures in
+    let none = rw (e.0, e.1, e.2, e.3, e.4) at c.in_ok-table.table.accepted in
+    let p = spanned a.ns.now a.layers a.rows a.columns a.order.now 0 a.layers c.span.ensures (rw (e.1, e.4) at c.layers.ensures) in
+    let q = spanned a.ns.now a.layers a.rows a.columns a.order.now a.layers a.rows c.span-else-span-from.ensures (rw (e.1, e.2, e.4) at c.rows.ensures) in
+    let s = spanned a.ns.now a.layers a.rows a.columns a.order.now _ _ c.span-else-span-from-2.ensures (rw (e.1, e.2, e.3, e.4) at c.columns.ensures) in
+    rw (e.0, e.1, e.2, e.3, e.4) (fit _ _ _ _ _ _ _ _ none p (omega arith) q (omega arith) s (omega arith))
 
 pub returns : goal.returns
-returns c = cell_at _ _ _ _ _ _ _ _ c.refusal-no.ensures c.if-no-ne0.false c.span.ensures (omega arith) c.span-2.ensures (omega arith) c.span-3.ensures (omega arith) c.index_at.ensures
+returns c =
+    let a = c.args in
+    let e = c.in_ok-table.ensures in
+    let none = rw (e.0, e.1, e.2, e.3, e.4) at c.in_ok-table.table.accepted in
+    let p = spanned a.ns.now a.layers a.rows a.columns a.order.now 0 a.layers c.span.ensures (rw (e.1, e.4) at c.layers.ensures) in
+    let q = spanned a.ns.now a.layers a.rows a.columns a.order.now a.layers a.rows c.span-else-span-from.ensures (rw (e.1, e.2, e.4) at c.rows.ensures) in
+    let s = spanned a.ns.now a.layers a.rows a.columns a.order.now _ _ c.span-else-span-from-2.ensures (rw (e.1, e.2, e.3, e.4) at c.columns.ensures) in
+    cell_at _ _ _ _ _ _ _ _ none p (omega arith) q (omega arith) s (omega arith) (rw (e.0, e.1, e.2, e.3, e.4) at c.index_at.ensures)

@@ -1,23 +1,42 @@
 -- Each way out gives the answer that the specification gives there.
-use mathlib.Core.Path.{◌∙◌}
-use native.Mathlib.Omega.{arith}
+use Rattle.std.proofs.Common.{arith}
+use Rattle.std.proofs.lemmas.Result.{err_from_is_err_and}
+use Rattle.refusals.specs.Verdicts.{number_not_0}
 use Rattle.position.proofs.Answering.{refused, outside, on_layers, on_rows, on_columns, stands}
 use Rattle.position.proofs.position_of.Goals as goal
 
-pub returns-then-no-ne0 : goal.returns-then-no-ne0
-returns-then-no-ne0 c = c.no_position.ensures ∙ refused _ _ _ _ _ _ c.refusal-no.ensures c.if-no-ne0.true
+pub returns-in_err-table : goal.returns-in_err-table
+returns-in_err-table c =
+    let p = err_from_is_err_and c.from_residual.result c.from_residual.ensures.1 in
+    rw (p.1, p.2) (refused _ _ _ _ _ _ c.in_err-table.ensures (number_not_0 _))
 
-pub returns-then-places-k : goal.returns-then-places-k
-returns-then-places-k c = c.no_position-then-places-k.ensures ∙ outside _ _ _ _ _ _ c.refusal-no.ensures c.if-no-ne0.false c.places.ensures (omega arith) (omega arith)
+pub returns-then-places-from : goal.returns-then-places-from
+returns-then-places-from c =
+    let e = c.in_ok-table.ensures in
+    let none = rw (e.0, e.1, e.2, e.3, e.4) at c.in_ok-table.table.accepted in
+    outside _ _ _ _ _ _ none c.places.ensures (omega arith) (omega arith)
 
-pub along-layer-requires : goal.along-layer-requires
-along-layer-requires c = on_layers _ _ _ _ _ _ c.refusal-no.ensures c.if-no-ne0.false c.places.ensures (omega arith)
+pub along-requires : goal.along-requires
+along-requires c =
+    let e = c.in_ok-table.ensures in
+    let none = rw (e.0, e.1, e.2, e.3, e.4) at c.in_ok-table.table.accepted in
+    on_layers _ _ _ _ _ _ none c.places.ensures (omega arith) (rw (e.1, e.4) at c.layers.ensures)
 
-pub along-row-requires : goal.along-row-requires
-along-row-requires c = on_rows _ _ _ _ _ _ c.refusal-no.ensures c.if-no-ne0.false c.places.ensures (omega arith)
+pub along-requires-2 : goal.along-requires-2
+along-requires-2 c =
+    let e = c.in_ok-table.ensures in
+    let none = rw (e.0, e.1, e.2, e.3, e.4) at c.in_ok-table.table.accepted in
+    on_rows _ _ _ _ _ _ none c.places.ensures (omega arith) (rw (e.1, e.2, e.4) at c.rows.ensures)
 
-pub along-column-requires : goal.along-column-requires
-along-column-requires c = on_columns _ _ _ _ _ _ c.refusal-no.ensures c.if-no-ne0.false c.places.ensures (omega arith)
+pub along-requires-3 : goal.along-requires-3
+along-requires-3 c =
+    let e = c.in_ok-table.ensures in
+    let none = rw (e.0, e.1, e.2, e.3, e.4) at c.in_ok-table.table.accepted in
+    on_columns _ _ _ _ _ _ none c.places.ensures (omega arith) (rw (e.1, e.2, e.3, e.4) at c.columns.ensures)
 
 pub returns : goal.returns
-returns c = stands _ _ _ _ _ _ c.refusal-no.ensures c.if-no-ne0.false c.places.ensures (omega arith) c.along-layer.ensures c.along-row.ensures c.along-column.ensures
+returns c =
+    let e = c.in_ok-table.ensures in
+    let none = rw (e.0, e.1, e.2, e.3, e.4) at c.in_ok-table.table.accepted in
+    stands _ _ _ _ _ _ none c.places.ensures (omega arith) (rw (e.1, e.4) at c.layers.ensures) (rw (e.1, e.2, e.4) at c.rows.ensures) (rw (e.1, e.2, e.3, e.4) at c.columns.ensures)
+    c.along.ensures c.along-2.ensures c.along-3.ensures

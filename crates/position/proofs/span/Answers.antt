@@ -1,38 +1,21 @@
-use Prim.Native.Nat.{ℕ, ◌+◌}
-use mathlib.Core.Path.{◌≡◌, refl, ap}
-use mathlib.Core.List.{[], map}
-use native.Mathlib.Omega.{arith}
-use native.Mathlib.Nat.{one-mul}
-use lib.Dec.{lit≤}
+use Rattle.std.proofs.Common.{◌≡◌, ◌+◌, [], map, drop, ap, arith}
 use Rattle.sizes.specs.Sizes.{most_places}
 use Rattle.grammar.specs.RecordWords.{word}
-use Rattle.position.specs.Axes.{part}
-use Rattle.position.specs.Answers.{span_of}
-use Rattle.position.proofs.Fronts.{part_front}
-use Rattle.position.proofs.Steps.{one_factor, no_factor}
+use lib.ListN.{drop_of_length-le}
+use Rattle.index.proofs.Capped.{more, no_more}
+use Rattle.position.proofs.Fronts.{n_front}
 use Rattle.position.proofs.span.Goals as goal
 
-no_entries : (n w : ℕ → ℕ) (i : ℕ) → map n (part w i 0) ≡ []
-unfolding part
-no_entries n w i = refl
-
-pub loop-left-init : goal.loop-left-init
-unfolding span_of
-loop-left-init c = (omega arith, lit≤ tt, simp one-mul)
-
-pub loop-left-preserved : goal.loop-left-preserved
-unfolding span_of
-loop-left-preserved c =
-    let l = c.loop-left in
-    let s = c.args in
-    let f = ap (map (word s.ns.now)) (part_front (word s.order.now) l.i l.left (omega arith)) in
-    (omega arith, omega (arith, c.times-p.ensures), one_factor (most_places + 1) l.p c.times-p.ensures (rw c.word.ensures at c.word-in-loop-left.ensures) f l.invariant.2)
+pub loop-e-preserved : goal.loop-e-preserved
+unfolding word
+loop-e-preserved c =
+    let l = c.loop-e in
+    let n = word c.args.ns.now in
+    let f = ap (map n) (n_front c.args.axis.now l.e-index c.loop-e-test.true) in
+    (omega arith, more (most_places + 1) l.p c.times-p.ensures c.word.ensures f l.invariant.1)
 
 pub returns : goal.returns
-unfolding span_of
 returns c =
-    let l = c.loop-left in
-    let s = c.args in
-    let z : l.left ≡ 0 = omega arith in
-    let e = rw z at l.invariant.2 in
-    no_factor (most_places + 1) l.p (no_entries (word s.ns.now) (word s.order.now) l.i) l.invariant.1 e
+    let l = c.loop-e in
+    let z : drop l.e-index c.args.axis.now ≡ [] = drop_of_length-le c.args.axis.now {i = l.e-index} (omega arith) in
+    no_more (most_places + 1) l.p (ap (map (word c.args.ns.now)) z) l.invariant.0 l.invariant.1

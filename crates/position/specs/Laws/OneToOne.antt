@@ -13,10 +13,8 @@ use Rattle.sizes.specs.Basics.{pick}
 use Rattle.grammar.specs.Laws.Layout.Tests.{and_is_true}
 use Rattle.grammar.specs.RecordWords.{word}
 use Rattle.grammar.specs.Index.{product, coordinate}
-use Rattle.position.specs.declared.Position.{Position}
-use Rattle.position.specs.declared.CellIndex.{CellIndex}
 use Rattle.position.specs.Axes.{positions, coordinate_at, axes_of, index_at}
-use Rattle.position.specs.Answers.{refusal, along, at, no_position_answer, position, span_of, within, found, no_index_answer, index_of}
+use Rattle.position.specs.Answers.{Position, CellIndex, refusal, along, at, no_position_answer, position, span_of, within, found, no_index_answer, index_of}
 use Rattle.position.specs.Laws.Turned.{Fits, fits_none, fits_more}
 use Rattle.position.specs.Laws.Table.{table_fits, index_back, coordinate_kept, index_below, positions_back}
 use Rattle.position.specs.Laws.Accepted.{Accepted, axes_once, no_refusal}

@@ -1,18 +1,20 @@
-use Rattle.std.proofs.Common.{◌≡◌, sym, ◌∙◌, ◌-◌, ◌≤◌, length, take, length-take-le, arith}
+use Rattle.std.proofs.Common.{sym, arith}
 use Rattle.grammar.specs.Laws.Table.Words.{sets_past}
-use Rattle.table.proofs.Stores.{all_stored, cut}
+use Rattle.table.proofs.Stores.{next_set, none_past}
 use Rattle.table.proofs.put.Goals as goal
+use Rattle.table.proofs.put.Goals.{then-i-k, else-i-k}
 
-pub returns-then-room : goal.returns-then-room
-returns-then-room g c = all_stored _ _ _ _ _ c.copy_from_slice.ensures.after (omega arith) (omega arith)
+pub loop-k-preserved : goal.loop-k-preserved
+loop-k-preserved g c = let a = c.args in rw c.loop-k.invariant (next_set a.values.now a.words.now a.i c.loop-k.k (omega arith))
 
-pub returns-else-room : goal.returns-else-room
-returns-else-room g c =
+pub loop-k-then-i-words-preserved : goal.loop-k-then-i-words-preserved
+loop-k-then-i-words-preserved g c =
     let a = c.args in
-    let n = length a.words.now - a.i in
-    let few : n ≤ length a.values.now = omega arith in
-    let l : length (take n a.values.now) ≡ n = length-take-le n a.values.now few in
-    all_stored (take n a.values.now) _ _ _ _ c.copy_from_slice-else-room.ensures.after (sym l) (omega (arith, l)) ∙ cut n a.values.now a.words.now a.i (omega arith)
+    let l = c.loop-k-then-i-words in
+    elim c.if-i-k.branch [
+      | then-i-k w ↦ rw (w.words-is, l.invariant) (next_set a.values.now a.words.now a.i l.k (omega arith))
+      | else-i-k w ↦ rw (w.words-is, l.invariant) (none_past a.values.now a.words.now a.i l.k (omega arith) (omega (arith, w.if-i-k.false)))
+    ]
 
 pub returns-else-i-words : goal.returns-else-i-words
 returns-else-i-words g c = sym (sets_past c.args.values.now c.args.words.now c.args.i (omega arith))

@@ -1,25 +1,11 @@
--- Each way to end is the part that was asked for.
-use Prim.Native.Nat.{◌+◌, ◌-◌}
-use mathlib.Core.Path.{◌≡◌, sym, ◌∙◌}
-use native.Mathlib.Omega.{arith}
-use lib.ListN.{length, drop, length-drop, drop_of_length-le}
-use lib.Seq.{take-nil, take_all}
+-- The rest from a place, or from the end, and of that the first words, or all.
+use Rattle.std.proofs.Common.{◌≡◌, ◌-◌, arith, length, take, drop, length-drop}
+use Rattle.std.proofs.lemmas.List.{take_all, take_min, drop_min}
 use Rattle.report.proofs.rows.part.Goals as goal
-
-pub returns-then-words-from : goal.returns-then-words-from
-returns-then-words-from c =
-    let a = c.args in
-    sym (rw (drop_of_length-le a.words.now {i = a.from} (omega arith)) (take-nil a.n))
-
-pub returns-then-words-from-2 : goal.returns-then-words-from-2
-returns-then-words-from-2 c =
-    let a = c.args in
-    let rest = drop a.from a.words.now in
-    let l : length rest ≡ length a.words.now - a.from = length-drop a.from a.words.now in
-    take_all (length a.words.now - a.from) rest (omega arith) ∙ sym (take_all a.n rest (omega arith))
 
 pub returns : goal.returns
 returns c =
-    let a = c.args in
-    let e : a.from + a.n - a.from ≡ a.n = omega arith in
-    rw e
+    let ws = c.args.words.now in
+    let m = c.min.result in
+    let rest : take (length ws - m) (drop m ws) ≡ drop m ws = take_all (length ws - m) (drop m ws) (omega (arith, length-drop m ws)) in
+    rw (c.min-2.ensures, rest, take_min, c.min.ensures, drop_min)
