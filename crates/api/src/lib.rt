@@ -12,7 +12,7 @@ mod values; // what a Value says
 ghost use Rattle.std.specs.Prelude.{◌≡◌, length};
 ghost use Rattle.sizes.specs.Sizes.{abi, look_answer_words};
 ghost use Rattle.grammar.specs.Laws.Layout.Read.{read};
-ghost use Rattle.units.specs.Units.{in_pixels, in_points, height};
+ghost use Rattle.units.specs.Units.{in_pixels, in_points, height, height_of};
 ghost use Rattle.grammar.specs.Part.{part_of};
 ghost use Rattle.desk.specs.Desk.{filled_of, name_of, name_place_of, after_of};
 ghost use Rattle.look.specs.Look.{TableLook};
@@ -28,6 +28,7 @@ use desk::{node_after, node_name};
 use look_words::look_answer;
 use member::part;
 use member_words::member_answer;
+use refusals::Refusal;
 use sizes::ABI;
 use units::{Pt, Px, font_height, pt_to_px, px_to_pt};
 use written_words::{rewrite_answer, sections_answer};
@@ -116,16 +117,30 @@ pub extern "C" fn digarumbi_look_sections(look: &[u8], out: &mut [u8], answer: &
     sections_answer(look, out, answer)
 }
 
+// The number of a refusal, or 0; then `value` has the number, 0 after a refusal.
+fn told(answer: Result<u32, Refusal>, value: &mut u32) -> u32
+    ensures number { result ≡ (height_of answer).refusal }
+    ensures value_after { value.new ≡ (height_of answer).value }
+{
+    match answer {
+        Ok(n) => {
+            *value = n;
+            0
+        }
+        Err(refusal) => {
+            *value = 0;
+            refusal.reason.number()
+        }
+    }
+}
+
 // Points in pixels: 0 or the refusal's number, 7; the place is 0.
 #[unsafe(no_mangle)]
 pub extern "C" fn digarumbi_pt_to_px(points: u32, pixels: &mut u32) -> u32
     ensures value { result ≡ (in_pixels record { 0 = points }).refusal }
     ensures pixels_after { pixels.new ≡ (in_pixels record { 0 = points }).value.0 }
 {
-    let r = pt_to_px(Pt(points));
-    let value = r.value;
-    *pixels = value.0;
-    r.refusal
+    told(pt_to_px(Pt(points)).map(|x| x.0), pixels)
 }
 
 // Pixels in points, likewise.
@@ -134,10 +149,7 @@ pub extern "C" fn digarumbi_px_to_pt(pixels: u32, points: &mut u32) -> u32
     ensures value { result ≡ (in_points record { 0 = pixels }).refusal }
     ensures points_after { points.new ≡ (in_points record { 0 = pixels }).value.0 }
 {
-    let r = px_to_pt(Px(pixels));
-    let value = r.value;
-    *points = value.0;
-    r.refusal
+    told(px_to_pt(Px(pixels)).map(|x| x.0), points)
 }
 
 // The height of a font of that size, likewise.
@@ -146,7 +158,5 @@ pub extern "C" fn digarumbi_font_height(size: i32, value: &mut u32) -> u32
     ensures value { result ≡ (height size).refusal }
     ensures value_after { value.new ≡ (height size).value }
 {
-    let r = font_height(size);
-    *value = r.value;
-    r.refusal
+    told(font_height(size), value)
 }

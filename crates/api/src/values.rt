@@ -30,7 +30,14 @@ pub extern "C" fn digarumbi_number(low: u32, high: u32, number: &mut f64) -> u32
     ensures value { result ≡ bit (number_of (high * 2 ^ 32 + low)).is }
     ensures number_after { number.new ≡ (number_of (high * 2 ^ 32 + low)).value }
 {
-    let x = number_of(high as u64 * 4294967296 + low as u64);
-    *number = x.value;
-    x.is as u32
+    match number_of(high as u64 * 4294967296 + low as u64) {
+        Some(x) => {
+            *number = x;
+            1
+        }
+        None => {
+            *number = 0.0;
+            0
+        }
+    }
 }

@@ -8,9 +8,7 @@ use Rattle.sizes.specs.Basics.{pick}
 use Rattle.grammar.specs.Layout.{All, all_none, all_more}
 use Rattle.grammar.specs.Index.{product, coordinate}
 use Rattle.total.specs.Total.{CellSays, with_cell, sums}
-use Rattle.position.specs.declared.Position.{Position}
-use Rattle.position.specs.declared.CellIndex.{CellIndex}
-use Rattle.position.specs.Answers.{along, at, position}
+use Rattle.position.specs.Answers.{Position, CellIndex, along, at, position}
 use Rattle.position.specs.Laws.OneToOne.{each_index, position_index, same_leaf}
 use Rattle.turned.specs.Turned.{AxisOrder, CellAt, Fitting, to_position, to_index, under_at, turn, chosen, sums_at}
 
