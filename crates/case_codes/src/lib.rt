@@ -10,7 +10,7 @@ ghost use Rattle.case_codes.specs.Codes as spec;
 use case_state::{BLOCK, FINISH, MISSING, NUMERIC, SPACES};
 
 // What a code says to an element: nothing; that the data ends; that its block follows; that it is refused; the element, eight bytes.
-#[derive(Clone, Copy)]
+#[derive(Clone, Copy, Debug, PartialEq, Eq)]
 pub enum Verdict {
     Skip,
     Finish,
@@ -26,57 +26,38 @@ fn difference(code: u8, bias: u8) -> u64
     f64::to_bits((code as f64) - (bias as f64))
 }
 
+#[tactic(auto, unfolding(sizes::specs::Basics::pick, sizes::specs::Basics::le, case_stream::specs::Stream::double, case_stream::specs::Stream::numeric))]
 fn numeric(bias: u8, code: u8) -> Verdict
     ensures { spec.said result ≡ stream.numeric bias code }
 {
-    let is_missing = code == MISSING;
-    if is_missing {
-        return Verdict::Gives(0xffef_ffff_ffff_ffff);
+    match code {
+        MISSING => Verdict::Gives(0xffef_ffff_ffff_ffff),
+        SPACES => Verdict::Wrong,
+        _ => Verdict::Gives(difference(code, bias)),
     }
-    let is_spaces = code == SPACES;
-    if is_spaces {
-        return Verdict::Wrong;
-    }
-    Verdict::Gives(difference(code, bias))
 }
 
+#[tactic(auto, unfolding(sizes::specs::Basics::pick, sizes::specs::Basics::le, case_stream::specs::Stream::string))]
 fn string(bias: u8, code: u8) -> Verdict
     ensures { spec.said result ≡ stream.string bias code }
 {
-    let is_spaces = code == SPACES;
-    if is_spaces {
-        return Verdict::Gives(0x2020_2020_2020_2020);
+    match code {
+        SPACES => Verdict::Gives(0x2020_2020_2020_2020),
+        _ if code < FINISH && code == bias => Verdict::Gives(0),
+        _ => Verdict::Wrong,
     }
-    let is_small = code < FINISH;
-    if is_small {
-        let is_zeros = code == bias;
-        if is_zeros {
-            return Verdict::Gives(0);
-        }
-    }
-    Verdict::Wrong
 }
 
-// What a code says to an element of this kind.
+// What a code says to an element of this kind. (A byte, and no enum: any kind that is not NUMERIC counts as STRING.)
+#[tactic(auto, unfolding(sizes::specs::Basics::pick, case_stream::specs::Stream::says, case_stream::specs::Stream::value))]
 pub fn judge(kind: u8, bias: u8, code: u8) -> Verdict
     ensures { spec.said result ≡ stream.says kind bias code }
 {
-    let is_skip = code == 0;
-    if is_skip {
-        return Verdict::Skip;
-    }
-    let is_finish = code == FINISH;
-    if is_finish {
-        return Verdict::Finish;
-    }
-    let is_block = code == BLOCK;
-    if is_block {
-        return Verdict::Block;
-    }
-    let is_numeric = kind == NUMERIC;
-    if is_numeric {
-        numeric(bias, code)
-    } else {
-        string(bias, code)
+    match code {
+        0 => Verdict::Skip,
+        FINISH => Verdict::Finish,
+        BLOCK => Verdict::Block,
+        _ if kind == NUMERIC => numeric(bias, code),
+        _ => string(bias, code),
     }
 }

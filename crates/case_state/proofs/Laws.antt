@@ -1,4 +1,5 @@
 -- The laws of the state and of its test.
 pub mod Counting
+pub mod Phases
 pub mod Tests
 pub mod Valid

@@ -1,2 +1,3 @@
+pub mod Phases
 pub mod Cursor
 pub mod Tests

@@ -2,8 +2,11 @@
 // `case_stream`'s machine it stands for.
 #![tactic(auto)]
 
+mod phases; // phases of a state
 pub mod powers; // powers of 256
 pub mod valid; // whether a state is one
+
+pub use phases::Phase;
 
 // ---- the numbers of 004 and of document 02: `case_stream/specs/Stream.antt` has the same ones for the contracts
 
@@ -15,7 +18,8 @@ pub const BLOCK: u8 = 253;
 pub const SPACES: u8 = 254;
 
 pub const MISSING: u8 = 255;
-// kinds of elements
+
+// kinds of elements (bytes, and no enum: `start` of `cases` takes them as C gives them, and any other byte gets an answer)
 pub const NUMERIC: u8 = 0;
 
 pub const STRING: u8 = 1;
@@ -25,19 +29,6 @@ pub const MOST_KINDS: usize = 256;
 pub const MOST_BIAS: u32 = 255;
 // the first byte too many
 pub const LIMIT: u32 = 4294967295;
-// refusals: a byte too many, a bad code
-pub const TOO_MANY: u32 = 7;
-
-pub const BAD_CODE: u32 = 22;
-
-// ---- phases of a state: a group's codes are gathered; they act; or reading has stopped: by a 252, by 22, by 7
-
-pub const GATHERS: u32 = 0;
-
-pub const ACTS: u32 = 1;
-
-pub const ENDED: u32 = 252;
-
 // A state but for its kinds and bias: the position in the case, the bytes taken, and the phase. `codes` are those gathered, or still to act, the
 // first of them the lowest byte, `left` of them; `place` is the place of the next code, or of 22; `block` has the `filled` bytes of the
 // next code's block. Whatever is not in use is 0.
@@ -45,7 +36,7 @@ pub const ENDED: u32 = 252;
 pub struct Cursor {
     pub at: usize,
     pub taken: u32,
-    pub phase: u32,
+    pub phase: Phase,
     pub place: u32,
     pub codes: u64,
     pub left: usize,
@@ -53,7 +44,8 @@ pub struct Cursor {
     pub filled: usize,
 }
 
-// The state between calls: the kinds of a case's elements, `count` of them, and the bias; then what the calls change.
+// The state between calls: the kinds of a case's elements, `count` of them, and the bias; then what the calls change. (An array and a count
+// beside it: a state holds its kinds itself, with no heap.)
 #[derive(Clone, Copy)]
 pub struct State {
     pub kinds: [u8; 256],

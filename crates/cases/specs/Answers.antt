@@ -1,6 +1,6 @@
 -- What `start`, `feed` and `finish` answer (document 02, T-05; document 01: "All refusals return the number, the place"), as equations over the
 -- machine of `case_stream`.
-use Rattle.std.specs.Prelude.{◌≡◌, Bool, true, false, List, [], ◌∷◌, ◌++◌, ℕ, zero, suc, ◌-◌, ◌/◌, ◌≤◌, eqb, leb, ltb, length, take, drop, replicate}
+use Rattle.std.specs.Prelude.{◌≡◌, Bool, true, false, List, [], ◌∷◌, ◌++◌, ℕ, zero, suc, ◌-◌, ◌/◌, ◌≤◌, eqb, leb, ltb, length, take, drop, replicate, Result, Ok, Err, IfErr}
 use Rattle.std.proofs.lemmas.List.Edits.{sets}
 use Rattle.sizes.specs.Basics.{pick}
 use Rattle.case_stream.specs.Stream.{Element, limit, most_kinds, most_bias, ended, bad, full}
@@ -8,31 +8,43 @@ use Rattle.case_stream.specs.Machine as machine
 use Rattle.case_stream.specs.Machine.{gather, acting, stopped, fits, Out, out}
 use Rattle.case_state.specs.declared.Cursor.{Cursor}
 use Rattle.case_state.specs.declared.State.{State}
-use Rattle.cases.specs.declared.Answer.{Answer}
+use Rattle.refusals.specs.declared.Refusal.{Refusal}
+use Rattle.refusals.specs.declared.Reason.{Reason}
+use Rattle.refusals.specs.declared.Reason.TheVariants.{Limit, CaseState, CaseCode, CaseEnd}
 use Rattle.cases.specs.declared.Call.{Call}
-use Rattle.cases.specs.declared.Started.{Started}
+use Rattle.case_state.specs.Phases.{number}
 use Rattle.case_state.specs.Cursor.{gather_at, numbers, view}
 use Rattle.case_state.specs.Tests.{kinds_ok, state_ok}
 use Rattle.cases.specs.Steps.{joined, firsts}
 
+abbrev pub Answer : Type 0
+Answer = Result Unit Refusal
+
 abbrev pub well : Answer
-well = record { refusal = 0; place = 0 }
+well = Ok tt
+
+abbrev pub refused : Reason → ℕ → Refusal
+refused r p = record { reason = r; place = p }
 
 -- "21 at place 0 for a bad kind list or bias at the start, or a state with a number out of range"
-abbrev pub bad_state : Answer
-bad_state = record { refusal = 21; place = 0 }
+abbrev pub bad_state : Refusal
+bad_state = refused CaseState 0
 
 -- "22 .. at the code's position in the whole stream"
-abbrev pub bad_code : ℕ → Answer
-bad_code p = record { refusal = 22; place = p }
+abbrev pub bad_code : ℕ → Refusal
+bad_code p = refused CaseCode p
 
 -- "7 likewise at position 4,294,967,295"
-abbrev pub too_many : Answer
-too_many = record { refusal = 7; place = limit }
+abbrev pub too_many : Refusal
+too_many = refused Limit limit
 
 -- "23, at the number of bytes taken so far"
-abbrev pub too_soon : ℕ → Answer
-too_soon n = record { refusal = 23; place = n }
+abbrev pub too_soon : ℕ → Refusal
+too_soon n = refused CaseEnd n
+
+-- places are 32-bit words
+abbrev pub Placed : {A : Type 0} → Result A Refusal → Type 0
+Placed r = IfErr r (λ e. e.place ≤ limit)
 
 -- ---- the start
 
@@ -48,14 +60,11 @@ cursor₀ = gather_at 0 0 0 0
 unfoldable pub start_ok : List ℕ → ℕ → Bool
 start_ok l bias = pick (ltb 0 (length l)) (pick (leb (length l) most_kinds) (pick (leb bias most_bias) (kinds_ok (length l) (padded (length l) l)) false) false) false
 
--- 21, and a state of zeros
-abbrev pub refused_start_answer : Started
-refused_start_answer = record { answer = bad_state; state = record { kinds = padded 0 []; count = 0; bias = 0; cursor = cursor₀ } }
+abbrev pub started : List ℕ → ℕ → State
+started l bias = record { kinds = padded (length l) l; count = length l; bias = bias; cursor = cursor₀ }
 
-unfoldable pub start_of : List ℕ → ℕ → Started
-start_of l bias = pick (start_ok l bias)
-    (record { answer = well; state = record { kinds = padded (length l) l; count = length l; bias = bias; cursor = cursor₀ } })
-    refused_start_answer
+unfoldable pub start_of : List ℕ → ℕ → Result State Refusal
+start_of l bias = pick (start_ok l bias) (Ok (started l bias)) (Err bad_state)
 
 -- ---- a call
 
@@ -64,8 +73,8 @@ unfoldable pub refusal_of : machine.State → Answer
 refusal_of (gather at n g) = well
 refusal_of (acting at n p c cs k) = well
 refusal_of (stopped at n ended) = well
-refusal_of (stopped at n (bad p)) = bad_code p
-refusal_of (stopped at n full) = too_many
+refusal_of (stopped at n (bad p)) = Err (bad_code p)
+refusal_of (stopped at n full) = Err too_many
 
 -- what the machine does with a state, an input and an output of so many bytes: room for an element is eight bytes
 unfoldable pub fed_of : State → List ℕ → ℕ → Out
@@ -91,7 +100,7 @@ answered s input x = record {
 
 -- 21 with nothing taken or written and the state as it was; or what the machine does
 unfoldable pub call_of : State → List ℕ → ℕ → Call
-call_of s input bytes = pick (state_ok s) (answered s input (fed_of s input bytes)) (record { state = s; answer = bad_state; taken = 0; written = 0 })
+call_of s input bytes = pick (state_ok s) (answered s input (fed_of s input bytes)) (record { state = s; answer = Err bad_state; taken = 0; written = 0 })
 
 -- the elements stand at the output's front, and "output beyond the elements stays"
 unfoldable pub output_of : State → List ℕ → List ℕ → List ℕ
@@ -114,26 +123,26 @@ pub record Called (s : State) (input o₀ o₁ : List ℕ) (r : Call) : Type 0 w
 -- "23 .. when told of the end before a 252 has acted, if a code is still to act, a group or block unfinished or a case incomplete"
 unfoldable pub ending : machine.State → Answer
 ending (gather zero n []) = well
-ending (gather (suc at) n []) = too_soon n
-ending (gather at n (c ∷ g)) = too_soon n
-ending (acting at n p c cs k) = too_soon n
+ending (gather (suc at) n []) = Err (too_soon n)
+ending (gather at n (c ∷ g)) = Err (too_soon n)
+ending (acting at n p c cs k) = Err (too_soon n)
 ending (stopped at n ended) = well
-ending (stopped at n (bad p)) = bad_code p
-ending (stopped at n full) = too_many
+ending (stopped at n (bad p)) = Err (bad_code p)
+ending (stopped at n full) = Err too_many
 
 unfoldable pub finish_of : State → Answer
-finish_of s = pick (state_ok s) (ending (view s.cursor)) bad_state
+finish_of s = pick (state_ok s) (ending (view s.cursor)) (Err bad_state)
 
--- ---- the same by numbers, as the code has it
+-- ---- the same by phases, as the code has it
 
 unfoldable pub refusal_at : ℕ → ℕ → Answer
-refusal_at phase place = pick (eqb phase 22) (bad_code place) (pick (eqb phase 7) too_many well)
+refusal_at phase place = pick (eqb phase 22) (Err (bad_code place)) (pick (eqb phase 7) (Err too_many) well)
 
 unfoldable pub unfinished_at : ℕ → ℕ → ℕ → ℕ → Answer
-unfinished_at phase left at n = pick (eqb phase 0) (pick (eqb left 0) (pick (eqb at 0) well (too_soon n)) (too_soon n)) (too_soon n)
+unfinished_at phase left at n = pick (eqb phase 0) (pick (eqb left 0) (pick (eqb at 0) well (Err (too_soon n))) (Err (too_soon n))) (Err (too_soon n))
 
 unfoldable pub end_where : Cursor → Answer
-end_where c = pick (eqb c.phase 252) well
-    (pick (eqb c.phase 22) (refusal_at c.phase c.place)
-    (pick (eqb c.phase 7) (refusal_at c.phase c.place)
-    (unfinished_at c.phase c.left c.at c.taken)))
+end_where c = pick (eqb (number c.phase) 252) well
+    (pick (eqb (number c.phase) 22) (refusal_at (number c.phase) c.place)
+    (pick (eqb (number c.phase) 7) (refusal_at (number c.phase) c.place)
+    (unfinished_at (number c.phase) c.left c.at c.taken)))

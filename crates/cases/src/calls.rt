@@ -6,26 +6,28 @@ ghost use Rattle.cases.specs.Laws.Loop.{Gone};
 
 use crate::bytes::put;
 use crate::steps::{give, stride};
-use crate::{Fed, Gave};
 use case_state::Cursor;
 
-// An element is written, if there is one; how many there are then.
-fn emit(output: &mut [u8], w: usize, writes: bool, x: u64) -> usize
-    requires { 8 * w + 8 ≤ length output.old }
-    ensures { (output.new ≡ spec.emitted output.old w writes x) × (result ≡ spec.counted w writes) }
-{
-    if writes {
-        put(output, 8 * w, x);
-        return w + 1;
-    }
-    w
+// Where a call has come to: bytes taken of its input, elements written to its output.
+#[derive(Clone, Copy)]
+pub struct Fed {
+    pub cursor: Cursor,
+    pub taken: usize,
+    pub written: usize,
 }
 
-// "while no further element fits it takes no byte and acts on no code"
-fn goes_on(goes: bool, w: usize, room: usize) -> bool
-    ensures { result ≡ spec.goes_on goes w room }
+// An element is written, if there is one; how many there are then.
+fn emit(output: &mut [u8], w: usize, element: Option<u64>) -> usize
+    requires { 8 * w + 8 ≤ length output.old }
+    ensures { (output.new ≡ spec.emitted output.old w element) × (result ≡ spec.counted w element) }
 {
-    if goes { w < room } else { false }
+    match element {
+        Some(x) => {
+            put(output, 8 * w, x);
+            w + 1
+        }
+        None => w,
+    }
 }
 
 // Codes that give elements, as long as there is one and an element fits. No byte is taken, so there is little to hold at a time.
@@ -36,27 +38,23 @@ fn give_all(
     start: Cursor,
     output: &mut [u8],
     from: usize,
-) -> Gave
+) -> (Cursor, usize)
     requires { (count ≤ 256) × Good count start × (from < length output.old / 8) }
-    ensures { Gone (spec.firsts count kinds.now) count bias (length output.old / 8) output.old start from output.new result.cursor result.written }
+    ensures { Gone (spec.firsts count kinds.now) count bias (length output.old / 8) output.old start from output.new result.0 result.1 }
 {
     let room = output.len() / 8;
     let mut c = start;
-    let mut w = from;
-    let mut going = true;
-    while going {
-        let at = c.at;
-        let m = give(kinds[at], count, bias, c);
-        w = emit(output, w, m.writes, m.element);
-        going = goes_on(m.goes, w, room);
-        c = m.cursor;
+    for w in from..room {
+        let Some((next, element)) = give(kinds[c.at], count, bias, c) else {
+            return (c, w);
+        };
+        put(output, 8 * w, element);
+        c = next;
     }
-    Gave {
-        cursor: c,
-        written: w,
-    }
+    (c, room)
 }
 
+// "while no further element fits it takes no byte and acts on no code"
 pub fn run(
     kinds: &[u8; 256],
     count: usize,
@@ -73,20 +71,17 @@ pub fn run(
     let mut c = start;
     let mut i: usize = 0;
     let mut w: usize = 0;
-    let mut going = 0 < room;
-    while going {
-        let gave = give_all(kinds, count, bias, c, output, w);
-        c = gave.cursor;
-        w = gave.written;
+    while w < room {
+        let (next, written) = give_all(kinds, count, bias, c, output, w);
+        c = next;
+        w = written;
         if w < room {
-            let at = c.at;
-            let m = stride(kinds[at], count, bias, c, input, i);
-            w = emit(output, w, m.writes, m.element);
+            let Some(m) = stride(kinds[c.at], count, bias, c, input, i) else {
+                break;
+            };
+            w = emit(output, w, m.element);
             i += m.takes;
-            going = goes_on(m.goes, w, room);
             c = m.cursor;
-        } else {
-            going = false;
         }
     }
     Fed {

@@ -5,7 +5,7 @@ ghost use Rattle.case_state.specs.Cursor as numbers;
 ghost use Rattle.cases.specs.Steps as spec;
 
 use case_state::powers::power;
-use case_state::{ACTS, Cursor, GATHERS};
+use case_state::{Cursor, Phase};
 
 // Codes that act next, the first of them at this place.
 pub fn acting(at: usize, n: u32, place: u32, codes: u64, left: usize) -> Cursor
@@ -14,7 +14,7 @@ pub fn acting(at: usize, n: u32, place: u32, codes: u64, left: usize) -> Cursor
     Cursor {
         at,
         taken: n,
-        phase: ACTS,
+        phase: Phase::Acts,
         place,
         codes,
         left,
@@ -24,13 +24,13 @@ pub fn acting(at: usize, n: u32, place: u32, codes: u64, left: usize) -> Cursor
 }
 
 // Codes that are gathered.
-fn gathering(at: usize, n: u32, codes: u64, left: usize) -> Cursor
+pub fn gathering(at: usize, n: u32, codes: u64, left: usize) -> Cursor
     ensures { result ≡ numbers.gather_at at n left codes }
 {
     Cursor {
         at,
         taken: n,
-        phase: GATHERS,
+        phase: Phase::Gathers,
         place: 0,
         codes,
         left,
@@ -40,29 +40,27 @@ fn gathering(at: usize, n: u32, codes: u64, left: usize) -> Cursor
 }
 
 // A group with one more code, which act once there are eight.
+#[tactic(auto, unfolding(sizes::specs::Basics::pick))]
 pub fn gathered(c: Cursor, b: u8) -> Cursor
     requires { (c.left < 8) × (c.codes < 256 ^ c.left) × (c.taken < stream.limit) × (c.left ≤ c.taken) }
     ensures { result ≡ spec.gather_byte c b }
 {
-    let left = c.left;
-    let codes = c.codes + (b as u64) * power(left);
-    let short = left < 7;
-    if short {
-        gathering(c.at, c.taken + 1, codes, left + 1)
+    let codes = c.codes + (b as u64) * power(c.left);
+    if c.left < 7 {
+        gathering(c.at, c.taken + 1, codes, c.left + 1)
     } else {
         acting(c.at, c.taken + 1, c.taken - 7, codes, 8)
     }
 }
 
 // The next code has acted: the position in the case and the bytes taken are given.
+#[tactic(auto, unfolding(sizes::specs::Basics::pick))]
 pub fn passed(c: Cursor, at: usize, n: u32) -> Cursor
     requires { c.place < stream.limit }
     ensures { result ≡ spec.passed c at n }
 {
-    let left = c.left;
-    let several = 1 < left;
-    if several {
-        acting(at, n, c.place + 1, c.codes / 256, left - 1)
+    if 1 < c.left {
+        acting(at, n, c.place + 1, c.codes / 256, c.left - 1)
     } else {
         gathering(at, n, 0, 0)
     }
@@ -76,7 +74,7 @@ pub fn blocked(c: Cursor, block: u64) -> Cursor
     Cursor {
         at: c.at,
         taken: c.taken + 1,
-        phase: ACTS,
+        phase: Phase::Acts,
         place: c.place,
         codes: c.codes,
         left: c.left,
@@ -86,7 +84,7 @@ pub fn blocked(c: Cursor, block: u64) -> Cursor
 }
 
 // Reading stops for good.
-pub fn stopped(c: Cursor, phase: u32, place: u32) -> Cursor
+pub fn stopped(c: Cursor, phase: Phase, place: u32) -> Cursor
     ensures { result ≡ spec.stop_at c phase place }
 {
     Cursor {

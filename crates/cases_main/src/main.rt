@@ -4,8 +4,8 @@
 #![tactic(auto)]
 
 use case_state::State;
-use cases::Call;
-use layout::number::{any, at_most, left, peek};
+use cases::{Answer, Call};
+use layout::number::{any, left, peek};
 use layout::{LITTLE, Span, Step};
 use regions::region::{bytes, part};
 use std::io;
@@ -18,23 +18,23 @@ fn number(rt: &impl Print, n: u64) -> io::Result<()> {
     print!(rt; " {n}")
 }
 
-// Element i of n, as the number that its bytes spell, the lowest first.
-fn element(rt: &impl Print, s: &[u8], i: usize, n: usize) -> io::Result<()> {
-    if i < n {
-        number(rt, peek(s, Ok(at_most(i, 7) * 8), LITTLE, 8))?;
+// The first n elements, of at most eight, as the numbers that their bytes spell, the lowest first.
+fn elements(rt: &impl Print, s: &[u8], n: usize) -> io::Result<()> {
+    for i in 0..n.min(8) {
+        number(rt, peek(s, Ok(8 * i), LITTLE, 8))?;
     }
     Ok(())
 }
 
-fn elements(rt: &impl Print, s: &[u8], n: usize) -> io::Result<()> {
-    element(rt, s, 0, n)?;
-    element(rt, s, 1, n)?;
-    element(rt, s, 2, n)?;
-    element(rt, s, 3, n)?;
-    element(rt, s, 4, n)?;
-    element(rt, s, 5, n)?;
-    element(rt, s, 6, n)?;
-    element(rt, s, 7, n)
+// The number of a refusal, or 0, and its place.
+fn answer(rt: &impl Print, answer: Answer) -> io::Result<()> {
+    match answer {
+        Ok(()) => text(rt, b" 0 0"),
+        Err(refusal) => {
+            number(rt, refusal.reason.number() as u64)?;
+            number(rt, refusal.place as u64)
+        }
+    }
 }
 
 // One call: the state after it, and whether it took or wrote something and has no refusal.
@@ -47,61 +47,40 @@ struct Turned {
 
 // The line of a call, and how it goes on.
 fn line(rt: &impl Print, call: Call, out: &[u8]) -> io::Result<Turned> {
-    let answer = call.answer;
-    let state = call.state;
     text(rt, b"feed")?;
-    number(rt, answer.refusal as u64)?;
-    number(rt, answer.place as u64)?;
+    answer(rt, call.answer)?;
     number(rt, call.taken as u64)?;
     number(rt, call.written as u64)?;
     elements(rt, out, call.written)?;
     text(rt, b"\n")?;
     let some = call.taken != 0 || call.written != 0;
     Ok(Turned {
-        state,
+        state: call.state,
         taken: call.taken,
-        goes_on: some && answer.refusal == 0,
+        goes_on: some && call.answer.is_ok(),
     })
 }
 
-fn no_room(rt: &impl Print, state: State, input: &[u8]) -> io::Result<Turned> {
-    let mut out = [0u8; 7];
-    let call = cases::feed(state, input, &mut out);
-    line(rt, call, &out)
-}
-
-fn one_element(rt: &impl Print, state: State, input: &[u8]) -> io::Result<Turned> {
-    let mut out = [0u8; 8];
-    let call = cases::feed(state, input, &mut out);
-    line(rt, call, &out)
-}
-
-fn eight_elements(rt: &impl Print, state: State, input: &[u8]) -> io::Result<Turned> {
-    let mut out = [0u8; 64];
-    let call = cases::feed(state, input, &mut out);
-    line(rt, call, &out)
-}
-
+// A call with an output of no room, or room for one element or eight.
 fn turn(rt: &impl Print, state: State, input: &[u8], room: usize) -> io::Result<Turned> {
-    if room == 0 {
-        no_room(rt, state, input)
-    } else if room == 1 {
-        one_element(rt, state, input)
-    } else {
-        eight_elements(rt, state, input)
-    }
+    let mut out = [0u8; 64];
+    let bytes = match room {
+        0 => 7,
+        1 => 8,
+        _ => 64,
+    };
+    let call = cases::feed(state, input, &mut out[..bytes]);
+    line(rt, call, &out[..bytes])
 }
 
 // Past the bytes that a call took.
 fn past(s: &[u8], at: usize, taken: usize) -> usize {
-    at + at_most(taken, left(s, at))
+    at + taken.min(left(s, at))
 }
 
 fn ended(rt: &impl Print, state: State) -> io::Result<()> {
-    let end = cases::finish(state);
     text(rt, b"end")?;
-    number(rt, end.refusal as u64)?;
-    number(rt, end.place as u64)?;
+    answer(rt, cases::finish(state))?;
     text(rt, b"\n")
 }
 
@@ -110,7 +89,7 @@ fn calls(rt: &impl Print, state: State, stream: &[u8], cut: usize, room: usize) 
     let mut state = state;
     let mut at: usize = 0;
     for _ in 0..512 {
-        let offered = at_most(cut, left(stream, at));
+        let offered = cut.min(left(stream, at));
         let t = turn(rt, state, layout::slice::part(stream, at, offered), room)?;
         state = t.state;
         at = past(stream, at, t.taken);
@@ -129,17 +108,18 @@ fn stream(
     room: u64,
     s: &[u8],
 ) -> io::Result<()> {
-    let started = cases::start(kinds, at_most(bias as usize, 65535) as u32);
-    let answer = started.answer;
     text(rt, b"start")?;
-    number(rt, answer.refusal as u64)?;
-    number(rt, answer.place as u64)?;
-    text(rt, b"\n")?;
-    if answer.refusal == 0 {
-        let state = started.state;
-        calls(rt, state, s, cut as usize, room as usize)?;
+    match cases::start(kinds, bias.min(65535) as u32) {
+        Ok(state) => {
+            answer(rt, Ok(()))?;
+            text(rt, b"\n")?;
+            calls(rt, state, s, cut as usize, room as usize)
+        }
+        Err(refusal) => {
+            answer(rt, Err(refusal))?;
+            text(rt, b"\n")
+        }
     }
-    Ok(())
 }
 
 // The stream that starts at a place, and where the next starts.

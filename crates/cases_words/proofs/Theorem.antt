@@ -1,5 +1,5 @@
 -- T-05's theorem of the functions for other languages, over chains of their calls: each is lent the words that the call before it left.
-use Rattle.std.specs.Prelude.{◌≡◌, refl, true, false, List, [], ◌++◌, ℕ, ◌-◌, ◌≤◌, eqb, length, take, drop, get_or}
+use Rattle.std.specs.Prelude.{◌≡◌, refl, true, false, List, [], ◌++◌, ℕ, ◌-◌, ◌≤◌, length, take, drop, get_or}
 use Rattle.std.proofs.Common.{sym, ap, ◌∙◌, arith, length-append, take_at, length-take-le, leb-true}
 use Rattle.std.proofs.lemmas.List.{length-replicate}
 use Rattle.sizes.specs.Basics.{pick}
@@ -10,14 +10,13 @@ use Rattle.case_state.specs.declared.Cursor.{Cursor}
 use Rattle.case_state.specs.declared.State.{State}
 use Rattle.case_state.specs.Cursor.{numbers, view}
 use Rattle.case_state.specs.Tests.{state_ok}
-use Rattle.cases.specs.declared.Answer.{Answer}
 use Rattle.cases.specs.declared.Call.{Call}
-use Rattle.cases.specs.Laws.Lasting.{start_parts, start_is, start_lasts}
-use Rattle.cases.specs.Answers.{padded, cursor₀, start_ok, start_of, refusal_of, state_after, not_taken, elements, fed_of, answered, call_of, Called}
+use Rattle.cases.specs.Laws.Lasting.{start_parts, start_lasts}
+use Rattle.cases.specs.Answers.{Answer, padded, cursor₀, start_ok, start_of, refusal_of, state_after, not_taken, elements, fed_of, answered, call_of, Called}
 use Rattle.cases.specs.Theorem as code
 use Rattle.cases.specs.Theorem.{with_it}
 use Rattle.cases_words.specs.StateWords.{state_words, state_words_of, state_of}
-use Rattle.cases_words.specs.Calls.{short_answer, call_answer, roomy, Started, Fed}
+use Rattle.cases_words.specs.Calls.{short_answer, call_answer, no_state, roomy, Started, Fed}
 use Rattle.cases_words.proofs.Laws.Arrays.{kinds_long, state_long}
 use Rattle.cases_words.proofs.Laws.Back.{state_back}
 
@@ -51,7 +50,7 @@ pub record Ended (ws s ws' rest : List ℕ) (es : List Element) : Type 0 where
 -- ---- a call
 
 -- what a machine's state answers is never 21
-never_21 : (m : Machine) → eqb (refusal_of m).refusal 21 ≡ false
+never_21 : (m : Machine) → no_state (refusal_of m) ≡ false
 unfolding refusal_of
 never_21 (gather at n g) = refl
 never_21 (acting at n p c cs k) = refl
@@ -185,7 +184,7 @@ unfolding start_of pick
 means_of l bias ok {state} {answer} {state'} room f {ws' = ws'} {rest = rest} {es = es} x =
     let k = padded (length l) l in
     let long = padded_long l (leb-true (length l) 256 (start_parts l bias ok).1) in
-    let fine : state_ok (with_it k (length l) bias cursor₀) ≡ true = rw (start_is l bias ok) at (start_lasts l bias ok) in
+    let fine : state_ok (with_it k (length l) bias cursor₀) ≡ true = start_lasts l bias ok in
     let words : state' ≡ state_words_of (with_it k (length l) bias cursor₀) ++ drop state_words state = rw (room, ok) at f.settles in
     let is : state_of state' ≡ with_it k (length l) bias cursor₀ = rw words (state_back (with_it k (length l) bias cursor₀) fine (drop state_words state) long) in
     let e = ended_of k (length l) bias long cursor₀ is fine x in

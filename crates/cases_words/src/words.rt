@@ -1,12 +1,11 @@
 // A state from words, and the words of a state.
-ghost use Rattle.std.specs.Prelude.{◌≡◌, true, ◌++◌, min, ◌+◌, ◌≤◌, ◌<◌, length, drop, get_or, leb};
-ghost use Rattle.sizes.specs.Basics.{pick};
-ghost use Rattle.std.specs.Prelude.{Ok, Err};
+ghost use Rattle.std.specs.Prelude.{◌≡◌, true, ◌++◌, ℕ, Ok, Err, min, ◌+◌, ◌≤◌, ◌<◌, length, drop, get_or, leb};
+ghost use Rattle.layout.specs.Words.{word32};
 ghost use Rattle.store.specs.Puts.{PutsWords};
 ghost use Rattle.cases.specs.Steps.{firsts};
 ghost use Rattle.cases_words.specs.StateWords as spec;
 
-use case_state::{Cursor, State};
+use case_state::{Cursor, Phase, State};
 use layout::Step;
 use store::words::put;
 
@@ -17,119 +16,110 @@ const FIRST_KIND: usize = 12;
 fn word(words: &[u32], i: usize) -> u32
     ensures { result ≡ get_or words.now i 0 }
 {
-    if i < words.len() { words[i] } else { 0 }
+    words.get(i).copied().unwrap_or(0)
 }
 
 // Two words as one number.
 fn joint(low: u32, high: u32) -> u64
     ensures { result ≡ spec.joint low high }
 {
-    low as u64 + 4294967296 * (high as u64)
+    u64::from(low) + 4294967296 * u64::from(high)
+}
+
+// A number as a word: its lowest 32 bits.
+pub fn low(n: usize) -> u32
+    ensures { result ≡ word32 n }
+{
+    (n % 4294967296) as u32
 }
 
 // A word as a byte: one that is no byte becomes 255, which is no kind.
 fn narrow(w: u32) -> u8
     ensures { result ≡ min w 255 }
 {
-    if w <= 255 { w as u8 } else { 255 }
+    w.min(255) as u8
 }
 
 fn kinds_of(words: &[u32]) -> [u8; 256]
     ensures { result ≡ spec.kinds_of words.now }
 {
-    let mut k = [0u8; 256];
-    let mut i: usize = 0;
-    while i < 256 {
-        k[i] = narrow(word(words, FIRST_KIND + i));
-        i += 1;
+    let mut kinds = [0u8; 256];
+    for i in 0..256 {
+        kinds[i] = narrow(word(words, FIRST_KIND + i));
     }
-    k
+    kinds
 }
 
+#[tactic(auto, unfolding(crate::specs::StateWords::cursor_of))]
 fn cursor_of(words: &[u32]) -> Cursor
     ensures { result ≡ spec.cursor_of words.now }
 {
-    let codes = joint(word(words, 6), word(words, 7));
-    let block = joint(word(words, 9), word(words, 10));
     Cursor {
         at: word(words, 2) as usize,
         taken: word(words, 3),
-        phase: word(words, 4),
+        phase: Phase::from(word(words, 4)),
         place: word(words, 5),
-        codes,
+        codes: joint(word(words, 6), word(words, 7)),
         left: word(words, 8) as usize,
-        block,
+        block: joint(word(words, 9), word(words, 10)),
         filled: word(words, 11) as usize,
     }
 }
 
 // The state that words stand for.
+#[tactic(auto, unfolding(crate::specs::StateWords::state_of))]
 pub fn load(words: &[u32]) -> State
     ensures { result ≡ spec.state_of words.now }
 {
-    let kinds = kinds_of(words);
-    let cursor = cursor_of(words);
     State {
-        kinds,
+        kinds: kinds_of(words),
         count: word(words, 0) as usize,
         bias: word(words, 1),
-        cursor,
+        cursor: cursor_of(words),
     }
-}
-
-// A byte as a word.
-fn wide(x: u8) -> u32
-    ensures { result ≡ x }
-{
-    x as u32
 }
 
 // Kinds as words.
 fn widened(kinds: &[u8; 256]) -> [u32; 256]
     ensures { result ≡ firsts 256 kinds.now }
 {
-    let mut k = [0u32; 256];
-    let mut i: usize = 0;
-    while i < 256 {
-        k[i] = wide(kinds[i]);
-        i += 1;
+    let mut words = [0u32; 256];
+    for i in 0..256 {
+        words[i] = u32::from(kinds[i]);
     }
-    k
+    words
 }
 
 // The words of a state, at the front of an area.
-fn save(out: &mut [u32], s: State) -> Step
+fn put_state(out: &mut [u32], s: State) -> Step
     ensures { PutsWords (spec.state_words_of s) out.old (Ok 0) out.new result }
 {
     let c = s.cursor;
-    let kinds = s.kinds;
     let st = put(
         out,
         Ok(0),
         &[
-            (s.count % 4294967296) as u32,
+            low(s.count),
             s.bias,
-            (c.at % 4294967296) as u32,
+            low(c.at),
             c.taken,
-            c.phase,
+            c.phase.number(),
             c.place,
             (c.codes % 4294967296) as u32,
             (c.codes / 4294967296) as u32,
-            (c.left % 4294967296) as u32,
+            low(c.left),
             (c.block % 4294967296) as u32,
             (c.block / 4294967296) as u32,
-            (c.filled % 4294967296) as u32,
+            low(c.filled),
         ],
     );
-    put(out, st, &widened(&kinds))
+    put(out, st, &widened(&s.kinds))
 }
 
-// The words of a state, if they are to be kept; else the area as it was.
-pub fn keep(out: &mut [u32], kept: bool, s: State)
+// The same where they fit.
+pub fn save(out: &mut [u32], s: State)
     requires { leb 268 (length out.old) ≡ true }
-    ensures { out.new ≡ pick kept (spec.state_words_of s ++ drop 268 out.old) out.old }
+    ensures { out.new ≡ spec.state_words_of s ++ drop 268 out.old }
 {
-    if kept {
-        save(out, s);
-    }
+    let _ = put_state(out, s);
 }

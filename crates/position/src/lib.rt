@@ -198,7 +198,8 @@ impl<'a> Table<'a> {
 
 // ---- positions, and back
 
-// The layer, row and column position of the cell with index k, in a table with these n and axes; or why there is none, at place 0.
+// The layer, row and column position of the cell with index k, in a table with these n and axes; or why there is none, at place 0. No
+// struct for the table: the parameters are those of `digarumbi_position`.
 pub fn position_of(
     ns: &[u32],
     layers: u32,
@@ -220,7 +221,8 @@ pub fn position_of(
     })
 }
 
-// The index of the cell at these positions, in a table with these n and axes; or why there is none, at place 0.
+// The index of the cell at these positions, in a table with these n and axes; or why there is none, at place 0. The parameters are those of
+// `digarumbi_index`.
 pub fn index_of(
     ns: &[u32],
     layers: u32,

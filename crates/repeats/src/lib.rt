@@ -33,7 +33,7 @@ const SHORT_SLOTS: usize = BUCKETS + 4 * SHORT_UP_TO;
 const LONG_SLOTS: usize = BUCKETS + 4 * MOST_CELLS;
 
 // The place of the first number that stands at an earlier place too, or how many numbers there are where none does; and how many steps
-// it took to find.
+// it took to find. No Option for the place: `Answered`, which `first_repeat` promises, speaks of the place after the last where none repeats.
 #[derive(Clone, Copy)]
 pub struct Repeat {
     pub at: usize,

@@ -1,7 +1,7 @@
 -- The code's steps are the machine's.
 use Rattle.std.proofs.Math.Path.{◌≡◌, refl}
 use Rattle.std.proofs.Common.{sym, ap, ◌∙◌, mod-lt, mod-eq_of_lt, arith}
-use Rattle.std.specs.Prelude.{Bool, true, false, eqb, ltb, get_or}
+use Rattle.std.specs.Prelude.{Bool, true, false, eqb, ltb, get_or, Option, None}
 use mathlib.Core.List.{List, [], ◌∷◌}
 use Prim.Native.Nat.{ℕ, suc, ◌+◌, ◌-◌, ◌*◌, ◌/◌, ◌%◌, ◌^◌, ◌≤◌, ◌<◌}
 use Rattle.std.proofs.Math.Nat.{mod-le, mod_self}
@@ -12,9 +12,11 @@ use Rattle.grammar.specs.Laws.Layout.Digits.{length_le}
 use Rattle.case_stream.specs.Stream.{limit, block_code, Says, skip, finish, block, wrong, gives, says, value, numeric, string}
 use Rattle.case_stream.specs.Machine.{acting, goes, after, takes, next, blocked, acts, moves}
 use Rattle.case_state.specs.declared.Cursor.{Cursor}
-use Rattle.cases.specs.declared.Moved.{Moved}
+use Rattle.cases.specs.declared.steps.Moved.{Moved}
+use Rattle.case_state.specs.declared.phases.Phase.TheVariants.{Ended, BadCode, TooMany}
+use Rattle.case_state.specs.Phases.{number}
 use Rattle.case_state.specs.Cursor.{stop_of, view, Counts, Good, by_252, by_22, by_7}
-use Rattle.cases.specs.Steps.{gather_byte, passed, block_byte, stop_at, offered, wrote, step_of, halting, silent, writing, Advances}
+use Rattle.cases.specs.Steps.{gather_byte, passed, block_byte, stop_at, offered, elements_of, step_of, silent, writing, Advances}
 use Rattle.cases.specs.Laws.Digits.{le_snoc, snoc_in}
 use Rattle.case_state.proofs.Laws.Counting.{counts_skip, counts_gives, counts_block, counts_byte, counts_place}
 use Rattle.cases.specs.Laws.Goods.{good_act, good_rest, good_passed, good_gathered, view_gather, view_acting, view_stopped, view_passed, view_gathered}
@@ -60,41 +62,39 @@ says_block kind bias c h = by (eqb c 0) (eqb c 252) (eqb c 253) refl h
 -- ---- 2. the steps
 
 module _ (kind count bias : ℕ) (c : Cursor) (b : ℕ) (g : Good count c) where
-  abbrev At : Bool → Moved → Type 0
+  abbrev At : Bool → Option Moved → Type 0
   At more m = Advances kind count bias c more b m
 
-  pub resting : (more : Bool) → eqb c.phase 0 ≡ false → eqb c.phase 1 ≡ false → At more (halting c)
+  pub resting : (more : Bool) → eqb (number c.phase) 0 ≡ false → eqb (number c.phase) 1 ≡ false → At more None
   unfolding step_of pick moves
-  resting more e f = record { still = λ q. refl; inside = omega arith; good = g; is = λ kinds l k s. rw (view_stopped c e f) }
+  resting more e f = record { moved = tt; is = λ kinds l k s. rw (view_stopped c e f) }
 
-  pub waiting : eqb c.phase 0 ≡ true → At false (halting c)
+  pub waiting : number c.phase ≡ 0 → At false None
   unfolding step_of pick moves takes offered
-  waiting e = record { still = λ q. refl; inside = omega arith; good = g; is = λ kinds l k s. rw (view_gather c e) }
+  waiting e = record { moved = tt; is = λ kinds l k s. rw (view_gather c e) }
 
-  pub gather_full : c.taken ≤ limit → eqb c.phase 0 ≡ true → ltb c.taken limit ≡ false → At true (silent (stop_at c 7 0) 0)
-  unfolding step_of wrote pick moves takes offered view stop_of
+  pub gather_full : c.taken ≤ limit → number c.phase ≡ 0 → ltb c.taken limit ≡ false → At true (silent (stop_at c TooMany 0) 0)
+  unfolding step_of elements_of pick moves takes offered view stop_of
   gather_full u e f =
       let n : c.taken ≡ limit = omega (arith, ltb-false c.taken limit f) in
-      record { still = λ q. cc; inside = omega arith; good = good_rest count c.at c.taken 7 0 g.at_in (omega arith) (by_7 n); is = λ kinds l k s. rw (e, f) }
+      record { moved = (omega arith, good_rest count c.at c.taken TooMany 0 g.at_in (omega arith) (by_7 n)); is = λ kinds l k s. rw (e, f) }
 
-  pub gathering : b < 256 → eqb c.phase 0 ≡ true → ltb c.taken limit ≡ true → At true (silent (gather_byte c b) 1)
-  unfolding step_of wrote pick moves takes offered
+  pub gathering : b < 256 → number c.phase ≡ 0 → ltb c.taken limit ≡ true → At true (silent (gather_byte c b) 1)
+  unfolding step_of elements_of pick moves takes offered
   gathering h e f =
-      let q = g.gathers (eqb-true c.phase 0 e) in
+      let q = g.gathers e in
       let l₈ : c.left < 8 = omega (arith, q.0) in
       record {
-        still = λ q. cc;
-        inside = omega arith;
-        good = good_gathered count c b g.at_in q.0 q.1 g.codes_in h;
+        moved = (omega arith, good_gathered count c b g.at_in q.0 q.1 g.codes_in h);
         is = λ kinds l k s. rw (view_gather c e, f, view_gathered c b l₈ g.codes_in h);
       }
 
-  module _ (e₀ : eqb c.phase 0 ≡ false) (e₁ : eqb c.phase 1 ≡ true) where
+  module _ (e₁ : number c.phase ≡ 1) where
     abbrev rest : List ℕ
     rest = le (c.left - 1) (c.codes / 256)
 
     shape : (c.left ≡ 8 - c.place % 8) × (c.filled ≡ c.taken % 8) × (0 < c.filled → c.codes % 256 ≡ block_code) × Counts count c.at c.place c.taken
-    shape = g.acts (eqb-true c.phase 1 e₁)
+    shape = g.acts e₁
 
     some_left : 0 < c.left
     some_left = omega (arith, shape.0)
@@ -113,32 +113,26 @@ module _ (kind count bias : ℕ) (c : Cursor) (b : ℕ) (g : Good count c) where
     acting_is : (y : Says) → says kind bias (c.codes % 256) ≡ y → (kinds : List ℕ) → get_or kinds c.at 0 ≡ kind → (s : List ℕ)
         → moves kinds bias (view c) s ≡ acts kinds bias y c.at c.taken c.place (c.codes % 256) rest (le c.filled c.block) s
     unfolding moves
-    acting_is y e kinds k s = rw (view_acting c e₀ e₁, k, e)
+    acting_is y e kinds k s = rw (view_acting c e₁, k, e)
 
     pub skipping : (more : Bool) → says kind bias (c.codes % 256) ≡ skip → At more (silent (passed c c.at c.taken) 0)
-    unfolding acts step_of wrote pick
+    unfolding acts step_of elements_of pick
     skipping more e = record {
-      still = λ q. cc;
-      inside = omega arith;
-      good = good_passed count c c.at c.taken g.at_in shape.0 (unbegun e (λ q. let z : ◌≡◌ {A = ℕ} 0 1 = cc in omega arith)) (omega (arith, room_before)) g.codes_in (λ h. counts_skip h shape.3);
+      moved = (omega arith, good_passed count c c.at c.taken g.at_in shape.0 (unbegun e (λ q. let z : ◌≡◌ {A = ℕ} 0 1 = cc in omega arith)) (omega (arith, room_before)) g.codes_in (λ h. counts_skip h shape.3));
       is = λ kinds l k s. acting_is skip e kinds k (offered more b s) ∙ rw (view_passed c c.at c.taken some_left);
     }
 
-    pub finishing : (more : Bool) → says kind bias (c.codes % 256) ≡ finish → At more (silent (stop_at c 252 0) 0)
-    unfolding acts step_of wrote pick view stop_of
+    pub finishing : (more : Bool) → says kind bias (c.codes % 256) ≡ finish → At more (silent (stop_at c Ended 0) 0)
+    unfolding acts step_of elements_of pick view stop_of
     finishing more e = record {
-      still = λ q. cc;
-      inside = omega arith;
-      good = good_rest count c.at c.taken 252 0 g.at_in (omega arith) (by_252 (unbegun e (λ q. let z : ◌≡◌ {A = ℕ} 0 1 = cc in omega arith)) (omega (arith, room_before)));
+      moved = (omega arith, good_rest count c.at c.taken Ended 0 g.at_in (omega arith) (by_252 (unbegun e (λ q. let z : ◌≡◌ {A = ℕ} 0 1 = cc in omega arith)) (omega (arith, room_before))));
       is = λ kinds l k s. acting_is finish e kinds k (offered more b s);
     }
 
-    pub refusing : (more : Bool) → says kind bias (c.codes % 256) ≡ wrong → At more (silent (stop_at c 22 c.place) 0)
-    unfolding acts step_of wrote pick view stop_of
+    pub refusing : (more : Bool) → says kind bias (c.codes % 256) ≡ wrong → At more (silent (stop_at c BadCode c.place) 0)
+    unfolding acts step_of elements_of pick view stop_of
     refusing more e = record {
-      still = λ q. cc;
-      inside = omega arith;
-      good = good_rest count c.at c.taken 22 c.place g.at_in (omega arith) (by_22 c.place (unbegun e (λ q. let z : ◌≡◌ {A = ℕ} 0 1 = cc in omega arith)) shape.3);
+      moved = (omega arith, good_rest count c.at c.taken BadCode c.place g.at_in (omega arith) (by_22 c.place (unbegun e (λ q. let z : ◌≡◌ {A = ℕ} 0 1 = cc in omega arith)) shape.3));
       is = λ kinds l k s. acting_is wrong e kinds k (offered more b s);
     }
 
@@ -150,47 +144,44 @@ module _ (kind count bias : ℕ) (c : Cursor) (b : ℕ) (g : Good count c) where
     next_in = omega (arith, mod-le (c.at + 1) count, room_before)
 
     pub giving : (more : Bool) (x : ℕ) → says kind bias (c.codes % 256) ≡ gives (le 8 x) → At more (writing (passed c ((c.at + 1) % count) c.taken) 0 x)
-    unfolding acts step_of wrote pick next
+    unfolding acts step_of elements_of pick next
     giving more x e = record {
-      still = λ q. cc;
-      inside = omega arith;
-      good = good_passed count c ((c.at + 1) % count) c.taken in_case shape.0 (unbegun e (λ q. let z : ◌≡◌ {A = ℕ} 0 1 = cc in omega arith)) next_in g.codes_in (λ h. counts_gives h shape.3);
+      moved = (omega arith, good_passed count c ((c.at + 1) % count) c.taken in_case shape.0 (unbegun e (λ q. let z : ◌≡◌ {A = ℕ} 0 1 = cc in omega arith)) next_in g.codes_in (λ h. counts_gives h shape.3));
       is = λ kinds l k s. acting_is (gives (le 8 x)) e kinds k (offered more b s) ∙ rw (l, view_passed c ((c.at + 1) % count) c.taken some_left);
     }
 
-    pub block_waiting : says kind bias (c.codes % 256) ≡ block → At false (halting c)
+    pub block_waiting : says kind bias (c.codes % 256) ≡ block → At false None
     unfolding acts step_of pick takes offered
-    block_waiting e = record { still = λ q. refl; inside = omega arith; good = g; is = λ kinds l k s. acting_is block e kinds k [] }
+    block_waiting e = record { moved = tt; is = λ kinds l k s. acting_is block e kinds k [] }
 
-    pub block_full : c.taken ≤ limit → says kind bias (c.codes % 256) ≡ block → ltb c.taken limit ≡ false → At true (silent (stop_at c 7 0) 0)
-    unfolding acts step_of wrote pick takes offered view stop_of
+    pub block_full : c.taken ≤ limit → says kind bias (c.codes % 256) ≡ block → ltb c.taken limit ≡ false → At true (silent (stop_at c TooMany 0) 0)
+    unfolding acts step_of elements_of pick takes offered view stop_of
     block_full u e f =
         let n : c.taken ≡ limit = omega (arith, ltb-false c.taken limit f) in
         record {
-          still = λ q. cc;
-          inside = omega arith;
-          good = good_rest count c.at c.taken 7 0 g.at_in (omega arith) (by_7 n);
+          moved = (omega arith, good_rest count c.at c.taken TooMany 0 g.at_in (omega arith) (by_7 n));
           is = λ kinds l k s. acting_is block e kinds k (b ∷ s) ∙ rw f;
         }
 
     pub blocking : b < 256 → says kind bias (c.codes % 256) ≡ block → ltb c.taken limit ≡ true → ltb c.filled 7 ≡ true → At true (silent (block_byte c b) 1)
-    unfolding acts step_of wrote pick takes offered blocked
+    unfolding acts step_of elements_of pick takes offered blocked
     blocking h e f m =
         let short = ltb-true c.filled 7 m in
         let snoc = le_snoc c.filled c.block b g.block_in h in
         record {
-          still = λ q. cc;
-          inside = omega arith;
-          good = good_act count c.at (c.taken + 1) c.place c.codes c.left (c.block + b * 256 ^ c.filled) (c.filled + 1)
-              g.at_in shape.0 (omega (arith, shape.1)) (λ q. says_block kind bias (c.codes % 256) e) (counts_byte (omega (arith, shape.1)) shape.3)
-              g.codes_in (snoc_in c.filled c.block b g.block_in h);
+          moved = (
+            omega arith,
+            good_act count c.at (c.taken + 1) c.place c.codes c.left (c.block + b * 256 ^ c.filled) (c.filled + 1)
+                g.at_in shape.0 (omega (arith, shape.1)) (λ q. says_block kind bias (c.codes % 256) e) (counts_byte (omega (arith, shape.1)) shape.3)
+                g.codes_in (snoc_in c.filled c.block b g.block_in h),
+          );
           is = λ kinds l k s. acting_is block e kinds k (b ∷ s)
               ∙ rw (f, ← snoc, length_le (suc c.filled) (c.block + b * 256 ^ c.filled), lt-ltb (suc c.filled) 8 (omega arith)) (view_block s);
         }
       where
         view_block : (s : List ℕ) → goes (acting c.at (c.taken + 1) c.place (c.codes % 256) rest (le (suc c.filled) (c.block + b * 256 ^ c.filled))) s []
             ≡ goes (view (block_byte c b)) s []
-        view_block s = rw (view_acting (block_byte c b) refl refl, add-one c.filled)
+        view_block s = rw (view_acting (block_byte c b) refl, add-one c.filled)
 
     -- a block's last m bytes are taken
     pub good_block : (m : ℕ) → c.taken % 8 + m ≡ 8 → Good count (passed c ((c.at + 1) % count) (c.taken + m))
@@ -199,15 +190,13 @@ module _ (kind count bias : ℕ) (c : Cursor) (b : ℕ) (g : Good count c) where
 
     pub written : b < 256 → says kind bias (c.codes % 256) ≡ block → ltb c.taken limit ≡ true → ltb c.filled 7 ≡ false
         → At true (writing (passed c ((c.at + 1) % count) (c.taken + 1)) 1 (c.block + b * 256 ^ c.filled))
-    unfolding acts step_of wrote pick takes offered blocked next
+    unfolding acts step_of elements_of pick takes offered blocked next
     written h e f m =
         let long = ltb-false c.filled 7 m in
         let l₈ : suc c.filled ≡ 8 = omega (arith, shape.1) in
         let snoc = le_snoc c.filled c.block b g.block_in h in
         record {
-          still = λ q. cc;
-          inside = omega arith;
-          good = good_block 1 (omega (arith, shape.1));
+          moved = (omega arith, good_block 1 (omega (arith, shape.1)));
           is = λ kinds l k s. acting_is block e kinds k (b ∷ s)
               ∙ rw (f, ← snoc, length_le (suc c.filled) (c.block + b * 256 ^ c.filled), le-ltb (suc c.filled) 8 (omega arith), l, view_passed c ((c.at + 1) % count) (c.taken + 1) some_left) (ap (λ (w : ℕ). goes (after ((c.at + 1) % count) (c.taken + 1) (c.place + 1) rest) s (le w (c.block + b * 256 ^ c.filled) ∷ [])) l₈);
         }
@@ -221,11 +210,11 @@ pub follow_over : (a n : ℕ) → a < n → n ≤ a + 1 → 0 ≡ (a + 1) % n
 follow_over a n h k = let e : a + 1 ≡ n = omega arith in rw e (sym (mod_self n))
 
 -- the next code's place is no last number, and a block has fewer than eight bytes
-pub place_in : (count : ℕ) (c : Cursor) → Good count c → eqb c.phase 1 ≡ true → c.taken ≤ limit → c.place < limit
-place_in count c g e h = let q = g.acts (eqb-true c.phase 1 e) in omega (arith, counts_place q.3)
+pub place_in : (count : ℕ) (c : Cursor) → Good count c → number c.phase ≡ 1 → c.taken ≤ limit → c.place < limit
+place_in count c g e h = let q = g.acts e in omega (arith, counts_place q.3)
 
-pub filled_in : (count : ℕ) (c : Cursor) → Good count c → eqb c.phase 1 ≡ true → c.filled < 8
-filled_in count c g e = let q = g.acts (eqb-true c.phase 1 e) in omega (arith, q.1)
+pub filled_in : (count : ℕ) (c : Cursor) → Good count c → number c.phase ≡ 1 → c.filled < 8
+filled_in count c g e = let q = g.acts e in omega (arith, q.1)
 
-pub left_in : (count : ℕ) (c : Cursor) → Good count c → eqb c.phase 0 ≡ true → (c.left < 8) × (c.left ≤ c.taken)
-left_in count c g e = let q = g.gathers (eqb-true c.phase 0 e) in (omega (arith, q.0), omega (arith, q.0))
+pub left_in : (count : ℕ) (c : Cursor) → Good count c → number c.phase ≡ 0 → (c.left < 8) × (c.left ≤ c.taken)
+left_in count c g e = let q = g.gathers e in (omega (arith, q.0), omega (arith, q.0))

@@ -1,5 +1,5 @@
 -- T-05: no start that is not refused and no call leaves a state that is 21; a refusal lasts.
-use Rattle.std.specs.Prelude.{◌≡◌, refl, true, List, [], ◌∷◌, ◌++◌, ℕ, zero, suc, ◌+◌, ◌-◌, ◌≤◌, ◌<◌, leb, ltb, length, take, get_or, replicate}
+use Rattle.std.specs.Prelude.{◌≡◌, refl, true, List, [], ◌∷◌, ◌++◌, ℕ, zero, suc, ◌+◌, ◌-◌, ◌≤◌, ◌<◌, leb, ltb, length, take, get_or, replicate, Ok}
 use Rattle.std.proofs.Common.{ap, ◌∙◌, arith, length-take-le, get_or-append-add, take_all, leb-true, eq-eqb}
 use Rattle.std.proofs.lemmas.List.{get_or-replicate}
 use Rattle.sizes.specs.Basics.{pick}
@@ -9,7 +9,7 @@ use Rattle.case_state.specs.declared.State.{State}
 use Rattle.case_state.specs.Cursor.{Good}
 use Rattle.case_state.specs.Tests.{kinds_ok, rest_ok, state_ok, cursor_ok, gather_ok}
 use Rattle.cases.specs.Steps.{firsts}
-use Rattle.cases.specs.Answers.{padded, cursor₀, start_ok, start_of}
+use Rattle.cases.specs.Answers.{padded, cursor₀, start_ok, started, start_of}
 use Rattle.case_state.proofs.Laws.Tests.{both}
 use Rattle.case_state.proofs.Laws.Valid.{complete, state_parts}
 
@@ -29,7 +29,7 @@ first_ok : (count : ℕ) → ltb 0 count ≡ true → cursor_ok count cursor₀ 
 unfolding cursor_ok gather_ok pick
 first_ok count e = rw e
 
-pub start_is : (l : List ℕ) (bias : ℕ) → start_ok l bias ≡ true → (start_of l bias).state ≡ record { kinds = padded (length l) l; count = length l; bias = bias; cursor = cursor₀ }
+pub start_is : (l : List ℕ) (bias : ℕ) → start_ok l bias ≡ true → start_of l bias ≡ Ok (started l bias)
 unfolding start_of pick
 start_is l bias e = rw e
 
@@ -54,11 +54,11 @@ padded_rest l h = rest_zero (most_kinds - length l) (padded (length l) l) (λ j 
         rw e (beyond (length l) (most_kinds - suc j - length l) l (omega arith) (omega arith))
 
 -- a start that is not refused leaves a state
-pub start_lasts : (l : List ℕ) (bias : ℕ) → start_ok l bias ≡ true → state_ok (start_of l bias).state ≡ true
+pub start_lasts : (l : List ℕ) (bias : ℕ) → start_ok l bias ≡ true → state_ok (started l bias) ≡ true
 unfolding state_ok pick
 start_lasts l bias e =
     let p = start_parts l bias e in
-    rw (start_is l bias e) (rw (p.1, p.2, p.3, padded_rest l (leb-true (length l) most_kinds p.1)) (first_ok (length l) p.0))
+    rw (p.1, p.2, p.3, padded_rest l (leb-true (length l) most_kinds p.1)) (first_ok (length l) p.0)
 
 -- the kinds of a state that was started are those of the list
 pub firsts_of : (l r : List ℕ) → firsts (length l) (l ++ r) ≡ l

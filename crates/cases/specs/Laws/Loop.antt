@@ -1,10 +1,9 @@
 -- A call as a loop of steps: what holds whenever the loop's test is reached, and that each turn keeps it.
-use Rattle.std.specs.Prelude.{◌≡◌, Bool, List, [], ◌∷◌, ◌++◌, ltb, take, drop, get_or, set}
+use Rattle.std.specs.Prelude.{◌≡◌, Bool, List, [], ◌∷◌, ◌++◌, ltb, take, drop, get_or, set, Option, None, Some}
 use Rattle.std.proofs.Math.Path.{refl}
 use Rattle.std.proofs.Common.{sym, ap, ◌∙◌, append_assoc, append-nil, length-drop, drop-drop, get_or-drop}
 use Rattle.std.proofs.Math.Bool.{true, false}
-use Rattle.std.proofs.lemmas.Bool.{false≢true}
-use Prim.Native.Nat.{ℕ, zero, suc, ◌+◌, ◌-◌, ◌*◌, ◌/◌, ◌%◌, ◌≤◌, ◌<◌}
+use Prim.Native.Nat.{ℕ, zero, suc, ◌+◌, ◌-◌, ◌*◌, ◌≤◌, ◌<◌}
 use native.Mathlib.Omega.{arith}
 use Rattle.std.proofs.Math.ListN.{length, length-append}
 use Rattle.std.proofs.Math.Seq.{sets, length-sets}
@@ -16,9 +15,9 @@ use Rattle.case_stream.specs.Machine.{State, fits, has, less, halts, moves, step
 use Rattle.case_stream.specs.Laws.Steps.{μ}
 use Rattle.case_stream.proofs.Laws.Steps.{put_nil, put_put, feed_halts}
 use Rattle.case_state.specs.declared.Cursor.{Cursor}
-use Rattle.cases.specs.declared.Moved.{Moved}
+use Rattle.cases.specs.declared.steps.Moved.{Moved}
 use Rattle.case_state.specs.Cursor.{view, Good}
-use Rattle.cases.specs.Steps.{wrote, Strides, Given, emitted, counted, goes_on, joined, firsts, Fed_is}
+use Rattle.cases.specs.Steps.{elements_of, wrote, Strode, Stays, Given, emitted, counted, joined, firsts, Fed_is}
 
 joined_append : (es fs : List Element) → joined (es ++ fs) ≡ joined es ++ joined fs
 unfolding joined
@@ -32,6 +31,11 @@ sets_append (v ∷ vs) ws l i = let e : i + suc (length vs) ≡ suc i + length v
 -- what each turn makes smaller
 unfoldable pub measure : List ℕ → Cursor → ℕ → Bool → ℕ
 measure input c i going = μ (view c) (drop i input) + pick going 1 0
+
+one_at_most : (b : Bool) → pick b 1 0 ≤ 1
+unfolding pick
+one_at_most true = omega arith
+one_at_most false = omega arith
 
 -- ---- 1. the loop
 
@@ -83,8 +87,23 @@ module _ (K : List ℕ) (count bias room : ℕ) (c₀ : Cursor) (input o₀ : Li
     inside = g.inside;
   }
 
+  -- where the machine has no step
+  pub stay : (o : List ℕ) (c : Cursor) (i w : ℕ) → Going K count bias room c₀ input o₀ o c i w true → moves K bias (view c) (drop i input) ≡ halts
+      → Going K count bias room c₀ input o₀ o c i w false
+  stay o c i w g e = record {
+    es = g.es;
+    count_es = g.count_es;
+    bytes = g.bytes;
+    wrote = g.wrote;
+    good = g.good;
+    inside = g.inside;
+    fed = g.fed;
+    roomy = λ q. g.roomy refl;
+    done = λ q. step_some (view c) (drop i input) (room - length g.es) (omega (arith, g.roomy refl, g.count_es)) ∙ e;
+  }
+
   module _ (lK : length K ≡ count) (o : List ℕ) (c : Cursor) (i w : ℕ) (g : Going K count bias room c₀ input o₀ o c i w true)
-      (m : Moved) (a : Strides (get_or K c.at 0) count bias c (drop i input) m) where
+      (m : Moved) (a : Strode (get_or K c.at 0) count bias c (drop i input) m) where
     abbrev s : List ℕ
     s = drop i input
 
@@ -94,29 +113,29 @@ module _ (K : List ℕ) (count bias room : ℕ) (c₀ : Cursor) (input o₀ : Li
     left_is : drop m.takes s ≡ drop (i + m.takes) input
     left_is = drop-drop m.takes i input
 
-    es_count : counted w m.writes ≡ length (g.es ++ wrote m)
-    unfolding counted wrote pick
-    es_count = rw length-append (by m.writes)
+    es_count : counted w m.element ≡ length (g.es ++ wrote m)
+    unfolding counted elements_of
+    es_count = rw length-append (by m.element)
       where
-        by : (t : Bool) → pick t (w + 1) w ≡ length g.es + length (pick t (le 8 m.element ∷ []) [])
-        by true = omega (arith, g.count_es)
-        by false = omega (arith, g.count_es)
+        by : (t : Option ℕ) → counted w t ≡ length g.es + length (elements_of t)
+        by (Some x) = omega (arith, g.count_es)
+        by None = omega (arith, g.count_es)
 
-    es_bytes : length (joined (g.es ++ wrote m)) ≡ 8 * counted w m.writes
-    unfolding counted wrote pick joined
-    es_bytes = rw (joined_append, length-append) (by m.writes)
+    es_bytes : length (joined (g.es ++ wrote m)) ≡ 8 * counted w m.element
+    unfolding counted elements_of joined
+    es_bytes = rw (joined_append, length-append) (by m.element)
       where
-        by : (t : Bool) → length (joined g.es) + length (joined (pick t (le 8 m.element ∷ []) [])) ≡ 8 * pick t (w + 1) w
-        by true = rw (append-nil, length_le) (omega (arith, g.bytes))
-        by false = omega (arith, g.bytes)
+        by : (t : Option ℕ) → length (joined g.es) + length (joined (elements_of t)) ≡ 8 * counted w t
+        by (Some x) = rw (append-nil, length_le) (omega (arith, g.bytes))
+        by None = omega (arith, g.bytes)
 
-    es_wrote : emitted o w m.writes m.element ≡ sets o₀ 0 (joined (g.es ++ wrote m))
-    unfolding emitted wrote pick joined
-    es_wrote = rw (joined_append, sets_append, ← g.wrote, g.bytes) (by m.writes)
+    es_wrote : emitted o w m.element ≡ sets o₀ 0 (joined (g.es ++ wrote m))
+    unfolding emitted elements_of joined
+    es_wrote = rw (joined_append, sets_append, ← g.wrote, g.bytes) (by m.element)
       where
-        by : (t : Bool) → pick t (sets o (8 * w) (le 8 m.element)) o ≡ sets o (0 + 8 * w) (joined (pick t (le 8 m.element ∷ []) []))
-        by true = let z : 0 + 8 * w ≡ 8 * w = omega arith in rw (append-nil, z)
-        by false = refl
+        by : (t : Option ℕ) → emitted o w t ≡ sets o (0 + 8 * w) (joined (elements_of t))
+        by (Some x) = let z : 0 + 8 * w ≡ 8 * w = omega arith in rw (append-nil, z)
+        by None = refl
 
     pub es_inside : i + m.takes ≤ length input
     es_inside = omega (arith, a.inside, g.inside, length-drop i input)
@@ -124,88 +143,32 @@ module _ (K : List ℕ) (count bias room : ℕ) (c₀ : Cursor) (input o₀ : Li
     room_one : r ≡ suc (r - 1)
     room_one = omega (arith, g.roomy refl, g.count_es)
 
-    es_fed : m.goes ≡ true → feed K bias (view c₀) input (fits room)
+    es_fed : feed K bias (view c₀) input (fits room)
         ≡ put (g.es ++ wrote m) (feed K bias (view m.cursor) (drop (i + m.takes) input) (fits (room - length (g.es ++ wrote m))))
     unfolding less
-    es_fed e =
+    es_fed =
         let q : suc (r - 1) - length (wrote m) ≡ room - length (g.es ++ wrote m) = rw length-append (omega (arith, room_one)) in
         let f : feed K bias (view c) s (fits r) ≡ put (wrote m) (feed K bias (view m.cursor) (drop (i + m.takes) input) (fits (room - length (g.es ++ wrote m)))) =
-        rw room_one (rw (left_is, q) at (a.leads e K lK refl (r - 1))) in
+        rw room_one (rw (left_is, q) at (a.leads K lK refl (r - 1))) in
         g.fed ∙ rw (f, put_put)
 
-    abbrev After : Bool → Type 0
-    After b = Going K count bias room c₀ input o₀ (emitted o w m.writes m.element) m.cursor (i + m.takes) (counted w m.writes) (goes_on b (counted w m.writes) room)
-
-    went : m.goes ≡ true → After true
-    unfolding goes_on pick
-    went e = record {
+    pub again : Going K count bias room c₀ input o₀ (emitted o w m.element) m.cursor (i + m.takes) (counted w m.element) (ltb (counted w m.element) room)
+    again = record {
       es = g.es ++ wrote m;
       count_es = es_count;
       bytes = es_bytes;
       wrote = es_wrote;
       good = a.good;
       inside = es_inside;
-      fed = es_fed e;
-      roomy = λ q. ltb-true (counted w m.writes) room q;
-      done = λ q. step_none (view m.cursor) (drop (i + m.takes) input) (room - length (g.es ++ wrote m)) (omega (arith, ltb-false (counted w m.writes) room q, es_count));
+      fed = es_fed;
+      roomy = λ q. ltb-true (counted w m.element) room q;
+      done = λ q. step_none (view m.cursor) (drop (i + m.takes) input) (room - length (g.es ++ wrote m)) (omega (arith, ltb-false (counted w m.element) room q, es_count));
     }
 
-    stayed : m.goes ≡ false → After false
-    unfolding goes_on pick emitted counted
-    stayed e =
-        let h : step K bias (view c) s (fits r) ≡ halts = step_some (view c) s r (omega (arith, room_one)) ∙ a.stays e K lK refl in
-        let z : i + 0 ≡ i = omega arith in
-        rw (a.still e) (rw z (record {
-          es = g.es;
-          count_es = g.count_es;
-          bytes = g.bytes;
-          wrote = g.wrote;
-          good = g.good;
-          inside = g.inside;
-          fed = g.fed;
-          roomy = λ q. g.roomy refl;
-          done = λ q. h;
-        }))
+    pub lesser : μ (view m.cursor) (drop (i + m.takes) input) < μ (view c) s
+    lesser = rw left_is at (a.falls K lK refl)
 
-    pub again : After m.goes
-    again = by m.goes refl
-      where
-        by : (b : Bool) → m.goes ≡ b → After b
-        by true e = went e
-        by false e = stayed e
-
-    pub lesser : measure input m.cursor (i + m.takes) (goes_on m.goes (counted w m.writes) room) < measure input c i true
-    unfolding measure goes_on pick
-    lesser = by m.goes refl
-      where
-        most : (b : Bool) → pick b 1 0 ≤ 1
-        most true = omega arith
-        most false = omega arith
-
-        by : (b : Bool) → m.goes ≡ b
-            → μ (view m.cursor) (drop (i + m.takes) input) + pick (pick b (ltb (counted w m.writes) room) false) 1 0 < μ (view c) s + 1
-        by true e =
-            let l : μ (view m.cursor) (drop (i + m.takes) input) < μ (view c) s = rw left_is at (a.falls e K lK refl) in
-            omega (arith, most (ltb (counted w m.writes) room))
-        by false e = let z : i + 0 ≡ i = omega arith in rw (a.still e) (rw z (omega arith))
-
--- ---- 2. eight bytes, one after the other
-
-pub put_again : (o : List ℕ) (at i v : ℕ) → i < 8 → sets o (at + i) (le (8 - i) v) ≡ sets (set o (at + i) (v % 256)) (at + (i + 1)) (le (8 - (i + 1)) (v / 256))
-unfolding le
-put_again o at i v h =
-    let e : 8 - i ≡ suc (8 - (i + 1)) = omega arith in
-    let f : at + (i + 1) ≡ suc (at + i) = omega arith in
-    rw (e, f)
-
-pub put_begin : (o : List ℕ) (at x : ℕ) → sets o (at + 0) (le (8 - 0) x) ≡ sets o at (le 8 x)
-put_begin o at x = let e : at + 0 ≡ at = omega arith in rw e
-
-pub put_end : (o : List ℕ) (at i v : ℕ) → 8 ≤ i → sets o (at + i) (le (8 - i) v) ≡ o
-unfolding le
-put_end o at i v h = let e : 8 - i ≡ 0 = omega arith in rw e
-
--- ---- 3. a turn of the code's loop
+-- ---- 2. a turn of the code's loop
 
 pub same_length : {K : List ℕ} {count bias room : ℕ} {c₀ : Cursor} {input o₀ o : List ℕ} {c : Cursor} {i w : ℕ} {going : Bool}
     → Going K count bias room c₀ input o₀ o c i w going → length o ≡ length o₀
@@ -233,18 +196,22 @@ firsts_take (suc n) (x ∷ l) h = ap (λ (r : List ℕ). x ∷ r) (firsts_take n
 
 module _ (kinds : List ℕ) (count bias room : ℕ) (c₀ : Cursor) (input o₀ : List ℕ) where
   -- with what the code's calls ensure
-  pub turns : (o : List ℕ) (c : Cursor) (i w : ℕ) (going : Bool) → Going (firsts count kinds) count bias room c₀ input o₀ o c i w going → going ≡ true → (m : Moved)
-      → Strides (get_or kinds c.at 0) count bias c (drop i input) m
-      → (o' : List ℕ) (w' : ℕ) (going' : Bool) → o' ≡ emitted o w m.writes m.element → w' ≡ counted w m.writes → going' ≡ goes_on m.goes w' room
-      → Going (firsts count kinds) count bias room c₀ input o₀ o' m.cursor (i + m.takes) w' going' × (measure input m.cursor (i + m.takes) going' < measure input c i going)
-  turns o c i w going g t m a o' w' going' e₁ e₂ e₃ =
-      let g' : Going (firsts count kinds) count bias room c₀ input o₀ o c i w true = rw t at g in
-      let e : get_or kinds c.at 0 ≡ get_or (firsts count kinds) c.at 0 = sym (get_d_firsts count kinds c.at g'.good.at_in) in
-      let a' : Strides (get_or (firsts count kinds) c.at 0) count bias c (drop i input) m = rw e at a in
+  pub turns : (o : List ℕ) (c : Cursor) (i w : ℕ) → Going (firsts count kinds) count bias room c₀ input o₀ o c i w true → (m : Moved)
+      → Strode (get_or kinds c.at 0) count bias c (drop i input) m → (o' : List ℕ) (w' : ℕ) → o' ≡ emitted o w m.element → w' ≡ counted w m.element
+      → Going (firsts count kinds) count bias room c₀ input o₀ o' m.cursor (i + m.takes) w' (ltb w' room) × (μ (view m.cursor) (drop (i + m.takes) input) < μ (view c) (drop i input))
+  turns o c i w g m a o' w' e₁ e₂ =
+      let e : get_or kinds c.at 0 ≡ get_or (firsts count kinds) c.at 0 = sym (get_d_firsts count kinds c.at g.good.at_in) in
+      let a' : Strode (get_or (firsts count kinds) c.at 0) count bias c (drop i input) m = rw e at a in
       let l = length_firsts count kinds in
-      rw (e₃, e₁, e₂, t) (again (firsts count kinds) count bias room c₀ input o₀ l o c i w g' m a', lesser (firsts count kinds) count bias room c₀ input o₀ l o c i w g' m a')
+      rw (e₁, e₂) (again (firsts count kinds) count bias room c₀ input o₀ l o c i w g m a', lesser (firsts count kinds) count bias room c₀ input o₀ l o c i w g m a')
 
--- ---- 4. codes that give elements
+  pub halted : (o : List ℕ) (c : Cursor) (i w : ℕ) → Going (firsts count kinds) count bias room c₀ input o₀ o c i w true → Stays (get_or kinds c.at 0) count bias c (drop i input)
+      → Going (firsts count kinds) count bias room c₀ input o₀ o c i w false
+  halted o c i w g a =
+      let e : get_or (firsts count kinds) c.at 0 ≡ get_or kinds c.at 0 = get_d_firsts count kinds c.at g.good.at_in in
+      stay (firsts count kinds) count bias room c₀ input o₀ o c i w g (a.stays (firsts count kinds) (length_firsts count kinds) e)
+
+-- ---- 3. codes that give elements
 
 -- what goes on from o, c and w goes on from o', c' and w', with the same bytes left and no more to do
 pub record Gone (K : List ℕ) (count bias room : ℕ) (o : List ℕ) (c : Cursor) (w : ℕ) (o' : List ℕ) (c' : Cursor) (w' : ℕ) : Type 0 where
@@ -257,60 +224,40 @@ pub gone : (K : List ℕ) (count bias room : ℕ) (o : List ℕ) (c : Cursor) (w
 gone K count bias room o c w g h = record { same_length = refl; good = g; goes = λ c₀ input o₀ i x. (rw (lt-ltb w room h) x, omega arith) }
 
 module _ (kinds : List ℕ) (count bias room : ℕ) (o₁ : List ℕ) (c₁ : Cursor) (w₁ : ℕ) (o : List ℕ) (c : Cursor) (w : ℕ)
-    (g : Gone (firsts count kinds) count bias room o₁ c₁ w₁ o c w) (h : w < room) (m : Moved) (a : Given (get_or kinds c.at 0) count bias c m) where
-  gone_on : m.goes ≡ true → Gone (firsts count kinds) count bias room o₁ c₁ w₁ (emitted o w m.writes m.element) m.cursor (counted w m.writes)
-  unfolding emitted counted goes_on pick
-  gone_on e =
-      let k = a.writes e in
-      record {
-        same_length = rw k (length-sets o (8 * w) (le 8 m.element) ∙ g.same_length);
-        good = a.good;
-        goes = λ c₀ input o₀ i x.
-            let p = g.goes c₀ input o₀ i x in
-            let z : i + m.takes ≡ i = omega (arith, a.takes) in
-            let l = (a.strides e input i).falls e (firsts count kinds) (length_firsts count kinds) (get_d_firsts count kinds c.at g.good.at_in) in
-            let f : μ (view m.cursor) (drop i input) < μ (view c) (drop i input) = rw a.takes at l in
-            (rw (z, e) at (turns kinds count bias room c₀ input o₀ o c i w (ltb w room) p.0 (lt-ltb w room h) m (a.strides e input i) _ _ _ refl refl refl).0, omega (arith, p.1, f));
-      }
-
-  gone_still : m.goes ≡ false → Gone (firsts count kinds) count bias room o₁ c₁ w₁ (emitted o w m.writes m.element) m.cursor (counted w m.writes)
-  unfolding emitted counted pick
-  gone_still e = rw (a.still e) g
-
-  pub gives_on : {o' : List ℕ} {w' : ℕ} {going : Bool} → o' ≡ emitted o w m.writes m.element → w' ≡ counted w m.writes → going ≡ goes_on m.goes w' room
-      → Gone (firsts count kinds) count bias room o₁ c₁ w₁ o' m.cursor w' × (going ≡ true → w' < room) × ((room - w') + pick going 1 0 < (room - w) + 1)
-  unfolding goes_on counted pick
-  gives_on e₁ e₂ e₃ = rw (e₃, e₁, e₂) (by m.goes refl)
-    where
-      most : (b : Bool) → pick b 1 0 ≤ 1
-      most true = omega arith
-      most false = omega arith
-
-      by : (t : Bool) → m.goes ≡ t → Gone (firsts count kinds) count bias room o₁ c₁ w₁ (emitted o w m.writes m.element) m.cursor (counted w m.writes)
-          × (goes_on t (counted w m.writes) room ≡ true → counted w m.writes < room) × ((room - counted w m.writes) + pick (goes_on t (counted w m.writes) room) 1 0 < (room - w) + 1)
-      by true e =
-          let n : counted w m.writes ≡ w + 1 = rw (a.writes e) in
-          (gone_on e, λ q. ltb-true (counted w m.writes) room q, omega (arith, n, most (ltb (counted w m.writes) room)))
-      by false e =
-          let n : counted w m.writes ≡ w = rw (a.still e) in
-          (gone_still e, λ q. absurd (false≢true q), omega (arith, n))
+    (g : Gone (firsts count kinds) count bias room o₁ c₁ w₁ o c w) (h : w < room) (d : Cursor) (x : ℕ) (a : Given (get_or kinds c.at 0) count bias c d x) where
+  pub gives_on : Gone (firsts count kinds) count bias room o₁ c₁ w₁ (sets o (8 * w) (le 8 x)) d (w + 1)
+  unfolding emitted counted
+  gives_on = record {
+    same_length = length-sets o (8 * w) (le 8 x) ∙ g.same_length;
+    good = (a [] 0).good;
+    goes = λ c₀ input o₀ i y.
+        let p = g.goes c₀ input o₀ i y in
+        let z : i + 0 ≡ i = omega arith in
+        let t = turns kinds count bias room c₀ input o₀ o c i w (rw (lt-ltb w room h) at p.0) _ (a input i) _ _ refl refl in
+        let f : μ (view d) (drop i input) < μ (view c) (drop i input) = rw z at t.1 in
+        (rw z at t.0, omega (arith, p.1, f));
+  }
 
 -- a turn: codes that give elements, then a step where one more fits
-module _ (kinds : List ℕ) (count bias room : ℕ) (c₀ : Cursor) (input o₀ o : List ℕ) (c : Cursor) (i w : ℕ) (going : Bool)
-    (x : Going (firsts count kinds) count bias room c₀ input o₀ o c i w going) (t : going ≡ true) (o₁ : List ℕ) (c₁ : Cursor) (w₁ : ℕ)
+module _ (kinds : List ℕ) (count bias room : ℕ) (c₀ : Cursor) (input o₀ o : List ℕ) (c : Cursor) (i w : ℕ)
+    (x : Going (firsts count kinds) count bias room c₀ input o₀ o c i w (ltb w room)) (t : w < room) (o₁ : List ℕ) (c₁ : Cursor) (w₁ : ℕ)
     (g : Gone (firsts count kinds) count bias room o c w o₁ c₁ w₁) where
-  given : Going (firsts count kinds) count bias room c₀ input o₀ o₁ c₁ i w₁ (ltb w₁ room) × (μ (view c₁) (drop i input) ≤ μ (view c) (drop i input))
-  given = g.goes c₀ input o₀ i (rw t at x)
+  pub gave : Going (firsts count kinds) count bias room c₀ input o₀ o₁ c₁ i w₁ (ltb w₁ room) × (μ (view c₁) (drop i input) ≤ μ (view c) (drop i input))
+  gave = g.goes c₀ input o₀ i (rw (lt-ltb w room t) at x)
 
-  pub turns_after : w₁ < room → (m : Moved) → Strides (get_or kinds c₁.at 0) count bias c₁ (drop i input) m
-      → (o' : List ℕ) (w' : ℕ) (going' : Bool) → o' ≡ emitted o₁ w₁ m.writes m.element → w' ≡ counted w₁ m.writes → going' ≡ goes_on m.goes w' room
-      → Going (firsts count kinds) count bias room c₀ input o₀ o' m.cursor (i + m.takes) w' going' × (measure input m.cursor (i + m.takes) going' < measure input c i going)
+  pub turns_after : w₁ < room → (m : Moved) → Strode (get_or kinds c₁.at 0) count bias c₁ (drop i input) m
+      → (o' : List ℕ) (w' : ℕ) → o' ≡ emitted o₁ w₁ m.element → w' ≡ counted w₁ m.element
+      → Going (firsts count kinds) count bias room c₀ input o₀ o' m.cursor (i + m.takes) w' (ltb w' room) × (measure input m.cursor (i + m.takes) (ltb w' room) < measure input c i (ltb w room))
   unfolding measure pick
-  turns_after h m a o' w' going' e₁ e₂ e₃ =
-      let r = turns kinds count bias room c₀ input o₀ o₁ c₁ i w₁ (ltb w₁ room) given.0 (lt-ltb w₁ room h) m a o' w' going' e₁ e₂ e₃ in
-      let l = rw (lt-ltb w₁ room h) at r.1 in
-      (r.0, rw t (omega (arith, given.1, l)))
+  turns_after h m a o' w' e₁ e₂ =
+      let r = turns kinds count bias room c₀ input o₀ o₁ c₁ i w₁ (rw (lt-ltb w₁ room h) at gave.0) m a o' w' e₁ e₂ in
+      let most : (b : Bool) → pick b 1 0 ≤ 1 = one_at_most in
+      (r.0, rw (lt-ltb w room t) (omega (arith, gave.1, r.1, most (ltb w' room))))
 
-  pub ends_after : room ≤ w₁ → Going (firsts count kinds) count bias room c₀ input o₀ o₁ c₁ i w₁ false × (measure input c₁ i false < measure input c i going)
+  pub halts_after : w₁ < room → Stays (get_or kinds c₁.at 0) count bias c₁ (drop i input) → Going (firsts count kinds) count bias room c₀ input o₀ o₁ c₁ i w₁ false
+  halts_after h a = halted kinds count bias room c₀ input o₀ o₁ c₁ i w₁ (rw (lt-ltb w₁ room h) at gave.0) a
+
+  -- no more fits
+  pub ends_after : room ≤ w₁ → measure input c₁ i (ltb w₁ room) < measure input c i (ltb w room)
   unfolding measure pick
-  ends_after h = (rw (le-ltb w₁ room h) at given.0, rw t (omega (arith, given.1)))
+  ends_after h = rw (le-ltb w₁ room h, lt-ltb w room t) (omega (arith, gave.1))

@@ -1,9 +1,8 @@
 -- A step as a call sees it; and eight bytes at once, of a group and of a block, which leave what eight steps leave.
-use Rattle.std.specs.Prelude.{◌≡◌, Bool, ℕ, suc, ◌+◌, ◌-◌, ◌/◌, ◌%◌, ◌^◌, ◌≤◌, ◌<◌, eqb, ltb, take, drop, get_or}
+use Rattle.std.specs.Prelude.{◌≡◌, Bool, ℕ, suc, ◌+◌, ◌-◌, ◌/◌, ◌%◌, ◌^◌, ◌≤◌, ◌<◌, eqb, ltb, take, drop, get_or, Option, None, Some}
 use Rattle.std.proofs.Math.Path.{refl}
-use Rattle.std.proofs.Common.{sym, ap, ◌∙◌, true≢false, length-drop, drop_of_length-le, drop-cons}
+use Rattle.std.proofs.Common.{sym, ap, ◌∙◌, length-drop, drop_of_length-le, drop-cons}
 use Rattle.std.proofs.Math.Bool.{true, false}
-use Rattle.std.proofs.lemmas.Bool.{false≢true}
 use mathlib.Core.List.{List, [], ◌∷◌}
 use native.Mathlib.Omega.{arith}
 use Rattle.std.proofs.Math.ListN.{length, length-take}
@@ -13,15 +12,16 @@ use Rattle.grammar.specs.Layout.{little, undigits, digits, Bytes}
 use Rattle.layout.specs.Steps.Slices.{drop_bytes, take_bytes}
 use Rattle.grammar.specs.Laws.Layout.Digits.{length_le, digits_undigits, undigits_lt}
 use Rattle.case_stream.specs.Stream.{limit, block_code, block, says}
-use Rattle.case_stream.specs.Machine.{gather, acting, fits, endless, has, halts, goes, after, next, moves, step, weight}
+use Rattle.case_stream.specs.Machine.{gather, acting, fits, endless, has, after, next, moves, step, weight}
 use Rattle.case_stream.specs.Laws.Steps.{μ}
 use Rattle.case_stream.proofs.Laws.Steps.{after_weight, put_nil, falls_goes, step_falls}
 use Rattle.case_stream.proofs.Laws.Compose.{less_nil}
 use Rattle.case_stream.proofs.Laws.Whole.{room_goes, gather_whole, block_whole}
 use Rattle.case_state.specs.declared.Cursor.{Cursor}
-use Rattle.cases.specs.declared.Moved.{Moved}
+use Rattle.cases.specs.declared.steps.Moved.{Moved}
+use Rattle.case_state.specs.Phases.{number}
 use Rattle.case_state.specs.Cursor.{act_at, view, Counts, Good}
-use Rattle.cases.specs.Steps.{passed, offered, wrote, step_of, halting, silent, writing, Advances, Strides, Given, eight_at, whole}
+use Rattle.cases.specs.Steps.{passed, offered, elements_of, wrote, step_of, silent, writing, Advances, Strides, Given, eight_at, whole}
 use Rattle.case_state.proofs.Laws.Counting.{counts_first}
 use Rattle.cases.specs.Laws.Goods.{good_act, view_gather, view_acting, view_passed, view_eight}
 use Rattle.case_state.proofs.Laws.Tests.{both}
@@ -33,23 +33,15 @@ has_one r = refl
 
 -- ---- 1. one step
 
-module _ (kind count bias : ℕ) (c : Cursor) (more : Bool) (b : ℕ) (s : List ℕ) (m : Moved) (a : Advances kind count bias c more b m) where
+module _ (kind count bias : ℕ) (c : Cursor) (more : Bool) (b : ℕ) (s : List ℕ) where
   abbrev bytes : List ℕ
   bytes = offered more b s
 
-  moved : m.goes ≡ true → step_of m bytes ≡ goes (view m.cursor) (drop m.takes bytes) (wrote m)
-  unfolding step_of pick
-  moved e = rw e
-
-  unmoved : m.goes ≡ false → step_of m bytes ≡ halts
-  unfolding step_of pick
-  unmoved e = rw e
-
-  at_most : m.takes ≤ length bytes
+  at_most : (n : ℕ) → n ≤ pick more 1 0 → n ≤ length bytes
   unfolding offered pick
-  at_most = by more a.inside
+  at_most n h = by more h
     where
-      by : (t : Bool) → m.takes ≤ pick t 1 0 → m.takes ≤ length (pick t (b ∷ s) [])
+      by : (t : Bool) → n ≤ pick t 1 0 → n ≤ length (pick t (b ∷ s) [])
       by true h = omega arith
       by false h = omega arith
 
@@ -57,14 +49,14 @@ module _ (kind count bias : ℕ) (c : Cursor) (more : Bool) (b : ℕ) (s : List 
   unfolding step has pick
   stepped kinds = refl
 
-  pub one_step : Strides kind count bias c bytes m
-  one_step = record {
-    good = a.good;
-    inside = at_most;
-    still = a.still;
-    stays = λ e kinds l k. a.is kinds l k s ∙ unmoved e;
-    leads = λ e kinds l k r. room_goes kinds bias (fits (suc r)) (has_one r) (view c) bytes (view m.cursor) (drop m.takes bytes) (wrote m) (a.is kinds l k s ∙ moved e);
-    falls = λ e kinds l k. falls_goes kinds bias (step kinds bias (view c) bytes endless) (stepped kinds ∙ a.is kinds l k s ∙ moved e) (step_falls kinds bias (view c) bytes endless);
+  pub one_step : (m : Option Moved) → Advances kind count bias c more b m → Strides kind count bias c bytes m
+  unfolding step_of
+  one_step None a = record { stays = λ kinds l k. a.is kinds l k s }
+  one_step (Some m) a = record {
+    good = a.moved.1;
+    inside = at_most m.takes a.moved.0;
+    leads = λ kinds l k r. room_goes kinds bias (fits (suc r)) (has_one r) (view c) bytes (view m.cursor) (drop m.takes bytes) (wrote m) (a.is kinds l k s);
+    falls = λ kinds l k. falls_goes kinds bias (step kinds bias (view c) bytes endless) (stepped kinds ∙ a.is kinds l k s) (step_falls kinds bias (view c) bytes endless);
   }
 
 -- the bytes from a place on, by whether there is one
@@ -77,7 +69,7 @@ offers input i = by (ltb i (length input)) refl
     by false t = drop_of_length-le input (ltb-false i (length input) t)
 
 -- a step with the input's next byte
-pub steps_at : (kind count bias : ℕ) (c : Cursor) (input : List ℕ) (i : ℕ) (more : Bool) (m : Moved) → ltb i (length input) ≡ more → Advances kind count bias c more (get_or input i 0) m
+pub steps_at : (kind count bias : ℕ) (c : Cursor) (input : List ℕ) (i : ℕ) (more : Bool) (m : Option Moved) → ltb i (length input) ≡ more → Advances kind count bias c more (get_or input i 0) m
     → Strides kind count bias c (drop i input) m
 steps_at kind count bias c input i more m e a = rw (offers input i, e) (one_step kind count bias c more (get_or input i 0) (drop (suc i) input) m a)
 
@@ -125,12 +117,12 @@ module _ (kind count bias : ℕ) (c : Cursor) (g : Good count c) (s : List ℕ) 
   left_8 : length (drop 8 s) ≡ length s - 8
   left_8 = length-drop 8 s
 
-  module _ (e₀ : eqb c.phase 0 ≡ true) (e : eqb c.left 0 ≡ true) where
+  module _ (e₀ : number c.phase ≡ 0) (e : eqb c.left 0 ≡ true) where
     abbrev d : Cursor
     d = act_at c.at (c.taken + 8) c.taken x 8 0 0
 
     held : (c.left ≡ c.taken % 8) × (c.at ≤ c.taken - c.left) × (c.place ≡ 0) × (c.filled ≡ 0)
-    held = g.gathers (eqb-true c.phase 0 e₀)
+    held = g.gathers e₀
 
     empty : c.left ≡ 0
     empty = eqb-true c.left 0 e
@@ -153,18 +145,16 @@ module _ (kind count bias : ℕ) (c : Cursor) (g : Good count c) (s : List ℕ) 
         rw (from, to) (omega (arith, left_8, after_weight c.at (c.taken + 8) (c.taken + 8 - 8) (take 8 s)))
 
     pub whole_group : Strides kind count bias c s (silent d 8)
-    unfolding wrote pick
+    unfolding elements_of pick
     whole_group = record {
       good = good_group;
       inside = there;
-      still = λ q. cc;
-      stays = λ q kinds l k. cc;
-      leads = λ q kinds l k r.
+      leads = λ kinds l k r.
           rw (from, to, less_nil, put_nil) (gather_whole kinds bias (fits (suc r)) (has_one r) 7 c.at c.taken [] s refl there early);
-      falls = λ q kinds l k. lighter;
+      falls = λ kinds l k. lighter;
     }
 
-  module _ (e₀ : eqb c.phase 0 ≡ false) (e₁ : eqb c.phase 1 ≡ true) (code : c.codes % 256 ≡ block_code) (f : eqb c.filled 0 ≡ true) where
+  module _ (e₁ : number c.phase ≡ 1) (code : c.codes % 256 ≡ block_code) (f : eqb c.filled 0 ≡ true) where
     abbrev d' : Cursor
     d' = passed c ((c.at + 1) % count) (c.taken + 8)
 
@@ -172,7 +162,7 @@ module _ (kind count bias : ℕ) (c : Cursor) (g : Good count c) (s : List ℕ) 
     none_filled = eqb-true c.filled 0 f
 
     acting_now : (c.left ≡ 8 - c.place % 8) × (c.filled ≡ c.taken % 8) × (0 < c.filled → c.codes % 256 ≡ block_code) × Counts count c.at c.place c.taken
-    acting_now = g.acts (eqb-true c.phase 1 e₁)
+    acting_now = g.acts e₁
 
     abbrev behind : List ℕ
     behind = le (c.left - 1) (c.codes / 256)
@@ -182,7 +172,7 @@ module _ (kind count bias : ℕ) (c : Cursor) (g : Good count c) (s : List ℕ) 
 
     from_block : view c ≡ acting c.at c.taken c.place (c.codes % 256) behind []
     unfolding le
-    from_block = view_acting c e₀ e₁ ∙ rw none_filled
+    from_block = view_acting c e₁ ∙ rw none_filled
 
     to_block : view d' ≡ after ((c.at + 1) % count) (c.taken + 8) (c.place + 1) behind
     to_block = view_passed c ((c.at + 1) % count) (c.taken + 8) some
@@ -193,15 +183,13 @@ module _ (kind count bias : ℕ) (c : Cursor) (g : Good count c) (s : List ℕ) 
         rw (from_block, to_block) (omega (arith, left_8, length_le (c.left - 1) (c.codes / 256), acting_now.0, after_weight ((c.at + 1) % count) (c.taken + 8) (c.place + 1) behind))
 
     pub whole_block : Strides kind count bias c s (writing d' 8 x)
-    unfolding wrote pick next
+    unfolding elements_of pick next
     whole_block = record {
-      good = good_block kind count bias c 0 g e₀ e₁ 8 (omega (arith, acting_now.1, none_filled));
+      good = good_block kind count bias c 0 g e₁ 8 (omega (arith, acting_now.1, none_filled));
       inside = there;
-      still = λ q. cc;
-      stays = λ q kinds l k. cc;
-      leads = λ q kinds l k r.
+      leads = λ kinds l k r.
           rw (from_block, to_block, is_x, ← l) (block_whole kinds bias (fits (suc r)) (has_one r) c.at c.place (c.codes % 256) behind (rw k (block_says kind bias (c.codes % 256) code)) 7 c.taken [] s refl there early);
-      falls = λ q kinds l k. lighter_block;
+      falls = λ kinds l k. lighter_block;
     }
 
 -- ---- 4. where the eight bytes are there
@@ -221,29 +209,14 @@ module _ (kind count bias : ℕ) (c : Cursor) (g : Good count c) (s : List ℕ) 
     abbrev eight : (le 8 x ≡ take 8 (drop i s)) × (x < 256 ^ 8)
     eight = eight_bytes s i x bs whole_in.0 e
 
-    pub group_of : held ≡ c.left → eqb c.phase 0 ≡ true → Strides kind count bias c (drop i s) (silent (act_at c.at (c.taken + 8) c.taken x 8 0 0) 8)
+    pub group_of : held ≡ c.left → number c.phase ≡ 0 → Strides kind count bias c (drop i s) (silent (act_at c.at (c.taken + 8) c.taken x 8 0 0) 8)
     group_of h e₀ = whole_group kind count bias c g (drop i s) x there_8 whole_in.1 eight.0 eight.1 e₀ (rw h at whole_in.2)
 
-    pub block_of : held ≡ c.filled → eqb c.phase 0 ≡ false → eqb c.phase 1 ≡ true → says kind bias (c.codes % 256) ≡ block
+    pub block_of : held ≡ c.filled → number c.phase ≡ 1 → says kind bias (c.codes % 256) ≡ block
         → Strides kind count bias c (drop i s) (writing (passed c ((c.at + 1) % count) (c.taken + 8)) 8 x)
-    block_of h e₀ e₁ q = whole_block kind count bias c g (drop i s) x there_8 whole_in.1 eight.0 eight.1 e₀ e₁ (says_block kind bias (c.codes % 256) q) (rw h at whole_in.2)
+    block_of h e₁ q = whole_block kind count bias c g (drop i s) x there_8 whole_in.1 eight.0 eight.1 e₁ (says_block kind bias (c.codes % 256) q) (rw h at whole_in.2)
 
--- ---- 5. a code that gives an element, or none
+-- ---- 5. a code that gives an element
 
-pub given : (kind count bias : ℕ) (c d : Cursor) (x : ℕ) → ((more : Bool) (b : ℕ) → Advances kind count bias c more b (writing d 0 x)) → Given kind count bias c (writing d 0 x)
-given kind count bias c d x a = record {
-  good = (a true 0).good;
-  still = λ e. absurd (true≢false e);
-  takes = refl;
-  writes = λ _. refl;
-  strides = λ _ input i. steps_at kind count bias c input i _ _ refl (a _ _);
-}
-
-pub not_given : (kind count bias : ℕ) (c : Cursor) → Good count c → Given kind count bias c (halting c)
-not_given kind count bias c g = record {
-  good = g;
-  still = λ _. refl;
-  takes = refl;
-  writes = λ e. absurd (false≢true e);
-  strides = λ e. absurd (false≢true e);
-}
+pub given : (kind count bias : ℕ) (c d : Cursor) (x : ℕ) → ((more : Bool) (b : ℕ) → Advances kind count bias c more b (writing d 0 x)) → Given kind count bias c d x
+given kind count bias c d x a = λ input i. steps_at kind count bias c input i _ _ refl (a _ _)

@@ -1,12 +1,15 @@
-use mathlib.Core.Path.{sym, ◌∙◌}
-use Rattle.cases_words.proofs.Calling.{state_room, started, not_started}
+use Rattle.std.proofs.Common.{sym, ◌∙◌}
+use Rattle.cases_words.proofs.Calling.{state_room, placed_outcome, started, not_started}
 use Rattle.cases_words.proofs.start_words.Goals as goal
 
-pub keep-requires : goal.keep-requires
-keep-requires c = state_room _ _ _ (sym c.roomy-fits.ensures ∙ c.if-fits.true)
+pub settle-answered-requires : goal.settle-answered-requires
+settle-answered-requires c = state_room _ _ _ (sym c.roomy.ensures ∙ c.if-not-roomy.false)
 
-pub returns-then-fits : goal.returns-then-fits
-returns-then-fits c = started _ _ _ _ _ (sym c.roomy-fits.ensures ∙ c.if-fits.true) c.start-s.ensures c.keep.ensures c.put.ensures
+pub answer_words-requires : goal.answer_words-requires
+answer_words-requires c = rw c.settle-answered.ensures.answers (placed_outcome _ c.start.ensures.placed)
 
-pub returns-else-fits : goal.returns-else-fits
-returns-else-fits c = not_started _ _ _ _ (sym c.roomy-fits.ensures ∙ c.if-fits.false)
+pub returns-then-not-roomy : goal.returns-then-not-roomy
+returns-then-not-roomy c = not_started _ _ _ _ (sym c.roomy.ensures ∙ c.if-not-roomy.true)
+
+pub returns : goal.returns
+returns c = started _ _ _ _ _ (sym c.roomy.ensures ∙ c.if-not-roomy.false) c.start.ensures.is c.settle-answered.ensures.settles (rw (c.answer_words.ensures, c.settle-answered.ensures.answers) at c.put.ensures)

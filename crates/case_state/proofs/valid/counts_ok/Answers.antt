@@ -1,30 +1,21 @@
-use borrow.Author.Tests.{leb-true}
-use native.Mathlib.Omega.{arith}
+use Rattle.std.proofs.Common.{◌≡◌, ℕ, zero, suc, ◌+◌, ◌-◌, ◌*◌, ◌/◌, ◌%◌, ◌<◌, min, ap, arith}
+use Rattle.std.proofs.Math.Nat.{div-add-mod, mul-add-div, mod-lt, div-eq_of_lt}
+use Rattle.std.proofs.lemmas.Nat.{div-mul-add}
+use borrow.Author.Tests.{le-leb}
 use Rattle.sizes.specs.Basics.{pick}
-use Rattle.case_state.specs.Tests.{blocks_of, counts_ok}
-use Rattle.case_state.proofs.Laws.Counting.{fewest_below}
+use Rattle.case_state.specs.Tests.{counts_ok}
 use Rattle.case_state.proofs.valid.counts_ok.Goals as goal
 
-pub overflow_sub-blocks : goal.overflow_sub-blocks
-unfolding counts_ok pick
-overflow_sub-blocks c = omega (arith, leb-true)
+-- the rest of a quotient that is rounded up
+rest_up : (r n : ℕ) → r < n → min 1 r ≡ (r + (n - 1)) / n
+rest_up zero n h = let e : n - 1 < n = omega arith in let z : 0 + (n - 1) ≡ n - 1 = omega arith in rw (z, div-eq_of_lt e)
+rest_up (suc r) n h = let e : suc r + (n - 1) ≡ 1 * n + r = omega arith in let m : min 1 (suc r) ≡ 1 = omega arith in rw (m, e, div-mul-add 1 n r (omega arith))
 
-pub overflow_mul-result : goal.overflow_mul-result
-unfolding counts_ok pick
-overflow_mul-result c = let a = c.args in rw c.between.ensures (omega (arith, fewest_below a.count a.at c.requires.0 (blocks_of a.place a.taken), leb-true))
+rounded : (d n : ℕ) → 0 < n → d / n + min 1 (d % n) ≡ (d + (n - 1)) / n
+rounded d n h =
+    let e : d + (n - 1) ≡ n * (d / n) + (d % n + (n - 1)) = omega (arith, div-add-mod d n) in
+    rw (e, mul-add-div h (d / n) (d % n + (n - 1))) (ap (λ (x : ℕ). d / n + x) (rest_up (d % n) n (mod-lt d h)))
 
-pub overflow_add-result : goal.overflow_add-result
+pub returns-then-blocks-in_group : goal.returns-then-blocks-in_group
 unfolding counts_ok pick
-overflow_add-result c = let a = c.args in rw c.between.ensures (omega (arith, fewest_below a.count a.at c.requires.0 (blocks_of a.place a.taken), leb-true))
-
-pub returns-then-t2 : goal.returns-then-t2
-unfolding counts_ok pick
-returns-then-t2 c = rw (c.if-t1.true-raw, c.if-t2.true-raw, c.between.ensures)
-
-pub returns-else-t2 : goal.returns-else-t2
-unfolding counts_ok pick
-returns-else-t2 c = rw (c.if-t1.true-raw, c.if-t2.false-raw)
-
-pub returns-else-t1 : goal.returns-else-t1
-unfolding counts_ok pick
-returns-else-t1 c = rw c.if-t1.false-raw
+returns-then-blocks-in_group c = rw (c.div_ceil-rounds.ensures, c.saturating_sub.ensures, rounded _ c.args.count (omega arith), le-leb _ _ c.if-whole-first.false, le-leb _ _ c.if-blocks-in_group.true)

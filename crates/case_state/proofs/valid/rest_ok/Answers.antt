@@ -1,16 +1,11 @@
-use mathlib.Core.Path.{refl, sym, ◌∙◌}
-use native.Mathlib.Omega.{arith}
-use Rattle.case_state.proofs.Laws.Valid.{rest_bad, rest_next, rest_none}
+use Rattle.std.specs.Prelude.{◌≡◌, ◌-◌}
+use Rattle.std.proofs.Common.{◌≤◌, length, drop, ◌∙◌, length-drop, take_all, arith}
+use Rattle.case_state.proofs.Laws.Valid.{rest_all}
 use Rattle.case_state.proofs.valid.rest_ok.Goals as goal
 
-pub loop-i-init : goal.loop-i-init
-loop-i-init c = (omega arith, refl)
-
-pub returns-then-kinds-i-ne0 : goal.returns-then-kinds-i-ne0
-returns-then-kinds-i-ne0 c = sym (c.loop-i.invariant.1 ∙ rest_bad c.loop-i.i c.args.kinds.now (omega arith) c.if-kinds-i-ne0.true)
-
-pub loop-i-preserved : goal.loop-i-preserved
-loop-i-preserved c = (omega arith, c.loop-i.invariant.1 ∙ rest_next c.loop-i.i c.args.kinds.now (omega arith) c.if-kinds-i-ne0.false)
-
 pub returns : goal.returns
-returns c = sym (c.loop-i.invariant.1 ∙ rest_none c.loop-i.i c.args.kinds.now (omega arith))
+returns c =
+    let n = c.args.count in
+    let f : 256 - (256 - n) ≡ n = omega arith in
+    let m : length (drop n c.args.kinds.now) ≤ 256 - n = omega (arith, length-drop n c.args.kinds.now, c.told-kinds) in
+    (rw (take_all (256 - n) (drop n c.args.kinds.now) m) at c.zeros.ensures) ∙ (rw f at (rest_all (256 - n) c.args.kinds.now c.told-kinds (omega arith)))

@@ -1,22 +1,32 @@
-use mathlib.Core.Path.{refl, sym, ◌∙◌}
-use Prim.Native.Nat.{◌+◌}
-use native.Mathlib.Omega.{arith}
-use lib.ListN.{length-set}
-use Rattle.cases.specs.Laws.Loop.{put_begin, put_again, put_end}
+use Rattle.std.proofs.Common.{◌≡◌, ℕ, ◌+◌, ◌-◌, ◌/◌, ◌≤◌, List, ◌++◌, length, take, drop, ◌∙◌, arith}
+use Rattle.std.specs.Int.{w64, to_le_bytes}
+use Rattle.std.proofs.lemmas.List.{append_assoc}
+use Rattle.std.proofs.lemmas.List.Edits.{sets, sets-eq}
+use Rattle.std.proofs.Math.Seq.{drop-drop}
+use borrow.Rule.Slice.PartMut.{put_mid}
+use Rattle.sizes.specs.Basics.{le}
+use Rattle.grammar.specs.Laws.Layout.Digits.{length_le}
 use Rattle.cases.proofs.bytes.put.Goals as goal
 
-pub loop-i-preserved : goal.loop-i-preserved
-loop-i-preserved c =
-    let l = c.loop-i in
-    let at = c.args.at in
-    let h = c.loop-i-test.true in
-    (omega arith, length-set l.output (at + l.i) _ ∙ l.invariant.1, sym (put_again l.output at l.i l.v (omega arith)) ∙ l.invariant.2)
+-- bytes that were copied into an output from a place on
+copied : (o : List ℕ) (w n : ℕ) (x y : List ℕ) → w + n ≤ length o → n ≡ length x → y ≡ x → put_mid w n o y ≡ sets o w x
+copied o w n x y h l e =
+    let s : sets o w x ≡ take w o ++ (x ++ drop (w + length x) o) = sets-eq x o w (rw l at h) ∙ append_assoc (take w o) x (drop (w + length x) o) in
+    rw (e, l, drop-drop, s)
 
-pub loop-i-init : goal.loop-i-init
-loop-i-init c = (omega arith, refl, put_begin c.args.output.now c.args.at c.args.x)
-
-pub shape_of-output : goal.shape_of-output
-shape_of-output c = c.loop-i.invariant.1
+lowest_first : (x : ℕ) → to_le_bytes w64 x ≡ le 8 x
+unfolding le
+lowest_first x =
+    let e₂ : x / 65536 ≡ x / 256 / 256 = omega arith in
+    let e₃ : x / 16777216 ≡ x / 256 / 256 / 256 = omega arith in
+    let e₄ : x / 4294967296 ≡ x / 256 / 256 / 256 / 256 = omega arith in
+    let e₅ : x / 1099511627776 ≡ x / 256 / 256 / 256 / 256 / 256 = omega arith in
+    let e₆ : x / 281474976710656 ≡ x / 256 / 256 / 256 / 256 / 256 / 256 = omega arith in
+    let e₇ : x / 72057594037927936 ≡ x / 256 / 256 / 256 / 256 / 256 / 256 / 256 = omega arith in
+    rw (e₂, e₃, e₄, e₅, e₆, e₇)
 
 pub returns : goal.returns
-returns c = sym (put_end c.loop-i.output c.args.at c.loop-i.i c.loop-i.v (omega arith)) ∙ c.loop-i.invariant.2
+returns c =
+    let a = c.args in
+    let n : a.at + 8 - a.at ≡ 8 = omega arith in
+    rw n (copied a.output.now a.at 8 (le 8 a.x) _ c.requires (rw length_le) (c.copy_from_slice.ensures.after ∙ c.to_le_bytes.ensures ∙ lowest_first a.x))

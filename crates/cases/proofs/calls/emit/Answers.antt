@@ -1,11 +1,10 @@
-use Rattle.sizes.specs.Basics.{pick}
 use Rattle.cases.specs.Steps.{emitted, counted}
 use Rattle.cases.proofs.calls.emit.Goals as goal
 
-pub returns-then-writes : goal.returns-then-writes
-unfolding emitted counted pick
-returns-then-writes c = let t = c.if-writes.true in (rw t c.put.ensures, rw t)
+pub returns-in-Some : goal.returns-in-Some
+unfolding emitted counted
+returns-in-Some c = (rw c.in-Some.is c.put.ensures, rw c.in-Some.is)
 
-pub returns : goal.returns
-unfolding emitted counted pick
-returns c = (rw c.if-writes.false, rw c.if-writes.false)
+pub returns-in-None : goal.returns-in-None
+unfolding emitted counted
+returns-in-None c = (rw c.in-None.is, rw c.in-None.is)

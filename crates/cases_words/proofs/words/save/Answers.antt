@@ -1,11 +1,11 @@
-use Rattle.store.specs.Laws.Puts.{◌⟩◌, long_words}
-use Rattle.cases_words.specs.StateWords.{head_words, state_words_of}
+use Rattle.store.specs.Laws.Puts.{long_words}
+use Rattle.cases_words.proofs.Laws.Arrays.{state_long}
+use Rattle.cases_words.proofs.Calling.{at_front}
+use Rattle.cases_words.specs.StateWords.{state_words_of}
 use Rattle.cases_words.proofs.words.save.Goals as goal
 
 pub shape_of-out : goal.shape_of-out
-unfolding state_words_of head_words
-shape_of-out c = long_words (c.put-st.ensures ⟩ c.put.ensures)
+shape_of-out c = long_words c.put_state.ensures
 
 pub returns : goal.returns
-unfolding state_words_of head_words
-returns c = c.put-st.ensures ⟩ rw c.widened.ensures at c.put.ensures
+returns c = at_front 268 (state_words_of c.args.s) _ (state_long c.args.s) c.requires c.put_state.ensures
