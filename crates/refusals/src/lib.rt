@@ -107,11 +107,12 @@ impl fmt::Display for Reason {
     }
 }
 
-// A refusal: why, and at which place of the input.
+// A refusal: at which place of the input, and why. In this order the place of a refusal and the number of an answer beside it lie at the same
+// bytes of a `Result`, which is quicker to hand on.
 #[derive(Clone, Copy, Debug, PartialEq, Eq)]
 pub struct Refusal {
-    pub reason: Reason,
     pub place: usize,
+    pub reason: Reason,
 }
 
 impl fmt::Display for Refusal {
