@@ -2,6 +2,8 @@
 // short, the cells' one word short, both exact. The line, and the counts of nodes and cells.
 #![tactic(auto)]
 
+ghost use Rattle.std.specs.Prelude.{◌^◌, ◌<◌};
+
 use answer::Answer;
 use report::LINE_BYTES;
 use sizes::{CELL_WORDS, NODE_WORDS};
@@ -25,7 +27,9 @@ fn counts(rt: &impl Print, a: Answer) -> io::Result<()> {
 }
 
 // What it gets with areas of these lengths.
-fn with_areas<const N: usize, const C: usize>(rt: &impl Print, s: &[u8]) -> io::Result<()> {
+fn with_areas<const N: usize, const C: usize>(rt: &impl Print, s: &[u8]) -> io::Result<()>
+    requires { (N < 2 ^ 32) × (C < 2 ^ 32) }
+{
     let mut nodes = [0u32; N];
     let mut cells = [0u32; C];
     counts(rt, member::read_member(s, &mut nodes, &mut cells))

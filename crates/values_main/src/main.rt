@@ -3,9 +3,10 @@
 // `digarumbi_value` or `digarumbi_argument`, the double's bits as one number.
 #![tactic(auto)]
 
-use contents::{Contents, RawValue};
+use contents::{Argument, Contents, RawValue};
 use layout::number::{any, peek};
-use layout::{LITTLE, Span, Step};
+use layout::LITTLE;
+use refusals::Refusal;
 use regions::region::{bytes, part};
 use std::io;
 use store::Name;
@@ -32,40 +33,59 @@ fn numbers(rt: &impl Print, x: RawValue) -> io::Result<()> {
 }
 
 fn names(rt: &impl Print, x: RawValue) -> io::Result<()> {
-    let text = x.text;
-    let var_name = x.var_name;
-    let label = x.label;
-    let id = x.id;
-    let c = x.c;
-    name(rt, text)?;
-    name(rt, var_name)?;
-    name(rt, label)?;
-    name(rt, id)?;
-    name(rt, c)
+    for n in [x.text, x.var_name, x.label, x.id, x.c] {
+        name(rt, n)?;
+    }
+    Ok(())
 }
 
-fn value(rt: &impl Print, x: Contents) -> io::Result<()> {
-    let raw = x.raw;
+// The number and the place of a refusal, or 0 and 0.
+fn verdict(rt: &impl Print, refusal: Option<Refusal>) -> io::Result<()> {
+    match refusal {
+        Some(refusal) => {
+            number(rt, refusal.reason.number() as u64)?;
+            number(rt, refusal.place as u64)
+        }
+        None => zeros(rt, 2),
+    }
+}
+
+fn zeros(rt: &impl Print, n: usize) -> io::Result<()> {
+    for _ in 0..n {
+        number(rt, 0)?;
+    }
+    Ok(())
+}
+
+// The words of a Value that was read; zeros after a refusal.
+fn value(rt: &impl Print, read: Result<Contents, Refusal>) -> io::Result<()> {
     text(rt, b"value")?;
-    number(rt, x.refusal as u64)?;
-    number(rt, x.place as u64)?;
-    number(rt, x.length as u64)?;
-    number(rt, x.zeros as u64)?;
-    numbers(rt, raw)?;
-    names(rt, raw)?;
-    number(rt, raw.arguments as u64)?;
-    number(rt, raw.first_argument as u64)?;
+    verdict(rt, read.err())?;
+    match read {
+        Ok(x) => {
+            number(rt, x.length as u64)?;
+            number(rt, x.zeros as u64)?;
+            numbers(rt, x.raw)?;
+            names(rt, x.raw)?;
+            number(rt, x.raw.arguments as u64)?;
+            number(rt, x.raw.first_argument as u64)?;
+        }
+        Err(_) => zeros(rt, 19)?,
+    }
     text(rt, b"\n")
 }
 
-fn argument(rt: &impl Print, s: &[u8], version: u64) -> io::Result<()> {
-    let x = contents::read_argument(s, version);
+fn argument(rt: &impl Print, read: Result<Argument, Refusal>) -> io::Result<()> {
     text(rt, b"argument")?;
-    number(rt, x.refusal as u64)?;
-    number(rt, x.place as u64)?;
-    number(rt, x.length as u64)?;
-    number(rt, x.values as u64)?;
-    number(rt, x.first as u64)?;
+    verdict(rt, read.err())?;
+    match read {
+        Ok(x) => {
+            number(rt, x.length as u64)?;
+            number(rt, x.values as u64)?;
+            number(rt, x.first as u64)?;
+        }
+        Err(_) => zeros(rt, 3)?,
+    }
     text(rt, b"\n")
 }
 
@@ -73,7 +93,7 @@ fn line(rt: &impl Print, s: &[u8], version: u64, kind: u64) -> io::Result<()> {
     if kind == 0 {
         value(rt, contents::read_value(s, version))
     } else {
-        argument(rt, s, version)
+        argument(rt, contents::read_argument(s, version))
     }
 }
 
