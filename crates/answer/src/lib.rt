@@ -6,7 +6,8 @@ ghost use Rattle.answer.specs.Answer as spec;
 
 use sizes::{DIMENSION_AREA, MOST_DIMENSIONS};
 
-// What reading a member answers. Unused entries are 0.
+// What reading a member answers. Unused entries are 0. A number and a count stand beside what they say, since `Demand3`, `Delivered` and the
+// words for C read these fields.
 #[derive(Clone, Copy)]
 pub struct Answer {
     // document 01's refusal number, or 0, and its place

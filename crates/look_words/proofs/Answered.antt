@@ -7,7 +7,7 @@ use lib.ListN.{length}
 use lib.Dec.{leb}
 use Rattle.sizes.specs.Sizes.{look_answer_words}
 use Rattle.layout.specs.Step.{Step}
-use Rattle.std.specs.Prelude.{Ok, Err}
+use Rattle.std.specs.Prelude.{Ok}
 use Rattle.grammar.specs.Layout.{Bytes}
 use Rattle.grammar.specs.Laws.Layout.Read.{read}
 use Rattle.look.specs.Read.{Answer}

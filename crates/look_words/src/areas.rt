@@ -2,6 +2,7 @@
 ghost use Rattle.look_words.specs.LookWords as spec;
 ghost use Rattle.store.specs.Puts.{PutsWords};
 
+use crate::word;
 use layout::Step;
 use look::{Alignment, Area, AreaColor, Font, MostAreas, Typeface};
 use store::words::put;
@@ -58,8 +59,8 @@ fn typeface(out: &mut [u32], st: Step, x: Typeface) -> Step
             x.strikethrough as u32,
             x.rtf_charset_number,
             x.x as u32,
-            (x.font_name.place % 4294967296) as u32,
-            (x.font_name.length % 4294967296) as u32,
+            word(x.font_name.place),
+            word(x.font_name.length),
             x.text_color,
         ],
     )

@@ -1,4 +1,5 @@
 // The words of borders: separators one by one, in fours, and the eleven of version 02.
+ghost use Rattle.grammar.specs.Layout.{spell_all};
 ghost use Rattle.look_words.specs.LookWords as spec;
 ghost use Rattle.store.specs.Puts.{PutsWords};
 
@@ -19,32 +20,32 @@ fn separator(out: &mut [u32], st: Step, x: Separator) -> Step
     }
 }
 
-fn four(out: &mut [u32], st: Step, a: Separator, b: Separator, c: Separator, d: Separator) -> Step
-    ensures { PutsWords (spec.four a b c d) out.old st out.new result }
+fn separators(out: &mut [u32], st: Step, xs: &[Separator]) -> Step
+    ensures { PutsWords (spell_all spec.separator xs.now) out.old st out.new result }
 {
-    let st = separator(out, st, a);
-    let st = separator(out, st, b);
-    let st = separator(out, st, c);
-    separator(out, st, d)
+    let mut st = st;
+    for x in xs {
+        st = separator(out, st, *x);
+    }
+    st
 }
 
 pub fn lines(out: &mut [u32], st: Step, x: Lines) -> Step
     ensures { PutsWords (spec.lines x) out.old st out.new result }
 {
-    four(
-        out,
-        st,
+    let xs = [
         x.horizontal_dimension,
         x.vertical_dimension,
         x.horizontal_category,
         x.vertical_category,
-    )
+    ];
+    separators(out, st, &xs)
 }
 
 fn frame(out: &mut [u32], st: Step, x: Frame) -> Step
     ensures { PutsWords (spec.frame x) out.old st out.new result }
 {
-    four(out, st, x.left, x.right, x.top, x.bottom)
+    separators(out, st, &[x.left, x.right, x.top, x.bottom])
 }
 
 pub fn frames(out: &mut [u32], st: Step, x: Frames) -> Step

@@ -4,8 +4,10 @@
 mod areas; // colors and styles
 mod borders; // separators
 
+ghost use Rattle.std.specs.Prelude.{◌≡◌};
 ghost use Rattle.sizes.specs.Sizes.{look_answer_words};
 ghost use Rattle.grammar.specs.Laws.Layout.Read.{read};
+ghost use Rattle.layout.specs.Words.{word32};
 ghost use Rattle.look.specs.Look.{TableLook};
 ghost use Rattle.look.specs.Answers.{expected};
 ghost use Rattle.look_words.specs.LookWords as spec;
@@ -21,19 +23,19 @@ use look::{Continuation, Look, V2Styles};
 use sizes::{LOOK_ANSWER_WORDS, LOOK_WORDS, NO_PLACE};
 use store::words::put;
 
+// A place or a length as a word.
+fn word(n: usize) -> u32
+    ensures { result ≡ word32 n }
+{
+    (n % 4294967296) as u32
+}
+
 fn continuation_of(out: &mut [u32], st: Step, x: Continuation) -> Step
     ensures { PutsWords (spec.continuation x) out.old st out.new result }
 {
     match x {
         Continuation::Default => put(out, st, &[NO_PLACE, 7]),
-        Continuation::Stored(n) => put(
-            out,
-            st,
-            &[
-                (n.place % 4294967296) as u32,
-                (n.length % 4294967296) as u32,
-            ],
-        ),
+        Continuation::Stored(n) => put(out, st, &[word(n.place), word(n.length)]),
     }
 }
 
@@ -84,16 +86,15 @@ pub fn look_answer(file: &[u8], area: &mut [u32]) -> usize
     if area.len() < LOOK_ANSWER_WORDS {
         return 0;
     }
-    match read_look(file) {
+    let _ = match read_look(file) {
         Ok(look) => {
             let st = put(area, Ok(0), &[0, 0]);
-            whole(area, st, look);
+            whole(area, st, look)
         }
         Err(refusal) => {
-            let place = (refusal.place % 4294967296) as u32;
-            let st = put(area, Ok(0), &[refusal.reason.number(), place]);
-            put(area, st, &[0u32; LOOK_WORDS]);
+            let st = put(area, Ok(0), &[refusal.reason.number(), word(refusal.place)]);
+            put(area, st, &[0u32; LOOK_WORDS])
         }
-    }
+    };
     LOOK_ANSWER_WORDS
 }

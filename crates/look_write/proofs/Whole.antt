@@ -5,7 +5,7 @@ use Prim.Native.Nat.{ℕ, ◌≤◌}
 use lib.ListN.{length}
 use Rattle.sizes.specs.Sizes.{longest_look}
 use Rattle.layout.specs.Step.{Step}
-use Rattle.std.specs.Prelude.{Ok, Err}
+use Rattle.std.specs.Prelude.{Ok}
 use Rattle.grammar.specs.Layout.{Bytes}
 use Rattle.store.specs.Written.{Written}
 use Rattle.store.specs.Check.{place_of, check}

@@ -61,12 +61,10 @@ pub fn member_answer(
 ) -> usize
     ensures { spec.MemberRead member.now answer.old nodes.old cells.old result answer.new nodes.new cells.new }
 {
-    let room = ANSWER_WORDS <= answer.len();
-    if room {
-        let a = read_member(member, nodes, cells);
-        member_words(answer, a);
-        ANSWER_WORDS
-    } else {
-        0
+    if answer.len() < ANSWER_WORDS {
+        return 0;
     }
+    let a = read_member(member, nodes, cells);
+    let _ = member_words(answer, a);
+    ANSWER_WORDS
 }

@@ -2,7 +2,6 @@
 -- nothing in member i's answer or share, unless the changed bytes lie in member i too." (document 02, T-09)
 use Rattle.std.specs.Prelude.{◌≡◌, List, length, get_or}
 use Prim.Native.Nat.{ℕ, ◌+◌, ◌/◌, ◌≤◌, ◌<◌}
-use Rattle.grammar.specs.Laws.Layout.Read.{no}
 use Rattle.members.specs.Members.{members, start, size, share_of}
 
 -- two calls, of which the second may have other entries, other bytes and other words where member i is not

@@ -2,31 +2,24 @@
 #![tactic(auto)]
 
 ghost use Rattle.std.specs.Prelude.{◌≡◌, ◌+◌, ◌*◌, ◌/◌, ◌<◌, ◌≤◌};
+ghost use Rattle.refusals.specs.Verdicts.{code};
 ghost use Rattle.grammar.specs.Laws.Member.Checked.{checked};
 ghost use Rattle.members.specs.Members.{members, list_refusal, member_at, InShare};
 
 use answer::Answer;
 use layout::slice::part;
 use member::read_member;
+use refusals::{Reason, Verdict};
 use sizes::MOST_MEMBERS;
-
-// The words of a share: from a start to an end.
-#[derive(Clone, Copy)]
-struct Share {
-    pub start: usize,
-    pub end: usize,
-}
+use std::ops::Range;
 
 // Share i of an area of so many words, which is cut into n.
-fn share_at(words: usize, n: usize, i: usize) -> Share
+fn share_at(words: usize, n: usize, i: usize) -> Range<usize>
     requires { (i < n) × (words / n * i + words / n ≤ words) }
     ensures { (result.start ≡ words / n * i) × (result.end ≡ words / n * i + words / n) }
 {
     let size = words / n;
-    Share {
-        start: size * i,
-        end: size * i + size,
-    }
+    size * i..size * i + size
 }
 
 // Reads a member with share i of n of each area.
@@ -36,23 +29,19 @@ fn read_in_share(member: &[u8], n: usize, i: usize, nodes: &mut [u32], cells: &m
 {
     let node_share = share_at(nodes.len(), n, i);
     let cell_share = share_at(cells.len(), n, i);
-    let a = node_share.start;
-    let b = node_share.end;
-    let c = cell_share.start;
-    let d = cell_share.end;
-    read_member(member, &mut nodes[a..b], &mut cells[c..d])
+    read_member(member, &mut nodes[node_share], &mut cells[cell_share])
 }
 
-// The refusal of a whole list, or 0: it has an odd number of words, or too many members.
-pub fn list_refusal(list: &[u32]) -> u32
-    ensures { result ≡ list_refusal list.now }
+// Why a whole list is refused, if it is: it has an odd number of words, or too many members.
+pub fn list_refusal(list: &[u32]) -> Verdict
+    ensures { code result ≡ list_refusal list.now }
 {
     let few = list.len() <= 2 * MOST_MEMBERS;
-    if few {
-        let even = list.len() % 2 == 0;
-        if even { 0 } else { 26 }
+    let even = list.len() % 2 == 0;
+    if few && even {
+        Ok(())
     } else {
-        26
+        Err(Reason::BadList)
     }
 }
 

@@ -28,7 +28,7 @@ fn read_into(
     let a = read_nth(buffer, list, i, nodes, cells);
     let start = ANSWER_WORDS * i;
     let end = start + ANSWER_WORDS;
-    member_words(&mut answers[start..end], a);
+    let _ = member_words(&mut answers[start..end], a);
 }
 
 // Reads every member of a list, one after the other.
@@ -36,11 +36,8 @@ fn read_all(buffer: &[u8], list: &[u32], answers: &mut [u32], nodes: &mut [u32],
     requires { answer_words * members_spec.members list.now ≤ length answers.old }
     ensures { AllRead buffer.now list.now answers.old nodes.old cells.old answers.new nodes.new cells.new }
 {
-    let n = list.len() / 2;
-    let mut i = 0;
-    while i < n {
+    for i in 0..list.len() / 2 {
         read_into(buffer, list, i, answers, nodes, cells);
-        i += 1;
     }
 }
 
@@ -54,31 +51,24 @@ pub fn members_answer(
 ) -> usize
     ensures { MembersRead buffer.now list.now answers.old nodes.old cells.old result answers.new nodes.new cells.new }
 {
-    let refusal = list_refusal(list);
-    let taken = refusal == 0;
-    if taken {
-        let words = MEMBERS_ANSWER_WORDS + ANSWER_WORDS * (list.len() / 2);
-        let room = words <= answers.len();
-        if room {
-            put(answers, Ok(0), &[0, 0]);
-            read_all(
-                buffer,
-                list,
-                &mut answers[MEMBERS_ANSWER_WORDS..],
-                nodes,
-                cells,
-            );
-            words
-        } else {
-            0
+    if let Err(reason) = list_refusal(list) {
+        if answers.len() < MEMBERS_ANSWER_WORDS {
+            return 0;
         }
-    } else {
-        let room = MEMBERS_ANSWER_WORDS <= answers.len();
-        if room {
-            put(answers, Ok(0), &[refusal, 0]);
-            MEMBERS_ANSWER_WORDS
-        } else {
-            0
-        }
+        let _ = put(answers, Ok(0), &[reason.number(), 0]);
+        return MEMBERS_ANSWER_WORDS;
     }
+    let words = MEMBERS_ANSWER_WORDS + ANSWER_WORDS * (list.len() / 2);
+    if answers.len() < words {
+        return 0;
+    }
+    let _ = put(answers, Ok(0), &[0, 0]);
+    read_all(
+        buffer,
+        list,
+        &mut answers[MEMBERS_ANSWER_WORDS..],
+        nodes,
+        cells,
+    );
+    words
 }

@@ -5,16 +5,15 @@ ghost use Rattle.sections_put.specs.Fields as spec;
 
 use crate::word::{color, empty, typeface};
 use layout::{LITTLE, Step};
-use store::write::{fixed_byte, flag, int32, number};
+use store::write::{byte, flag, int32, number};
 use styles::{Area, Areas};
 
 fn font(buf: &mut [u8], st: Step, names: &[u8], index: u8, x: Area) -> Step
     ensures { Puts (grammar.AreaFont index) names.now (spec.font index x) buf.old st buf.new result }
 {
-    let name = x.typeface;
-    let st = fixed_byte(buf, st, index);
-    let st = fixed_byte(buf, st, 0x31);
-    let st = typeface(buf, st, names, name);
+    let st = byte(buf, st, index);
+    let st = byte(buf, st, 0x31);
+    let st = typeface(buf, st, names, x.typeface);
     let st = int32(buf, st, x.size);
     let st = int32(buf, st, x.style);
     let st = flag(buf, st, x.underline);
@@ -53,28 +52,20 @@ fn area(buf: &mut [u8], st: Step, names: &[u8], index: u8, x: Area) -> Step
 fn eight_areas(buf: &mut [u8], st: Step, names: &[u8], x: Areas) -> Step
     ensures { Puts (grammar.EightAreas 3) names.now (spec.eight_areas x) buf.old st buf.new result }
 {
-    let title = x.title;
-    let caption = x.caption;
-    let footer = x.footer;
-    let corner = x.corner;
-    let column_labels = x.column_labels;
-    let row_labels = x.row_labels;
-    let data = x.data;
-    let layers = x.layers;
-    let st = area(buf, st, names, 1, title);
-    let st = area(buf, st, names, 2, caption);
-    let st = area(buf, st, names, 3, footer);
-    let st = area(buf, st, names, 4, corner);
-    let st = area(buf, st, names, 5, column_labels);
-    let st = area(buf, st, names, 6, row_labels);
-    let st = area(buf, st, names, 7, data);
-    area(buf, st, names, 8, layers)
+    let st = area(buf, st, names, 1, x.title);
+    let st = area(buf, st, names, 2, x.caption);
+    let st = area(buf, st, names, 3, x.footer);
+    let st = area(buf, st, names, 4, x.corner);
+    let st = area(buf, st, names, 5, x.column_labels);
+    let st = area(buf, st, names, 6, x.row_labels);
+    let st = area(buf, st, names, 7, x.data);
+    area(buf, st, names, 8, x.layers)
 }
 
 // No 00 before them: a run of no bytes.
 pub fn areas(buf: &mut [u8], st: Step, names: &[u8], x: Areas) -> Step
     ensures { Puts (grammar.Areas 3) names.now (spec.areas x) buf.old st buf.new result }
 {
-    let st = number(buf, st, LITTLE, 0, 0, 0);
+    let st = number(buf, st, LITTLE, 0, 0, Ok(()));
     eight_areas(buf, st, names, x)
 }

@@ -20,8 +20,6 @@ pub const LONGEST_SECTIONS: usize = 2844;
 pub fn sections(buf: &mut [u8], st: Step, names: &[u8], x: Styles) -> Step
     ensures { Puts spec.Sections names.now (spec.fields x) buf.old st buf.new result }
 {
-    let areas_of = x.areas;
-    let borders_of = x.borders;
-    let st = areas(buf, st, names, areas_of);
-    borders(buf, st, borders_of)
+    let st = areas(buf, st, names, x.areas);
+    borders(buf, st, x.borders)
 }

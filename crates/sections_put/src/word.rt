@@ -9,6 +9,7 @@ ghost use Rattle.sections_put.specs.Names as names-spec;
 use layout::slice::part;
 use layout::{BIG, LITTLE, Step};
 use nulls::has_null;
+use refusals::Reason;
 use store::Name;
 use store::write::{name, number, text};
 use styles::colors::{blue, green, red};
@@ -16,32 +17,24 @@ use styles::colors::{blue, green, red};
 pub fn be32(buf: &mut [u8], st: Step, v: u32) -> Step
     ensures { PutsPlain grammar.be32 (v, tt) buf.old st buf.new result }
 {
-    number(buf, st, BIG, 4, v as u64, 0)
+    number(buf, st, BIG, 4, v as u64, Ok(()))
 }
 
 // Whether a name that 32 bits can say has a zero byte.
 fn has_null_byte(names: &[u8], n: Name) -> bool
     ensures { result ≡ names-spec.has_zero names.now n }
 {
-    let length = n.length;
-    let short = length < 4294967296;
-    if short {
-        has_null(part(names, n.place, length))
-    } else {
-        false
-    }
+    n.length < 4294967296 && has_null(part(names, n.place, n.length))
 }
 
 // A string whose bytes lie in those lent for names.
 pub fn typeface(buf: &mut [u8], st: Step, names: &[u8], n: Name) -> Step
     ensures { Puts grammar.lestring names.now (lent n) buf.old st buf.new result }
 {
-    let zero = has_null_byte(names, n);
-    if zero {
-        number(buf, st, LITTLE, 4, 0, 18)
-    } else {
-        name(buf, st, LITTLE, 4, names, n)
+    if has_null_byte(names, n) {
+        return number(buf, st, LITTLE, 4, 0, Err(Reason::ZeroByte));
     }
+    name(buf, st, LITTLE, 4, names, n)
 }
 
 pub fn empty(buf: &mut [u8], st: Step) -> Step
@@ -56,8 +49,7 @@ fn digit(n: u8) -> u8
     ensures { result ≡ spec.digit (spec.low n) }
 {
     let d = n % 16;
-    let small = d < 10;
-    if small { 0x30 + d } else { 0x57 + d }
+    if d < 10 { b'0' + d } else { b'a' - 10 + d }
 }
 
 fn hex(color: u32) -> [u8; 7]
@@ -67,7 +59,7 @@ fn hex(color: u32) -> [u8; 7]
     let g = green(color);
     let b = blue(color);
     [
-        0x23,
+        b'#',
         digit(r / 16),
         digit(r),
         digit(g / 16),
@@ -81,6 +73,5 @@ fn hex(color: u32) -> [u8; 7]
 pub fn color(buf: &mut [u8], st: Step, c: u32) -> Step
     ensures { PutsPlain grammar.lestring (letters (spec.hex c)) buf.old st buf.new result }
 {
-    let letters = hex(c);
-    text(buf, st, LITTLE, 4, &letters)
+    text(buf, st, LITTLE, 4, &hex(c))
 }

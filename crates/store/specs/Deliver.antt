@@ -16,10 +16,9 @@ unfoldable pub output : Step → List ℕ → List ℕ → List ℕ
 output (Ok n) xs out = xs ++ drop n out
 output (Err (n, p)) xs out = out
 
--- what an answer of the code says
+-- what an answer of the code says: it is one of writing
 abbrev pub answer : Written → Step
-answer (Ok n) = Ok n
-answer (Err (n, p)) = Err (n, p)
+answer r = r
 
 -- the bytes of a buffer b up to a position st, or nothing after a refusal; a position past its end is its end
 pub record DeliversTo (b : List ℕ) (st : Step) (out : List ℕ) (r : Step) (out' : List ℕ) : Type 0 where

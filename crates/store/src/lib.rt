@@ -1,6 +1,8 @@
 // Writing by a layout: fields stored in a buffer one after the other, and runs of 32-bit words likewise. Each writer takes a buffer, what was
 // written so far and the value of a field; it stores the field there and gives what is written then. A refusal is handed on, and the buffer
 // stays as it was before the field that is refused: `specs/Put.antt` says what every buffer then holds.
+// The buffer and what was written so far stay two parameters: with a struct that holds the buffer's `&mut` (tried), each contract has to say
+// besides that it is still the same buffer, by its ghost name, and as long.
 #![tactic(auto)]
 
 pub mod deliver; // a buffer handed over

@@ -1,6 +1,6 @@
 // Dimensions: a name, properties and categories; when one ends, its n is known and its leaf indexes are tested.
 ghost use Rattle.std.specs.Prelude.{◌≡◌, ◌<◌, ◌≤◌, ◌+◌, ◌*◌, length, drop};
-ghost use Rattle.sizes.specs.Sizes.{most_dimensions, most_nodes};
+ghost use Rattle.sizes.specs.Sizes.{most_dimensions};
 ghost use Rattle.refusals.specs.Numbers.{by_number};
 ghost use Rattle.layout.specs.Reads.{Reads};
 ghost use Rattle.grammar.specs.Rule.{items};
@@ -8,10 +8,12 @@ ghost use Rattle.grammar.specs.Laws.Layout.Check.{check};
 ghost use Rattle.layout.specs.Keeps.{Keeps, Each};
 ghost use Rattle.grammar.specs.Table as grammar;
 ghost use Rattle.grammar.specs.Rules.{dimension_rule, dimensions_rule};
+ghost use Rattle.table.specs.Walk.{walk_of};
 ghost use Rattle.table.specs.Laws.Dims as spec;
 ghost use Rattle.table.specs.Laws.Within.{Room, Scratch, needed, within};
 
-use crate::{LEAST_CATEGORY, Level, Member, Walk, categories, length, put, word};
+use crate::progress::Reached;
+use crate::{LEAST_CATEGORY, Level, Member, categories, length, put, word};
 use layout::number::{any, between, boolean, count, fixed, left, peek};
 use layout::{LITTLE, Step};
 use once::check_leaves;
@@ -44,21 +46,20 @@ fn properties(s: &[u8], st: Step) -> Step
     any(s, st, 4)
 }
 
-// Dimension i, whose name has that place and length, ends at p, with u nodes in all.
+// Dimension i, whose name has that place and length, ends at `end`; its nodes have the numbers from `used` on.
 fn close(
     i: usize,
     at: usize,
     size: u32,
     used: usize,
-    p: usize,
-    u: usize,
+    end: Reached,
     nodes: &[u32],
     dims: &mut [u32; DIMENSION_AREA],
-) -> Walk
+) -> Result<Reached, Refusal>
     requires { i < most_dimensions }
-    ensures { spec.Closed i at size used p u nodes.now dims.old (by_number result) dims.new }
+    ensures { spec.Closed i at size used end.at end.used nodes.now dims.old (walk_of result) dims.new }
 {
-    let leaves = check_leaves(nodes, used, between(used, u));
+    let leaves = check_leaves(nodes, used, between(used, end.used));
     if let Some(place) = leaves.bad {
         return Err(Refusal {
             reason: Reason::LeafIndex,
@@ -70,33 +71,43 @@ fn close(
         DIMENSION_WORDS * i,
         &[word(at), size, word(leaves.count), word(used)],
     );
-    Ok((p, u))
+    Ok(end)
 }
 
 // Dimension i.
 fn dimension(
     member: Member,
     i: usize,
-    at: usize,
-    used: usize,
+    from: Reached,
     nodes: &mut [u32],
     dims: &mut [u32; DIMENSION_AREA],
-) -> Walk
-    requires { (i < most_dimensions) × (used ≤ most_nodes) × Room spec.node_record_sizes (length nodes.old) used at member.bytes.now }
-    ensures { Keeps member.entry.bytes.now (spec.Dim member.entry.version at (spec.kept i used nodes.old dims.old)) (check (dimension_rule member.entry.version used) (drop at member.entry.bytes.now) at) (spec.dims_out (i + 1) (by_number result) nodes.new dims.new) }
+) -> Result<Reached, Refusal>
+    requires { (i < most_dimensions) × Room spec.node_record_sizes (length nodes.old) from.used from.at member.bytes.now }
+    ensures { Keeps member.entry.bytes.now (spec.Dim member.entry.version from.at (spec.kept i from.used nodes.old dims.old)) (check (dimension_rule member.entry.version from.used) (drop from.at member.entry.bytes.now) from.at) (spec.dims_out (i + 1) (walk_of result) nodes.new dims.new) }
 {
     let s = member.bytes;
-    let name = value(s, Ok(at), member.version)?;
+    let name = value(s, Ok(from.at), member.version)?;
     let before = properties(s, Ok(name));
     let n = peek(s, before, LITTLE, 4);
-    let first = any(s, before, 4)?;
+    let first = Reached {
+        at: any(s, before, 4)?,
+        used: from.used,
+    };
     let level = Level {
         depth: CATEGORY_DEPTH,
         dimension: i as u32,
         parent: NO_PARENT,
     };
-    let (end, after) = categories(member, first, level, n, used, nodes)?;
-    close(i, at, length(at, name), used, end, after, nodes, dims)
+    let end = categories(member, first, level, n, nodes)?;
+    close(
+        i,
+        from.at,
+        length(from.at, name),
+        from.used,
+        end,
+        nodes,
+        dims,
+    )
 }
 
 // n dimensions.
@@ -106,16 +117,15 @@ fn all(
     n: usize,
     nodes: &mut [u32],
     dims: &mut [u32; DIMENSION_AREA],
-) -> Walk
+) -> Result<Reached, Refusal>
     requires { (n ≤ most_dimensions) × Room spec.node_record_sizes (length nodes.old) 0 at member.bytes.now }
-    ensures { Keeps member.entry.bytes.now (Each (spec.Dim member.entry.version) at (spec.kept 0 0 nodes.old dims.old)) (check (items {n = n} (spec.next_dim member.entry.version)) (drop at member.entry.bytes.now) at) (spec.dims_out n (by_number result) nodes.new dims.new) }
+    ensures { Keeps member.entry.bytes.now (Each (spec.Dim member.entry.version) at (spec.kept 0 0 nodes.old dims.old)) (check (items {n = n} (spec.next_dim member.entry.version)) (drop at member.entry.bytes.now) at) (spec.dims_out n (walk_of result) nodes.new dims.new) }
 {
-    let mut at = at;
-    let mut used = 0;
+    let mut reached = Reached { at, used: 0 };
     for i in 0..n {
-        (at, used) = dimension(member, i, at, used, nodes, dims)?;
+        reached = dimension(member, i, reached, nodes, dims)?;
     }
-    Ok((at, used))
+    Ok(reached)
 }
 
 // The section, with room for its records.
@@ -131,11 +141,11 @@ fn with_room(
     let n = peek(member.bytes, Ok(at), LITTLE, 4);
     let first = count(member.bytes, Ok(at), LIMIT)?;
     let dimensions = n as usize;
-    let (end, used) = all(member, first, dimensions, nodes, dims)?;
+    let reached = all(member, first, dimensions, nodes, dims)?;
     Ok(Section {
-        end,
+        end: reached.at,
         dimensions,
-        nodes: used,
+        nodes: reached.used,
     })
 }
 

@@ -3,7 +3,6 @@
 
 ghost use Rattle.std.specs.Prelude.{◌≡◌, ◌≤◌, ◌-◌, drop, IfSome, Ok};
 ghost use Rattle.std.proofs.lemmas.List.Edits.{sets};
-ghost use Rattle.sizes.specs.Sizes.{most_nodes};
 ghost use Rattle.refusals.specs.Numbers.{by_number};
 ghost use Rattle.refusals.specs.Verdicts.{code};
 ghost use Rattle.grammar.specs.Layout.{little, one_of};
@@ -17,18 +16,21 @@ ghost use Rattle.layout.specs.Words.{word32};
 ghost use Rattle.grammar.specs.Table as grammar;
 ghost use Rattle.grammar.specs.Records.{Head};
 ghost use Rattle.grammar.specs.Rules.{category_rule, categories_rule};
+ghost use Rattle.table.specs.Walk.{walk_of};
 ghost use Rattle.table.specs.Laws.Heads.{HeadRead, node_of, start_of, own_kind, own_word, own_children};
 ghost use Rattle.table.specs.Laws.OwnPart.{OwnIs};
 ghost use Rattle.table.specs.Laws.Nodes as spec;
 
 use layout::number::{any, between, field, fixed, left, peek, unless_either};
 use layout::{LITTLE, Step};
+use progress::Reached;
 use refusals::{Reason, Refusal, Verdict};
 use sizes::{MOST_NODES, NODE_WORDS};
 use value::value;
 
 mod bytes; // the bytes of a member
 mod dimension; // dimensions
+mod progress; // how far a walk is
 
 pub use bytes::Member;
 pub use dimension::{Section, dimensions, most_node_words};
@@ -42,7 +44,7 @@ const OWN_PART: usize = 15;
 // The bytes that a category takes at least.
 pub const LEAST_CATEGORY: usize = 16;
 
-// What a walk gives: the next position and the number of nodes so far; or the refusal.
+// What the readers of records give: the next position and how many records there are; or the refusal.
 pub type Walk = Result<(usize, usize), Refusal>;
 
 // What the bytes after a category's name say: the index of a leaf, or how many categories are below a group.
@@ -222,79 +224,82 @@ fn head(member: Member, at: usize) -> Result<NodeStart, Refusal>
 
 // ---- categories
 
-// A category, and its nodes from the number `used` on. Its own record is stored once those below it are read, since it says how many nodes
-// they are.
+// A category, and its nodes from the number `from.used` on. Its own record is stored once those below it are read, since it says how many
+// nodes they are.
 #[cycle(below_categories_category)]
-fn category(member: Member, at: usize, level: Level, used: usize, nodes: &mut [u32]) -> Walk
-    requires { used ≤ most_nodes }
-    ensures { Keeps member.entry.bytes.now (spec.Node member.entry.version level.depth level.dimension level.parent at (used, nodes.old)) (check (category_rule member.entry.version level.depth used) (drop at member.entry.bytes.now) at) (spec.walked (by_number result) nodes.new) }
+fn category(
+    member: Member,
+    from: Reached,
+    level: Level,
+    nodes: &mut [u32],
+) -> Result<Reached, Refusal>
+    ensures { Keeps member.entry.bytes.now (spec.Node member.entry.version level.depth level.dimension level.parent from.at (from.used, nodes.old)) (check (category_rule member.entry.version level.depth from.used) (drop from.at member.entry.bytes.now) from.at) (spec.walked (walk_of result) nodes.new) }
 {
-    if level.depth == 0 || MOST_NODES <= used {
+    if level.depth == 0 || MOST_NODES <= from.used {
         return Err(Refusal {
             reason: Reason::Limit,
-            place: at,
+            place: from.at,
         });
     }
-    let start = head(member, at)?;
+    let start = head(member, from.at)?;
     let own = start.own;
+    let first = Reached {
+        at: start.next,
+        used: from.used + 1,
+    };
     let inner = Level {
         depth: level.depth - 1,
         dimension: level.dimension,
-        parent: used as u32,
+        parent: from.used as u32,
     };
-    let (end, after) = below(member, start.next, inner, own.children(), used + 1, nodes)?;
+    let end = below(member, first, inner, own.children(), nodes)?;
     put(
         nodes,
-        NODE_WORDS * used,
+        NODE_WORDS * from.used,
         &[
             own.kind(),
             level.dimension,
             level.parent,
-            word(at),
+            word(from.at),
             start.size,
             own.word(),
-            length(used, after),
+            length(from.used, end.used),
         ],
     );
-    Ok((end, after))
+    Ok(end)
 }
 
 // The categories below one: a leaf has none, and no call is made for it.
 #[cycle(below_categories_category)]
 fn below(
     member: Member,
-    at: usize,
+    from: Reached,
     level: Level,
     count: u64,
-    used: usize,
     nodes: &mut [u32],
-) -> Walk
-    requires { used ≤ most_nodes }
-    ensures { Keeps member.entry.bytes.now (Each (spec.Node member.entry.version level.depth level.dimension level.parent) at (used, nodes.old)) (check (categories_rule member.entry.version level.depth used count) (drop at member.entry.bytes.now) at) (spec.walked (by_number result) nodes.new) }
+) -> Result<Reached, Refusal>
+    ensures { Keeps member.entry.bytes.now (Each (spec.Node member.entry.version level.depth level.dimension level.parent) from.at (from.used, nodes.old)) (check (categories_rule member.entry.version level.depth from.used count) (drop from.at member.entry.bytes.now) from.at) (spec.walked (walk_of result) nodes.new) }
 {
     if count == 0 {
-        return Ok((at, used));
+        return Ok(from);
     }
-    categories(member, at, level, count, used, nodes)
+    categories(member, from, level, count, nodes)
 }
 
 // As many categories as `count` says, one after the other.
 #[cycle(below_categories_category)]
 fn categories(
     member: Member,
-    at: usize,
+    from: Reached,
     level: Level,
     count: u64,
-    used: usize,
     nodes: &mut [u32],
-) -> Walk
-    requires { used ≤ most_nodes }
-    ensures { Keeps member.entry.bytes.now (Each (spec.Node member.entry.version level.depth level.dimension level.parent) at (used, nodes.old)) (check (categories_rule member.entry.version level.depth used count) (drop at member.entry.bytes.now) at) (spec.walked (by_number result) nodes.new) }
+) -> Result<Reached, Refusal>
+    ensures { Keeps member.entry.bytes.now (Each (spec.Node member.entry.version level.depth level.dimension level.parent) from.at (from.used, nodes.old)) (check (categories_rule member.entry.version level.depth from.used count) (drop from.at member.entry.bytes.now) from.at) (spec.walked (walk_of result) nodes.new) }
 {
-    let mut at = at;
-    let mut used = used;
+    let mut reached = from;
     for _ in 0..count {
-        (at, used) = category(member, at, level, used, nodes)?;
+        reached = category(member, reached, level, nodes)?;
     }
-    Ok((at, used))
+    Ok(reached)
 }

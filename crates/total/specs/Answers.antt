@@ -1,5 +1,5 @@
 -- What is answered for a leaf and for all leaves of a dimension, and what the lent areas then hold (document 02, T-01).
-use Rattle.std.specs.Prelude.{◌≡◌, Bool, ◌&&◌, List, ◌++◌, ℕ, ◌*◌, length, drop, get_or, eqb, leb, ltb, pos, Float}
+use Rattle.std.specs.Prelude.{◌≡◌, Bool, ◌&&◌, List, ◌++◌, ℕ, ◌*◌, length, drop, get_or, eqb, leb, ltb, pos, Float, Option, None, Some}
 use Rattle.std.specs.Float.{binary64}
 use Rattle.std.specs.Float.Ieee.{of_int}
 use Rattle.sizes.specs.Sizes.{leaf_total_words}
@@ -51,9 +51,13 @@ totalled node-count cell-count s = record {
   largest = double s.largest;
 }
 
--- "20 at the Value of the leaf's first bad cell in file order"
+-- "20 at the Value of the leaf's first bad cell in file order", if there is one
+abbrev pub unless_bad : Option ℕ → LeafTotal → LeafTotal
+unless_bad (Some place) x = refused 20 place 0 0
+unless_bad None x = x
+
 abbrev pub answered : ℕ → ℕ → Sums → LeafTotal
-answered node-count cell-count s = pick s.bad (refused 20 s.place 0 0) (totalled node-count cell-count s)
+answered node-count cell-count s = unless_bad s.bad (totalled node-count cell-count s)
 
 -- "19 at place 0 for a dimension or leaf that isn't there"
 abbrev pub there : Tree Member → ℕ → ℕ → Bool

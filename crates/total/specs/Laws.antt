@@ -25,6 +25,5 @@ pub mod Reading
 pub mod Areas
 pub mod Call
 pub mod AllCall
-pub mod Asked
 pub mod Doubles
 pub mod Calls

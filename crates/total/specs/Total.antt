@@ -1,12 +1,12 @@
 -- The total of the cells under a leaf (document 02, T-01).
-use Rattle.std.specs.Prelude.{Bool, true, false, List, [], ◌∷◌, ℕ, ◌+◌, min, max, eqb}
+use Rattle.std.specs.Prelude.{Bool, true, List, [], ◌∷◌, ℕ, ◌+◌, min, max, eqb, None, Some}
 use Rattle.sizes.specs.Basics.{pick}
 use Rattle.grammar.specs.Layout.{Tree, size}
 use Rattle.grammar.specs.Index.{coordinate}
 use Rattle.grammar.specs.Table.{Cell}
 use Rattle.grammar.specs.Records.{cell_index, cell_value}
 use Rattle.grammar.specs.Member.{Member, version, cells, cells_start, ns}
-use Rattle.contents.specs.declared.Contents.{Contents}
+use Rattle.contents.specs.Said.{Contents}
 use Rattle.contents.specs.Contents.{contents}
 use Rattle.counts.specs.declared.Kind.{Kind}
 use Rattle.counts.specs.declared.Kind.TheVariants.{Text, Missing, Number, Bad}
@@ -24,15 +24,14 @@ pub record CellSays : Type 0 where
 -- ---- sums over cells, in file order
 
 abbrev pub no_sums : Sums
-no_sums = record { bad = false; place = 0; total = 0; numbers = 0; texts = 0; missing = 0; smallest = 0; largest = 0 }
+no_sums = record { bad = None; total = 0; numbers = 0; texts = 0; missing = 0; smallest = 0; largest = 0 }
 
 -- one cell before others: the first bad one decides; the smallest of the first number is that number
 unfoldable pub add : Kind → ℕ → Sums → Sums
-add Text place s = record { bad = s.bad; place = s.place; total = s.total; numbers = s.numbers; texts = s.texts + 1; missing = s.missing; smallest = s.smallest; largest = s.largest }
-add Missing place s = record { bad = s.bad; place = s.place; total = s.total; numbers = s.numbers; texts = s.texts; missing = s.missing + 1; smallest = s.smallest; largest = s.largest }
+add Text place s = record { bad = s.bad; total = s.total; numbers = s.numbers; texts = s.texts + 1; missing = s.missing; smallest = s.smallest; largest = s.largest }
+add Missing place s = record { bad = s.bad; total = s.total; numbers = s.numbers; texts = s.texts; missing = s.missing + 1; smallest = s.smallest; largest = s.largest }
 add (Number n) place s = record {
   bad = s.bad;
-  place = s.place;
   total = s.total + n;
   numbers = s.numbers + 1;
   texts = s.texts;
@@ -40,7 +39,7 @@ add (Number n) place s = record {
   smallest = pick (eqb s.numbers 0) n (min n s.smallest);
   largest = max n s.largest;
 }
-add Bad place s = record { bad = true; place = place; total = s.total; numbers = s.numbers; texts = s.texts; missing = s.missing; smallest = s.smallest; largest = s.largest }
+add Bad place s = record { bad = Some place; total = s.total; numbers = s.numbers; texts = s.texts; missing = s.missing; smallest = s.smallest; largest = s.largest }
 
 abbrev pub add_cell : CellSays → Sums → Sums
 add_cell c s = add (kind c.contents.raw.form c.contents.raw.bits) c.place s

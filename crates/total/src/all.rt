@@ -7,7 +7,7 @@ ghost use Rattle.total.specs.Laws.Reading.{Taken};
 ghost use Rattle.total.specs.Laws.AllCall as laws;
 
 use crate::DimensionTotals;
-use crate::call::copy;
+use crate::call::copy_records;
 use crate::rows::fill;
 use answer::Answer;
 use member::read_into;
@@ -30,19 +30,15 @@ pub fn refused_all(n: u32, p: usize, nodes: u32, cells: u32, leaves: u32) -> Dim
 fn dimension_answer(a: Answer, dimension: u32, room: usize) -> DimensionTotals
     ensures { result ≡ laws.dimension_of a dimension room }
 {
-    let inside = dimension < a.dims;
-    if inside {
-        let dims = a.dimensions;
-        let n = word(&dims, DIMENSION_WORDS * dimension as usize + DIMENSION_N);
-        let fits = LEAF_TOTAL_WORDS * n as usize <= room;
-        if fits {
-            refused_all(0, 0, a.nodes, a.cells, n)
-        } else {
-            refused_all(15, 0, 0, 0, n)
-        }
-    } else {
-        refused_all(19, 0, 0, 0, 0)
+    if a.dims <= dimension {
+        return refused_all(19, 0, 0, 0, 0);
     }
+    let dims = a.dimensions;
+    let n = word(&dims, DIMENSION_WORDS * dimension as usize + DIMENSION_N);
+    if room < LEAF_TOTAL_WORDS * n as usize {
+        return refused_all(15, 0, 0, 0, n);
+    }
+    refused_all(0, 0, a.nodes, a.cells, n)
 }
 
 // What is answered of an accepted member, for lent areas of some lengths.
@@ -55,17 +51,13 @@ fn fitting_all(
 ) -> DimensionTotals
     ensures { result ≡ laws.fitting_all a dimension room node_room cell_room }
 {
-    let wide = NODE_WORDS * a.nodes as usize <= node_room;
-    if wide {
-        let long = CELL_WORDS * a.cells as usize <= cell_room;
-        if long {
-            dimension_answer(a, dimension, room)
-        } else {
-            refused_all(13, 0, a.nodes, a.cells, 0)
-        }
-    } else {
-        refused_all(12, 0, a.nodes, a.cells, 0)
+    if node_room < NODE_WORDS * a.nodes as usize {
+        return refused_all(12, 0, a.nodes, a.cells, 0);
     }
+    if cell_room < CELL_WORDS * a.cells as usize {
+        return refused_all(13, 0, a.nodes, a.cells, 0);
+    }
+    dimension_answer(a, dimension, room)
 }
 
 // The same, with the totals and the records into the lent areas where nothing is refused.
@@ -86,17 +78,15 @@ fn accepted_all(
     let node_room = nodes.len();
     let cell_room = cells.len();
     let x = fitting_all(a, dimension, room, node_room, cell_room);
-    let fine = x.refusal == 0;
-    if fine {
+    if x.refusal == 0 {
         fill(member, a, cell_list, dimension, x.leaves as usize, totals);
-        copy(node_list, NODE_WORDS * a.nodes as usize, nodes);
-        copy(cell_list, CELL_WORDS * a.cells as usize, cells);
+        copy_records(a, node_list, cell_list, nodes, cells);
     }
     x
 }
 
 // Reads a member into two lists that are long enough for its records.
-pub fn all_with_lists(
+pub fn all_into_lists(
     member: &[u8],
     dimension: u32,
     node_list: &mut [u32],
@@ -109,12 +99,10 @@ pub fn all_with_lists(
     ensures { AllTotalled member.now totals.old nodes.old cells.old dimension result totals.new nodes.new cells.new }
 {
     let a = read_into(member, node_list, cell_list);
-    let fine = a.refusal == 0;
-    if fine {
-        accepted_all(
-            member, a, node_list, cell_list, dimension, totals, nodes, cells,
-        )
-    } else {
-        refused_all(a.refusal, a.place, 0, 0, 0)
+    if a.refusal != 0 {
+        return refused_all(a.refusal, a.place, 0, 0, 0);
     }
+    accepted_all(
+        member, a, node_list, cell_list, dimension, totals, nodes, cells,
+    )
 }

@@ -52,14 +52,12 @@ pub fn total_words(
 ) -> usize
     ensures { TotalRead member.now answer.old nodes.old cells.old dimension leaf result answer.new nodes.new cells.new }
 {
-    let room = TOTAL_ANSWER_WORDS <= answer.len();
-    if room {
-        let x = total(member, dimension, leaf, nodes, cells);
-        answer_words(answer, x);
-        TOTAL_ANSWER_WORDS
-    } else {
-        0
+    if answer.len() < TOTAL_ANSWER_WORDS {
+        return 0;
     }
+    let x = total(member, dimension, leaf, nodes, cells);
+    let _ = answer_words(answer, x);
+    TOTAL_ANSWER_WORDS
 }
 
 // The same of all leaves of a dimension, with TOTALS_ANSWER_WORDS.
@@ -73,12 +71,10 @@ pub fn totals_words(
 ) -> usize
     ensures { TotalsRead member.now answer.old rows.old nodes.old cells.old dimension result answer.new rows.new nodes.new cells.new }
 {
-    let room = TOTALS_ANSWER_WORDS <= answer.len();
-    if room {
-        let x = totals(member, dimension, rows, nodes, cells);
-        dimension_words(answer, x);
-        TOTALS_ANSWER_WORDS
-    } else {
-        0
+    if answer.len() < TOTALS_ANSWER_WORDS {
+        return 0;
     }
+    let x = totals(member, dimension, rows, nodes, cells);
+    let _ = dimension_words(answer, x);
+    TOTALS_ANSWER_WORDS
 }

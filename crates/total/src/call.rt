@@ -9,20 +9,24 @@ ghost use Rattle.total.specs.Laws.Call as spec;
 use crate::LeafTotal;
 use crate::leaf::{leaf_answer, refused};
 use answer::Answer;
-use layout::Step;
 use member::read_into;
 use sizes::{CELL_WORDS, NODE_WORDS};
-use store::words::put;
 
-// The first n words of a list over those of an area, where both have so many.
-pub fn copy(from: &[u32], n: usize, to: &mut [u32])
-    ensures { to.new ≡ areas.copied n from.now to.old }
+// The records of an accepted member, over the first words of areas that have room for them.
+pub fn copy_records(
+    a: Answer,
+    node_list: &[u32],
+    cell_list: &[u32],
+    nodes: &mut [u32],
+    cells: &mut [u32],
+)
+    requires { areas.Fit a node_list.now cell_list.now nodes.old cells.old }
+    ensures { areas.Copied a node_list.now cell_list.now nodes.old cells.old nodes.new cells.new }
 {
-    if n <= from.len() {
-        if n <= to.len() {
-            put(to, Ok(0), &from[..n]);
-        }
-    }
+    let node_words = NODE_WORDS * a.nodes as usize;
+    let cell_words = CELL_WORDS * a.cells as usize;
+    nodes[..node_words].copy_from_slice(&node_list[..node_words]);
+    cells[..cell_words].copy_from_slice(&cell_list[..cell_words]);
 }
 
 // What is answered of an accepted member, for lent areas of some lengths.
@@ -37,17 +41,13 @@ fn fitting(
 ) -> LeafTotal
     ensures { result ≡ spec.fitting member.now a cell_list.now dimension leaf node_room cell_room }
 {
-    let wide = NODE_WORDS * a.nodes as usize <= node_room;
-    if wide {
-        let long = CELL_WORDS * a.cells as usize <= cell_room;
-        if long {
-            leaf_answer(member, a, cell_list, dimension, leaf)
-        } else {
-            refused(13, 0, a.nodes, a.cells)
-        }
-    } else {
-        refused(12, 0, a.nodes, a.cells)
+    if node_room < NODE_WORDS * a.nodes as usize {
+        return refused(12, 0, a.nodes, a.cells);
     }
+    if cell_room < CELL_WORDS * a.cells as usize {
+        return refused(13, 0, a.nodes, a.cells);
+    }
+    leaf_answer(member, a, cell_list, dimension, leaf)
 }
 
 // The same, with the records into the lent areas where nothing is refused.
@@ -67,16 +67,14 @@ fn accepted(
     let node_room = nodes.len();
     let cell_room = cells.len();
     let x = fitting(member, a, cell_list, dimension, leaf, node_room, cell_room);
-    let fine = x.refusal == 0;
-    if fine {
-        copy(node_list, NODE_WORDS * a.nodes as usize, nodes);
-        copy(cell_list, CELL_WORDS * a.cells as usize, cells);
+    if x.refusal == 0 {
+        copy_records(a, node_list, cell_list, nodes, cells);
     }
     x
 }
 
 // Reads a member into two lists that are long enough for its records.
-pub fn with_lists(
+pub fn leaf_into_lists(
     member: &[u8],
     dimension: u32,
     leaf: u32,
@@ -89,12 +87,10 @@ pub fn with_lists(
     ensures { Totalled member.now nodes.old cells.old dimension leaf result nodes.new cells.new }
 {
     let a = read_into(member, node_list, cell_list);
-    let fine = a.refusal == 0;
-    if fine {
-        accepted(
-            member, a, node_list, cell_list, dimension, leaf, nodes, cells,
-        )
-    } else {
-        refused(a.refusal, a.place, 0, 0)
+    if a.refusal != 0 {
+        return refused(a.refusal, a.place, 0, 0);
     }
+    accepted(
+        member, a, node_list, cell_list, dimension, leaf, nodes, cells,
+    )
 }

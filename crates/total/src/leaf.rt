@@ -29,20 +29,20 @@ pub fn refused(n: u32, p: usize, nodes: u32, cells: u32) -> LeafTotal
 pub fn answered(nodes: u32, cells: u32, s: Sums) -> LeafTotal
     ensures { result ≡ spec.answered nodes cells s }
 {
-    if s.bad {
-        return refused(20, s.place as usize, 0, 0);
-    }
-    LeafTotal {
-        refusal: 0,
-        place: 0,
-        nodes,
-        cells,
-        total: s.total,
-        numbers: s.numbers,
-        texts: s.texts,
-        missing: s.missing,
-        smallest: s.smallest as f64,
-        largest: s.largest as f64,
+    match s.bad {
+        Some(place) => refused(20, place as usize, 0, 0),
+        None => LeafTotal {
+            refusal: 0,
+            place: 0,
+            nodes,
+            cells,
+            total: s.total,
+            numbers: s.numbers,
+            texts: s.texts,
+            missing: s.missing,
+            smallest: s.smallest as f64,
+            largest: s.largest as f64,
+        },
     }
 }
 
@@ -65,8 +65,7 @@ pub fn leaf_answer(
     ensures { result ≡ words.word_answer member.now a records.now dimension leaf }
 {
     let dims = a.dimensions;
-    let there = is_there(dims, a.dims, dimension, leaf);
-    if there {
+    if is_there(dims, a.dims, dimension, leaf) {
         let s = leaf_sums(member, a, records, dimension, leaf);
         answered(a.nodes, a.cells, s)
     } else {

@@ -6,16 +6,17 @@ pub mod answers; // the answers as words
 mod call; // a call for a leaf
 mod leaf; // a leaf of an accepted member
 mod rows; // all leaves of a dimension, in rows of words
-mod steps; // both calls, with lists by the length of the member
 mod sums; // sums over cells
 mod under; // the cells under a leaf
 mod words; // totals as words
 
+ghost use Rattle.std.specs.Prelude.{length};
+ghost use Rattle.member.specs.Laws.IntoLists.{LongEnough};
 ghost use Rattle.total.specs.Answers.{Totalled, ByDerivation, AllTotalled, AllByDerivation};
 
-use crate::all::refused_all;
-use crate::leaf::refused;
-use crate::steps::{Asked, FIRST_STEP, Said, from_step};
+use crate::all::all_into_lists;
+use crate::call::leaf_into_lists;
+use lists::with_lists;
 
 // What is answered for a leaf: the refusal, or 0, and its place; how many nodes and cells there are; the total of the numbers under the
 // leaf, how many numbers, texts and missing ones there are, the smallest number and the largest. All but the first two are 0 after a
@@ -56,20 +57,13 @@ pub fn total(
     ensures answers { Totalled member.now nodes.old cells.old dimension leaf result nodes.new cells.new }
     ensures demands { ByDerivation member.now nodes.old cells.old dimension leaf result nodes.new cells.new }
 {
-    let mut no_rows = [0u32; 0];
-    match from_step(
-        member,
-        FIRST_STEP,
-        dimension,
-        Asked::Leaf(leaf),
-        &mut no_rows,
-        nodes,
-        cells,
-    ) {
-        Said::Leaf(x) => x,
-        // never, where a leaf is asked for
-        Said::Leaves(_) => refused(0, 0, 0, 0),
-    }
+    with_lists(
+        member.len(),
+        &mut |node_list, cell_list|
+            requires { LongEnough member.now 0 (length node_list.old) (length cell_list.old) }
+            ensures { Totalled member.entry.now nodes.entry.now cells.entry.now dimension leaf result nodes.exit.now cells.exit.now }
+        { leaf_into_lists(member, dimension, leaf, node_list, cell_list, nodes, cells) },
+    )
 }
 
 // What `total` answers for each leaf of a dimension, in one reading: a row of LEAF_TOTAL_WORDS words for each in `totals`. On a refusal the
@@ -84,17 +78,11 @@ pub fn totals(
     ensures answers { AllTotalled member.now totals.old nodes.old cells.old dimension result totals.new nodes.new cells.new }
     ensures demands { AllByDerivation member.now totals.old nodes.old cells.old dimension result totals.new nodes.new cells.new }
 {
-    match from_step(
-        member,
-        FIRST_STEP,
-        dimension,
-        Asked::Leaves,
-        totals,
-        nodes,
-        cells,
-    ) {
-        Said::Leaves(x) => x,
-        // never, where all leaves are asked for
-        Said::Leaf(_) => refused_all(0, 0, 0, 0, 0),
-    }
+    with_lists(
+        member.len(),
+        &mut |node_list, cell_list|
+            requires { LongEnough member.now 0 (length node_list.old) (length cell_list.old) }
+            ensures { AllTotalled member.entry.now totals.entry.now nodes.entry.now cells.entry.now dimension result totals.exit.now nodes.exit.now cells.exit.now }
+        { all_into_lists(member, dimension, node_list, cell_list, totals, nodes, cells) },
+    )
 }

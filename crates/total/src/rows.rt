@@ -24,8 +24,7 @@ fn row(area: &[u32], j: usize) -> Sums
 {
     let at = LEAF_TOTAL_WORDS * j;
     Sums {
-        bad: word(area, at) == 1,
-        place: word(area, at + 1),
+        bad: (word(area, at) == 1).then_some(word(area, at + 1)),
         total: word(area, at + 2) as u64 + word(area, at + 3) as u64 * 4294967296,
         numbers: word(area, at + 4),
         texts: word(area, at + 5),
@@ -35,8 +34,8 @@ fn row(area: &[u32], j: usize) -> Sums
     }
 }
 
-// The words of a row from a position on. They are stored one by one: words that are put together in an array first, and copied by several
-// at a time, wait for their own stores.
+// The words of a row from a position on. They are stored one by one, and are parameters and no array: words that are put together in an
+// array first, and copied by several at a time, wait for their own stores.
 fn put_row(
     area: &mut [u32],
     at: usize,
@@ -76,8 +75,8 @@ fn set_row(area: &mut [u32], j: usize, s: Sums)
     put_row(
         area,
         LEAF_TOTAL_WORDS * j,
-        s.bad as u32,
-        s.place,
+        s.bad.is_some() as u32,
+        s.bad.unwrap_or(0),
         (s.total % 4294967296) as u32,
         (s.total / 4294967296) as u32,
         s.numbers,
@@ -119,10 +118,8 @@ fn clear(area: &mut [u32], n: usize)
     requires { (n < 2 ^ 32) × (leaf_total_words * n ≤ length area.old) }
     ensures { area.new ≡ laws.no_sum_words n ++ drop (leaf_total_words * n) area.old }
 {
-    let mut j = 0;
-    while j < n {
+    for j in 0..n {
         set_row(area, j, no_sums());
-        j += 1;
     }
 }
 
@@ -163,9 +160,7 @@ fn scatter_all(
     requires { (m ≤ 2 ^ 31) × (n < 2 ^ 32) × (leaf_total_words * n ≤ length area.old) × (area.old ≡ laws.no_sum_words n ++ drop (leaf_total_words * n) area.old) }
     ensures { area.new ≡ laws.all_sums block step (words_spec.records_say member.now version words.now 0 m) n ++ drop (leaf_total_words * n) area.old }
 {
-    let mut i = m;
-    while 0 < i {
-        i -= 1;
+    for i in (0..m).rev() {
         scatter(member, version, words, i, block, step, n, area);
     }
 }
@@ -175,11 +170,9 @@ fn finish(area: &mut [u32], n: usize, nodes: u32, cells: u32)
     requires { (n < 2 ^ 32) × (leaf_total_words * n ≤ length area.old) }
     ensures { area.new ≡ laws.finished nodes cells n area.old }
 {
-    let mut j = 0;
-    while j < n {
+    for j in 0..n {
         let s = row(area, j);
         answer_row(area, j, answered(nodes, cells, s));
-        j += 1;
     }
 }
 

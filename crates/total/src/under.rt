@@ -54,8 +54,7 @@ pub fn no_sums() -> Sums
     ensures { result ≡ spec.no_sums }
 {
     Sums {
-        bad: false,
-        place: 0,
+        bad: None,
         total: 0,
         numbers: 0,
         texts: 0,
@@ -80,12 +79,9 @@ pub fn sums_under(
     ensures { result ≡ spec.sums (words_spec.under_by block step leaf) (words_spec.records_say member.now version words.now 0 m) }
 {
     let mut s = no_sums();
-    let mut i = m;
-    while 0 < i {
-        i -= 1;
+    for i in (0..m).rev() {
         let at = CELL_WORDS * i;
-        let under = is_under(word(words, at), block, step, leaf);
-        if under {
+        if is_under(word(words, at), block, step, leaf) {
             let k = kind_at(member, version, words, i);
             s = add(k, word(words, at + 1), s);
         }

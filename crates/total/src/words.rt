@@ -14,7 +14,7 @@ pub fn bits(x: f64) -> u64
     requires { T (not (is_nan x)) }
     ensures { result ≡ to_bits binary64 x }
 {
-    f64::to_bits(x)
+    x.to_bits()
 }
 
 // The nine words of totals, from a position on.

@@ -6,7 +6,7 @@ use Rattle.std.proofs.Math.Bool.{true, false}
 use native.Mathlib.Omega.{arith}
 use Rattle.std.proofs.Math.ListN.{length}
 use Rattle.std.proofs.Math.Dec.{leb}
-use Rattle.sizes.specs.Sizes.{member_bytes, node_words, cell_words, node_area, cell_area}
+use Rattle.sizes.specs.Sizes.{member_bytes, node_words, cell_words}
 use Rattle.sizes.specs.Basics.{among, pick}
 use Rattle.grammar.specs.Layout.{Tree, Bytes}
 use Rattle.grammar.specs.Laws.Layout.Read.{Got, got, no}

@@ -1,4 +1,4 @@
-use Rattle.store.specs.Laws.Puts.{none_puts, more_puts, long}
+use Rattle.store.specs.Laws.Puts.{none_puts, more_puts}
 use Rattle.look_put.proofs.most_areas.Goals as goal
 
 pub returns : goal.returns
@@ -11,6 +11,3 @@ returns c =
     (more_puts {n = 1} c.area-st-6.ensures
     (more_puts {n = 0} c.area.ensures
     none_puts)))))))
-
-pub shape_of-buf : goal.shape_of-buf
-shape_of-buf c = long (returns c)

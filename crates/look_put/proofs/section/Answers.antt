@@ -3,5 +3,5 @@ use Rattle.look_put.proofs.section.Goals as goal
 
 pub returns : goal.returns
 returns c =
-    c.fixed_byte-st.ensures ⊳ c.fixed_byte-st-2.ensures ⊳ c.fixed_byte-st-3.ensures
-    ⊳ c.fixed_byte-st-4.ensures ⊳ c.quoted.ensures
+    c.byte-st.ensures.fixed ⊳ c.byte-st-2.ensures.fixed ⊳ c.byte-st-3.ensures.fixed
+    ⊳ c.byte-st-4.ensures.fixed ⊳ c.quoted.ensures

@@ -12,7 +12,7 @@ pub returns-in-NotDrawn : goal.returns-in-NotDrawn
 unfolding verdict passes among pick
 returns-in-NotDrawn c =
     rw c.in-NotDrawn.is
-    (plain_switch (λ type. grammar.SeparatorIf (eqb type 1)) (omega arith) refl c.number-st.ensures c.fixed_byte.ensures)
+    (plain_switch (λ type. grammar.SeparatorIf (eqb type 1)) (omega arith) refl c.number-st.ensures c.byte.ensures.fixed)
 
 pub returns-in-Drawn : goal.returns-in-Drawn
 unfolding verdict passes among pick
@@ -20,5 +20,5 @@ returns-in-Drawn c =
     rw c.in-Drawn.is
     (plain_switch (λ type. grammar.SeparatorIf (eqb type 1)) (omega arith) refl
     c.number-st-in-Drawn.ensures
-    (c.fixed_byte-st.ensures ⊳ c.color-st.ensures ⊳ c.int16-st.ensures
-    ⊳ c.int16.ensures))
+    (c.byte-st.ensures.fixed ⊳ c.color-st.ensures ⊳ c.int16-st.ensures.any
+    ⊳ c.int16.ensures.any))

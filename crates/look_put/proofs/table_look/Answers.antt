@@ -1,6 +1,6 @@
 use native.Mathlib.Omega.{arith}
 use Rattle.grammar.specs.Layout.{◌▸◌}
-use Rattle.store.specs.Laws.Puts.{plain, ◌⟫◌, switch_puts, long}
+use Rattle.store.specs.Laws.Puts.{plain, ◌⟫◌, switch_puts}
 use Rattle.look.specs.Look as grammar
 use Rattle.look.specs.Look.{PTTable_look_name}
 use Rattle.look_put.proofs.table_look.Goals as goal
@@ -12,6 +12,3 @@ returns c =
     ⟫ switch_puts (λ version. grammar.settings ▸ grammar.sections grammar.V2Styles) (omega arith) c.known_one.ensures c.number-st.ensures
     (plain c.settings-st.ensures
     ⟫ (plain c.separator_style-st.ensures ⟫ plain c.cell_style-st.ensures ⟫ c.text_style-st.ensures ⟫ c.v2_styles.ensures))
-
-pub shape_of-buf : goal.shape_of-buf
-shape_of-buf c = long (returns c)

@@ -7,4 +7,4 @@ returns-in-Default c = rw c.in-Default.is c.put.ensures
 
 pub returns-in-Stored : goal.returns-in-Stored
 unfolding continuation
-returns-in-Stored c = rw c.in-Stored.is c.put-in-Stored.ensures
+returns-in-Stored c = rw c.in-Stored.is (rw (c.word.ensures, c.word-in-Stored.ensures) at c.put-in-Stored.ensures)

@@ -1,5 +1,5 @@
 use Rattle.look_words.specs.LookWords.{look_words_of}
-use Rattle.store.specs.Laws.Puts.{◌⟩◌, long_words}
+use Rattle.store.specs.Laws.Puts.{◌⟩◌}
 use Rattle.look_words.proofs.whole.Goals as goal
 
 pub returns : goal.returns
@@ -8,6 +8,3 @@ returns c =
     c.put-st.ensures ⟩ c.lines-st.ensures ⟩ c.lines-st-2.ensures
     ⟩ c.area-st.ensures ⟩ c.most_areas-st.ensures ⟩ c.frames-st.ensures
     ⟩ c.v2_numbers.ensures
-
-pub shape_of-out : goal.shape_of-out
-shape_of-out c = long_words (returns c)

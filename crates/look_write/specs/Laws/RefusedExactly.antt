@@ -17,6 +17,7 @@ use Rattle.store.specs.Check.{check}
 use Rattle.store.specs.Check.{place_of}
 use Rattle.store.specs.Fields.{bytes_in}
 use Rattle.store.specs.Unwritable.{Writable}
+use Rattle.store.specs.Laws.Refusals.{same_refusal}
 use Rattle.store.specs.Laws.Exactly.{writable_exactly, unwritable_exactly}
 use Rattle.look.specs.declared.Look.{Look}
 use Rattle.look.specs.Look.{TableLook02}
@@ -31,7 +32,7 @@ module _ (x : Look) (s : List ℕ) (room : ℕ) where
 
   data Answers : Step → Type 0 where
     can : (n : ℕ) → Allowed x s room → n ≡ length (file x s) → Answers (Ok n)
-    can_not : {n p : ℕ} → Err (x, s) room n p → Answers (Err (n, p))
+    can_not : {n p : ℕ} → Refused x s room n p → Answers (Err (n, p))
 
   -- once the fields can be written
   ends : (n : ℕ) → Writable TableLook02 s (values.fields x) → n ≡ length (file x s) → Answers (ending room n)
@@ -55,7 +56,7 @@ module _ (x : Look) (s : List ℕ) (room : ℕ) where
   unfolding bytes_in file
   checked w = (writable_exactly TableLook02 s (values.fields x) 0 (length (file x s))).1 (w, sym (zero-add (length (file x s))))
 
-  refused : {n p : ℕ} → Err (x, s) room n p → writing x s room ≡ Err (n, p)
+  refused : {n p : ℕ} → Refused x s room n p → writing x s room ≡ Err (n, p)
   unfolding writing ending chain pick
   refused (field {n} {p} u) = rw ((unwritable_exactly TableLook02 s (values.fields x) 0 n p).1 u)
   refused (too_short w l) = rw (checked w, lt-leb (length (file x s)) room l)
@@ -65,12 +66,12 @@ module _ (x : Look) (s : List ℕ) (room : ℕ) where
   allowed a = rw (checked a.fields, le-leb (length (file x s)) room a.fits)
 
   -- Exactly: refused by n at p where the look is so refused, and nowhere else
-  pub refused_exactly : (n p : ℕ) → (writing x s room ≡ Err (n, p)) ↔ Err (x, s) room n p
+  pub refused_exactly : (n p : ℕ) → (writing x s room ≡ Err (n, p)) ↔ Refused x s room n p
   refused_exactly n p = (λ e. go answers e, refused)
     where
-      go : {c : Step} → Answers c → c ≡ Err (n, p) → Err (x, s) room n p
+      go : {c : Step} → Answers c → c ≡ Err (n, p) → Refused x s room n p
       go (can m a i) e = absurd (let z : ◌≡◌ {A = ℕ} 0 1 = cc in omega arith)
-      go (can_not {n = m} {p = q} u) e = let a : m ≡ n = cc in let b : q ≡ p = cc in rw (← a, ← b) u
+      go (can_not {n = m} {p = q} u) e = let same : (m ≡ n) × (q ≡ p) = same_refusal e in rw (← same.0, ← same.1) u
 
   -- and otherwise written, with as many bytes as the file has
   pub written_exactly : (n : ℕ) → (writing x s room ≡ Ok n) ↔ (Allowed x s room × (n ≡ length (file x s)))
@@ -81,14 +82,14 @@ module _ (x : Look) (s : List ℕ) (room : ℕ) where
       go (can_not u) e = absurd (let z : ◌≡◌ {A = ℕ} 0 1 = cc in omega arith)
 
   -- Or else: a look can be written or is refused, and never both
-  pub allowed_or_refused : Allowed x s room ⊎ ((n : ℕ) × (p : ℕ) × Err (x, s) room n p)
+  pub allowed_or_refused : Allowed x s room ⊎ ((n : ℕ) × (p : ℕ) × Refused x s room n p)
   allowed_or_refused = go answers
     where
-      go : {c : Step} → Answers c → Allowed x s room ⊎ ((n : ℕ) × (p : ℕ) × Err (x, s) room n p)
+      go : {c : Step} → Answers c → Allowed x s room ⊎ ((n : ℕ) × (p : ℕ) × Refused x s room n p)
       go (can m a i) = inl a
       go (can_not {n = m} {p = q} u) = inr (m, q, u)
 
-  pub never_both : Allowed x s room → (n p : ℕ) → Err (x, s) room n p → ⊥
+  pub never_both : Allowed x s room → (n p : ℕ) → Refused x s room n p → ⊥
   never_both a n p f =
       let e = sym (allowed a) ∙ refused f in
       let z : ◌≡◌ {A = ℕ} 0 1 = cc in
@@ -108,8 +109,8 @@ module _ (x : Look) (s : List ℕ) (room : ℕ) where
       go (Err (n, p)) h = h
 
   -- Once: by one number, at one place
-  pub one_refusal : (n p n' p' : ℕ) → Err (x, s) room n p → Err (x, s) room n' p' → (n ≡ n') × (p ≡ p')
-  one_refusal n p n' p' f f' = let e = sym (refused f) ∙ refused f' in (cc, cc)
+  pub one_refusal : (n p n' p' : ℕ) → Refused x s room n p → Refused x s room n' p' → (n ≡ n') × (p ≡ p')
+  one_refusal n p n' p' f f' = same_refusal (sym (refused f) ∙ refused f')
 
 -- what can be written is of version 02
 pub version_written : (x : Look) (s : List ℕ) → Writable TableLook02 s (values.fields x) → x.version ≡ 2

@@ -260,7 +260,7 @@ module _ (x : Look) (s : List ℕ) (bs : Bytes s) (fits : Fits x s) (room n : �
 
 -- ---- an accepted file rewritten
 
-is_look : {x y : Look} → Ok y ≡ Ok x → x ≡ y
+is_look : {x y : Look} → ◌≡◌ {A = Answer} (Ok y) (Ok x) → x ≡ y
 is_look e = cc
 
 module _ (bs : List ℕ) (h : Bytes bs) (y : Look) (i : outcome (Ok y) ≡ expected (read TableLook bs 0)) where

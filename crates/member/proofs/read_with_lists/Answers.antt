@@ -1,11 +1,23 @@
+use Rattle.std.proofs.Common.{sym, length-take-le}
+use Rattle.std.proofs.Math.Path.{refl}
+use Rattle.refusals.specs.Verdicts.{number_not_0}
 use Rattle.member.specs.Laws.Whole.{stored_room, all_delivered, none_delivered}
 use Rattle.member.proofs.read_with_lists.Goals as goal
 
-pub deliver-n-requires : goal.deliver-n-requires
-deliver-n-requires c = stored_room c.read_body-a.ensures
+pub slice_bounds-deliver-end : goal.slice_bounds-deliver-end
+slice_bounds-deliver-end c = (stored_room c.read_body-a.ensures).0
 
-pub returns-then-n-ne0 : goal.returns-then-n-ne0
-returns-then-n-ne0 c = rw c.refused-a.ensures (none_delivered c.read_body-a.ensures c.deliver-n.ensures c.if-n-ne0.true)
+pub slice_bounds-deliver-end-2 : goal.slice_bounds-deliver-end-2
+slice_bounds-deliver-end-2 c = sym (length-take-le _ _ (stored_room c.read_body-a.ensures).0)
 
-pub returns-else-n-ne0 : goal.returns-else-n-ne0
-returns-else-n-ne0 c = all_delivered c.read_body-a.ensures c.deliver-n.ensures c.if-n-ne0.false
+pub slice_bounds-deliver-end-3 : goal.slice_bounds-deliver-end-3
+slice_bounds-deliver-end-3 c = (stored_room c.read_body-a.ensures).1
+
+pub slice_bounds-deliver-end-4 : goal.slice_bounds-deliver-end-4
+slice_bounds-deliver-end-4 c = sym (length-take-le _ _ (stored_room c.read_body-a.ensures).1)
+
+pub returns-in-Err : goal.returns-in-Err
+returns-in-Err c = rw (c.refused-a.ensures, c.number.ensures) (none_delivered c.read_body-a.ensures (rw c.in-Err.is at c.deliver.ensures) (number_not_0 c.in-Err.reason))
+
+pub returns-in_default : goal.returns-in_default
+returns-in_default c = all_delivered c.read_body-a.ensures (rw c.in_default.is at c.deliver.ensures) refl

@@ -1,7 +1,7 @@
 -- The member, section by section, against its rule.
 use Rattle.std.proofs.Math.Path.{◌≡◌, refl, ap}
 use Rattle.std.proofs.Common.{sym, ◌∙◌, zero-add, drop-drop, get_or-drop}
-use Rattle.std.specs.Prelude.{Bool, get_or, replicate, eqb}
+use Rattle.std.specs.Prelude.{Bool, get_or, replicate, eqb, Result, Ok, Err}
 use Rattle.std.proofs.Math.Bool.{true, false}
 use mathlib.Core.List.{List, [], ◌∷◌, ◌++◌, map}
 use Prim.Native.Nat.{ℕ, zero, suc, ◌+◌, ◌-◌, ◌*◌, ◌^◌, ◌≤◌, min}
@@ -12,7 +12,7 @@ use Rattle.std.proofs.lemmas.List.{length-replicate}
 use Rattle.std.proofs.Math.Seq.{sets, take_at}
 use Rattle.std.proofs.lemmas.List.Edits.{sets-eq}
 use Rattle.std.proofs.Math.Dec.{leb}
-use borrow.Author.Tests.{leb-true, leb-false, le-leb, lt-leb, eq-eqb, ne_eqb}
+use borrow.Author.Tests.{leb-true, leb-false, le-leb, lt-leb, eq-eqb}
 use Rattle.sizes.specs.Sizes.{member_bytes, most_dimensions, most_cells, most_places, node_words, cell_words, dimension_words, node_area, cell_area, dimension_area, dimension_n}
 use Rattle.sizes.specs.Basics.{pick}
 use Rattle.grammar.specs.Layout.{Tree, spell, passes, Bytes, Valid, size}
@@ -34,11 +34,10 @@ use Rattle.grammar.specs.Laws.Table.LeastBytes.{cells_bytes, least_cell}
 use Rattle.table.specs.Laws.Within.{needed, within, is_within, Scratch}
 use Rattle.table.specs.Laws.Dims.{Kept, kept, AllDims, node_record_sizes, node_room}
 use Rattle.grammar.specs.Laws.Table.Words.{width_rows, width_dims, width_entries}
-use Rattle.axes.specs.declared.AxisCounts.TheVariants as counts
-use Rattle.axes.specs.Laws.Axes.{Order, AllAxes}
+use Rattle.axes.specs.declared.AxesRead.{AxesRead}
+use Rattle.axes.specs.Laws.Axes.{Order, AllAxes, axes_out}
 use Rattle.cells.specs.Laws.Cells.{AllCells, cell_record_sizes, cell_room}
 use Rattle.answer.specs.declared.Answer.{Answer}
-use Rattle.member.specs.declared.Tail.{Tail}
 use Rattle.grammar.specs.Member.{Member, version as memberVersion, body_at, dimensions, dimensions_at, order, cells, nodes, cells_start, node_records, dimension_entries, cell_records, front_section, dimensions_section, axes_section}
 use Rattle.grammar.specs.Refused.{member_rule}
 use Rattle.grammar.specs.Laws.Member.Checked.{ended, checked}
@@ -95,9 +94,9 @@ in_front : (n : ℕ) (W : List ℕ) → length W ≤ n → sets (replicate n 0) 
 in_front n W h = over (replicate n 0) W (length W) refl (rw length-replicate (omega arith)) ∙ rw (drop_zeros (length W) n)
 
 -- what the code hands on
-abbrev pub answered : ℕ → ℕ → Tail → List ℕ → ℕ → ℕ → ℕ → Answer
-answered d used t es l r c =
-    record { refusal = 0; place = 0; dims = word32 d; nodes = word32 used; cells = word32 t.cells; dimensions = es; layers = l; rows = r; columns = c; order = t.order }
+abbrev pub answered : ℕ → ℕ → AxesRead → ℕ → List ℕ → Answer
+answered d used x n es =
+    record { refusal = 0; place = 0; dims = word32 d; nodes = word32 used; cells = word32 n; dimensions = es; layers = x.layers; rows = x.rows; columns = x.columns; order = x.order }
 
 same_answer : {d d' n n' c c' l l' r r' k k' : ℕ} {es es' os os' : List ℕ} → d ≡ d' → n ≡ n' → c ≡ c' → es ≡ es' → l ≡ l' → r ≡ r' → k ≡ k' → os ≡ os'
     → ◌≡◌ {A = Answer} record { refusal = 0; place = 0; dims = d; nodes = n; cells = c; dimensions = es; layers = l; rows = r; columns = k; order = os }
@@ -106,11 +105,11 @@ same_answer e₁ e₂ e₃ e₄ e₅ e₆ e₇ e₈ = rw (e₁, e₂, e₃, e₄
 
 -- ---- what is delivered
 
--- the first k words of a list and the first m of another over those of two areas, where these are large enough, and 0; or the refusal
-pub record Filled (k m : ℕ) (node-list cell-list nodes cells : List ℕ) (n : ℕ) (nodes' cells' : List ℕ) : Type 0 where
-  pub refusal : n ≡ pick (leb k (length nodes)) (pick (leb m (length cells)) 0 13) 12
-  pub node_area : nodes' ≡ pick (leb k (length nodes)) (pick (leb m (length cells)) (take k node-list ++ drop k nodes) nodes) nodes
-  pub cell_area : cells' ≡ pick (leb k (length nodes)) (pick (leb m (length cells)) (take m cell-list ++ drop m cells) cells) cells
+-- the words ns and cs over the first words of two areas, where these are large enough, and 0; or the refusal
+pub record Filled (ns cs nodes cells : List ℕ) (n : ℕ) (nodes' cells' : List ℕ) : Type 0 where
+  pub refusal : n ≡ pick (leb (length ns) (length nodes)) (pick (leb (length cs) (length cells)) 0 13) 12
+  pub node_area : nodes' ≡ pick (leb (length ns) (length nodes)) (pick (leb (length cs) (length cells)) (ns ++ drop (length ns) nodes) nodes) nodes
+  pub cell_area : cells' ≡ pick (leb (length ns) (length nodes)) (pick (leb (length cs) (length cells)) (cs ++ drop (length cs) cells) cells) cells
 
 pub not_delivered : (s : List ℕ) {n p : ℕ} → checked s ≡ no n p → {N C : List ℕ} → Delivered (checked s) N C (refusal n p 0 0) N C
 unfolding answer_of nodes_after cells_after
@@ -138,40 +137,43 @@ by_areas true true a = refl
 by_areas true false a = refl
 by_areas false is-long a = refl
 
-module _ {ms vs N C N' C' : List ℕ} {n : ℕ} where
-  of_tree : (t : Tree Member) (r : List ℕ) (p : ℕ) (others-n others-c : List ℕ) → ms ≡ node_records t ++ others-n → vs ≡ cell_records t ++ others-c
-      → Filled (node_words * nodes t) (cell_words * length (cells t)) ms vs N C n N' C' → Delivered (got t r p) N C (with_refusal n (accepted t)) N' C'
-  unfolding accepted answer_of nodes_after cells_after
-  of_tree t r p others-n others-c e f x =
-      let node_front : take (node_words * nodes t) ms ≡ node_records t = ap (take (node_words * nodes t)) e ∙ take_at (node_records t) others-n (node_words * nodes t) (node_width t) in
-      let cell_front : take (cell_words * length (cells t)) vs ≡ cell_records t = ap (take (cell_words * length (cells t))) f ∙ take_at (cell_records t) others-c (cell_words * length (cells t)) (cell_width t) in
-      record {
-        answer = ap (λ (k : ℕ). with_refusal k (accepted t)) x.refusal ∙ by_areas (leb (node_words * nodes t) (length N)) (leb (cell_words * length (cells t)) (length C)) (accepted t);
-        node_area = x.node_area ∙ rw node_front;
-        cell_area = x.cell_area ∙ rw cell_front;
-      }
-
-  of_refusal : (m p : ℕ) → Filled (node_words * 0) (cell_words * 0) ms vs N C n N' C' → Delivered (no m p) N C (with_refusal n (refusal m p 0 0)) N' C'
+module _ {N C N' C' : List ℕ} {n : ℕ} where
+  of_refusal : (m p : ℕ) → Filled [] [] N C n N' C' → Delivered (no m p) N C (with_refusal n (refusal m p 0 0)) N' C'
   unfolding answer_of nodes_after cells_after pick
   of_refusal m p x =
       let wide = le-leb 0 (length N) (omega arith) in
       let long = le-leb 0 (length C) (omega arith) in
       record { answer = ap (λ (k : ℕ). with_refusal k (refusal m p 0 0)) x.refusal ∙ rw (wide, long); node_area = x.node_area ∙ rw (wide, long); cell_area = x.cell_area ∙ rw (wide, long) }
 
-  delivered : {ns cs : List ℕ} {y : Got (Tree Member)} {a : Answer} → Stored ns cs y a ms vs → Filled (node_words * a.nodes) (cell_words * a.cells) ms vs N C n N' C' → Delivered y N C (with_refusal n a) N' C'
+module _ {ms vs N C N' C' : List ℕ} {n : ℕ} where
+  of_tree : (t : Tree Member) (r : List ℕ) (p : ℕ) (others-n others-c : List ℕ) → ms ≡ node_records t ++ others-n → vs ≡ cell_records t ++ others-c
+      → Filled (take (node_words * nodes t) ms) (take (cell_words * length (cells t)) vs) N C n N' C' → Delivered (got t r p) N C (with_refusal n (accepted t)) N' C'
+  unfolding accepted answer_of nodes_after cells_after
+  of_tree t r p others-n others-c e f filled =
+      let node_front : take (node_words * nodes t) ms ≡ node_records t = ap (take (node_words * nodes t)) e ∙ take_at (node_records t) others-n (node_words * nodes t) (node_width t) in
+      let cell_front : take (cell_words * length (cells t)) vs ≡ cell_records t = ap (take (cell_words * length (cells t))) f ∙ take_at (cell_records t) others-c (cell_words * length (cells t)) (cell_width t) in
+      let x = rw (node_front, cell_front) at filled in
+      let refused : n ≡ pick (leb (node_words * nodes t) (length N)) (pick (leb (cell_words * length (cells t)) (length C)) 0 13) 12 = x.refusal ∙ rw (node_width t, cell_width t) in
+      record {
+        answer = ap (λ (k : ℕ). with_refusal k (accepted t)) refused ∙ by_areas (leb (node_words * nodes t) (length N)) (leb (cell_words * length (cells t)) (length C)) (accepted t);
+        node_area = x.node_area ∙ rw (node_width t, cell_width t);
+        cell_area = x.cell_area ∙ rw (node_width t, cell_width t);
+      }
+
+  delivered : {ns cs : List ℕ} {y : Got (Tree Member)} {a : Answer} → Stored ns cs y a ms vs → Filled (take (node_words * a.nodes) ms) (take (cell_words * a.cells) vs) N C n N' C' → Delivered y N C (with_refusal n a) N' C'
   unfolding accepted refusal
   delivered {ns} {cs} (all_stored {t = t} {r = r} {p = p} e f g) x = rw e (of_tree t r p (drop (node_words * nodes t) ns) (drop (cell_words * length (cells t)) cs) f g (rw e at x))
   delivered (not_stored {n = m} {p = p} e f g) x = rw e (of_refusal m p (rw e at x))
 
   -- what was read into lists, with the refusal of the areas or without
-  module _ {ns cs : List ℕ} {y : Got (Tree Member)} {a : Answer} (h : Stored ns cs y a ms vs) (x : Filled (node_words * a.nodes) (cell_words * a.cells) ms vs N C n N' C') where
+  module _ {ns cs : List ℕ} {y : Got (Tree Member)} {a : Answer} (h : Stored ns cs y a ms vs) (x : Filled (take (node_words * a.nodes) ms) (take (cell_words * a.cells) vs) N C n N' C') where
     pub all_delivered : n ≡ 0 → Delivered y N C a N' C'
     unfolding pick
     all_delivered e = rw (eq-eqb n 0 e) at (delivered h x)
 
-    pub none_delivered : (n ≡ 0 → ⊥) → Delivered y N C (refusal n 0 a.nodes a.cells) N' C'
+    pub none_delivered : eqb n 0 ≡ false → Delivered y N C (refusal n 0 a.nodes a.cells) N' C'
     unfolding pick
-    none_delivered e = rw (ne_eqb n 0 e) at (delivered h x)
+    none_delivered e = rw e at (delivered h x)
 
 -- the lists have room for what is delivered
 pub stored_room : {ns cs : List ℕ} {y : Got (Tree Member)} {a : Answer} {ms vs : List ℕ} → Stored ns cs y a ms vs → (node_words * a.nodes ≤ length ms) × (cell_words * a.cells ≤ length vs)
@@ -195,23 +197,26 @@ as_checked s {k} {m} h = go (leb (length s) member_bytes)
     go true = rw (le-leb (needed node_record_sizes (length s - 0)) k h.0, le-leb (needed cell_record_sizes (length s - 0)) m h.1)
     go false = refl
 
+-- what the code gives of them: the axes and how many cells there are, or the refusal
+abbrev pub Tail : Type 0
+Tail = Result (AxesRead × ℕ) (ℕ × ℕ)
+
 module _ (version : ℕ) where
   -- what is kept of them, from the place `at` on
-  pub record Kept_tail (s : List ℕ) (at : ℕ) (ws : List ℕ) (a : Tree Axes) (c : Tree (Cells version)) (layers rows columns : ℕ) (t : Tail) (vs : List ℕ) : Type 0 where
-    pub on_layers : layers ≡ axis_layers a
-    pub on_rows : rows ≡ axis_rows a
-    pub on_columns : columns ≡ axis_columns a
-    pub order : t.order ≡ sets (replicate most_dimensions 0) 0 (map entry_index (axis_entries a))
+  pub record Kept_tail (s : List ℕ) (at : ℕ) (ws : List ℕ) (a : Tree Axes) (c : Tree (Cells version)) (x : AxesRead) (n : ℕ) (vs : List ℕ) : Type 0 where
+    pub on_layers : x.layers ≡ axis_layers a
+    pub on_rows : x.rows ≡ axis_rows a
+    pub on_columns : x.columns ≡ axis_columns a
+    pub order : x.order ≡ sets (replicate most_dimensions 0) 0 (map entry_index (axis_entries a))
     pub few_entries : length (axis_entries a) ≤ most_dimensions
-    pub count : t.cells ≡ length (cells_of version c)
+    pub count : n ≡ length (cells_of version c)
     pub stored : vs ≡ sets ws 0 (rows_words (size (Cell version)) (cell_words_of version) (at + size Axes a + 4) (cells_of version c))
     pub few : length (cells_of version c) ≤ most_cells
     pub bytes : at + least_cell * length (cells_of version c) ≤ length s
 
   pub data TailIs (s : List ℕ) (at : ℕ) (ws : List ℕ) : Got (Tree Axes × Tree (Cells version)) → Tail → List ℕ → Type 0 where
-    tail_on : {a : Tree Axes} {c : Tree (Cells version)} {r : List ℕ} {p : ℕ} {t : Tail} {vs : List ℕ} (l rs cs q : ℕ) → t.axes ≡ counts.Of l rs cs q
-        → Kept_tail s at ws a c l rs cs t vs → TailIs s at ws (got (a, c) r p) t vs
-    tail_off : {n p : ℕ} {t : Tail} {vs : List ℕ} → t.axes ≡ counts.Refused n p → TailIs s at ws (no n p) t vs
+    tail_on : {a : Tree Axes} {c : Tree (Cells version)} {r : List ℕ} {p : ℕ} {x : AxesRead} {n : ℕ} {vs : List ℕ} → Kept_tail s at ws a c x n vs → TailIs s at ws (got (a, c) r p) (Ok (x, n)) vs
+    tail_off : {n p : ℕ} {vs : List ℕ} → TailIs s at ws (no n p) (Err (n, p)) vs
 
   few_cells : (c : Tree (Cells version)) → Valid (Cells version) c → length (cells_of version c) ≤ most_cells
   unfolding passes
@@ -237,11 +242,11 @@ module _ (version : ℕ) where
     capped : places ≡ min (places_of version ts) (2 ^ 32)
     capped = p-is ∙ rw (d_few, ns)
 
-    pub too_many_places : leb places most_places ≡ false → {t : Tail} {ws vs : List ℕ} → t.axes ≡ counts.Refused 7 at → TailIs s at ws (after_dims version ts (drop at s) at) t vs
+    pub too_many_places : leb places most_places ≡ false → {ws vs : List ℕ} → TailIs s at ws (after_dims version ts (drop at s) at) (Err (7, at)) vs
     unfolding after_dims axes_rule check bind pick
-    too_many_places e h =
+    too_many_places e =
         let l : leb (places_of version ts) most_places ≡ false = lt-leb (places_of version ts) most_places (omega (arith, leb-false places most_places e, capped)) in
-        rw (l, sub-zero) (tail_off h)
+        rw (l, sub-zero) tail_off
 
     module _ (e : leb places most_places ≡ true) where
       places_is : places ≡ places_of version ts
@@ -254,48 +259,50 @@ module _ (version : ℕ) where
           let n : length ts ≡ min d most_dimensions = omega arith in
           rw (l, n)
 
-      pub no_axes : {n p : ℕ} → Keeps s AllAxes (check (counts_rule (min d most_dimensions)) (drop at s) at) (off n p) → {t : Tail} {ws vs : List ℕ} → t.axes ≡ counts.Refused n p
-          → TailIs s at ws (after_dims version ts (drop at s) at) t vs
+      pub no_axes : {n p : ℕ} → Keeps s AllAxes (check (counts_rule (min d most_dimensions)) (drop at s) at) (off n p) → {ws vs : List ℕ} → TailIs s at ws (after_dims version ts (drop at s) at) (Err (n, p)) vs
       unfolding after_dims bind
-      no_axes k h = rw (by_counts, kept_off k) (tail_off h)
+      no_axes k = rw (by_counts, kept_off k) tail_off
 
-      module _ {next : ℕ} {x : Order} (ax : Keeps s AllAxes (check (counts_rule (min d most_dimensions)) (drop at s) at) (on next x)) where
-        axes_read : Reached s AllAxes (check (counts_rule (min d most_dimensions)) (drop at s) at) next x
+      module _ {x : AxesRead} (ax : Keeps s AllAxes (check (counts_rule (min d most_dimensions)) (drop at s) at) (axes_out (Ok x))) where
+        abbrev next : ℕ
+        next = x.end
+
+        axes_read : Reached s AllAxes (check (counts_rule (min d most_dimensions)) (drop at s) at) next record { layers = x.layers; rows = x.rows; columns = x.columns; order = x.order }
         axes_read = kept_on ax
 
         axes_found : Found Axes s at axes_read.tree (drop next s) next
         axes_found = found_by (counts_rule (min d most_dimensions)) s b at axes_read.tree (drop next s) next axes_read.is
 
-        pub no_cells : {ws : List ℕ} {n p : ℕ} → Keeps s (AllCells version next ws) (ended (check (cells_rule version places) (drop next s) next)) (off n p) → {t : Tail} {vs : List ℕ} → t.axes ≡ counts.Refused n p
-            → TailIs s at ws (after_dims version ts (drop at s) at) t vs
+        pub no_cells : {ws : List ℕ} {n p : ℕ} → Keeps s (AllCells version next ws) (ended (check (cells_rule version places) (drop next s) next)) (off n p) → {vs : List ℕ}
+            → TailIs s at ws (after_dims version ts (drop at s) at) (Err (n, p)) vs
         unfolding after_dims bind
-        no_cells k h =
+        no_cells k =
             let k' = rw places_is at (kept_off k) in
-            rw (by_counts, axes_read.is, k') (tail_off h)
+            rw (by_counts, axes_read.is, k') tail_off
 
-        pub with_cells : {ws : List ℕ} {q m : ℕ} {vs : List ℕ} → Keeps s (AllCells version next ws) (ended (check (cells_rule version places) (drop next s) next)) (on q (m, vs)) → {t : Tail}
-            → t.axes ≡ counts.Of x.layers x.rows x.columns q → t.cells ≡ m → t.order ≡ x.order → TailIs s at ws (after_dims version ts (drop at s) at) t vs
+        pub with_cells : {ws : List ℕ} {q m : ℕ} {vs : List ℕ} → Keeps s (AllCells version next ws) (ended (check (cells_rule version places) (drop next s) next)) (on q (m, vs))
+            → TailIs s at ws (after_dims version ts (drop at s) at) (Ok (x, m)) vs
         unfolding after_dims bind
-        with_cells {ws} {q} {m} {vs} k₀ {t} h₁ h₂ h₃ =
+        with_cells {ws} {q} {m} {vs} k₀ =
             let k = kept_on k₀ in
             let c = k.tree in
             let is = (ended_got (check (cells_rule version places) (drop next s) next) c (drop q s) q k.is).0 in
             let f = found_by (cells_rule version places) s b next c (drop q s) q is in
             let v = f.valid in
             let n_is : length (cells_of version c) ≡ c.0 = v.2.0 in
-            let kept_all : Kept_tail s at ws axes_read.tree c x.layers x.rows x.columns t vs = record {
+            let kept_all : Kept_tail s at ws axes_read.tree c x m vs = record {
               on_layers = axes_read.keeps.layers;
               on_rows = axes_read.keeps.rows;
               on_columns = axes_read.keeps.columns;
-              order = h₃ ∙ axes_read.keeps.order;
+              order = axes_read.keeps.order;
               few_entries = axes_read.keeps.few;
-              count = h₂ ∙ k.keeps.count;
+              count = k.keeps.count;
               stored = k.keeps.stored ∙ ap (λ (a : ℕ). sets ws 0 (rows_words (size (Cell version)) (cell_words_of version) (a + 4) (cells_of version c))) axes_found.place;
               few = few_cells c v;
               bytes = omega (arith, axes_found.place, many_bytes c v f (stays_inside axes_found inside));
             } in
             let is' : ended (check (cells_rule version (places_of version ts)) (drop next s) next) ≡ got c (drop q s) q = ap (λ (n : ℕ). ended (check (cells_rule version n) (drop next s) next)) (sym places_is) ∙ k.is in
-            rw (by_counts, axes_read.is, is') (tail_on x.layers x.rows x.columns q h₁ kept_all)
+            rw (by_counts, axes_read.is, is') (tail_on kept_all)
 
   sizes_entries : (used at : ℕ) (ts : List (Tree (Dimension version))) (R : List ℕ)
       → sizes_of (length ts) (dims_entries version used at ts ++ R) ≡ map (λ d. length (dim_leaves version d)) ts
@@ -355,28 +362,20 @@ module _ (version : ℕ) where
           let n_is = dims.keeps.number in
           h ts few_dims n_is (ap (λ (l : List ℕ). sizes l 0 d) dims.keeps.entries ∙ ap (λ (n : ℕ). sizes (sets (replicate dimension_area 0) 0 (dims_entries version 0 (at + 4) ts)) 0 n) n_is ∙ sizes_there (at + 4) ts few_dims) inside
 
-      pub no_tail : {t : Tail} {vs : List ℕ} → TailRead s next d es cs t vs → {n p : ℕ} → t.axes ≡ counts.Refused n p → checked s ≡ no n p
+      pub no_tail : {n p : ℕ} {vs : List ℕ} → TailRead s next d es cs (Err (n, p)) vs → checked s ≡ no n p
       unfolding bind ts
-      no_tail h {n} {p} e₁ = go (tail_of h) refl e₁
+      no_tail {n} {p} h = go (tail_of h) refl
         where
-          go : {y : Got (Tree Axes × Tree (Cells version))} {t : Tail} {vs : List ℕ} → TailIs s next cs y t vs → after_dims version ts (drop next s) next ≡ y → t.axes ≡ counts.Refused n p → checked s ≡ no n p
-          go (tail_on l r c q x y) f g = absurd (let z : ◌≡◌ {A = ℕ} 0 1 = cc in omega arith)
-          go (tail_off {n = m} {p = q} x) f g =
-              let m_is : m ≡ n = cc in
-              let q_is : q ≡ p = cc in
-              rw (in_sections version s o.short hd, start.is, dims.is, f, m_is, q_is)
+          go : {y : Got (Tree Axes × Tree (Cells version))} {vs : List ℕ} → TailIs s next cs y (Err (n, p)) vs → after_dims version ts (drop next s) next ≡ y → checked s ≡ no n p
+          go tail_off f = rw (in_sections version s o.short hd, start.is, dims.is, f)
 
-      pub with_tail : {t : Tail} {vs : List ℕ} → TailRead s next d es cs t vs → {l r c q : ℕ} → t.axes ≡ counts.Of l r c q → Stored ns cs (checked s) (answered d used t es l r c) ms vs
+      pub with_tail : {x : AxesRead} {n : ℕ} {vs : List ℕ} → TailRead s next d es cs (Ok (x, n)) vs → Stored ns cs (checked s) (answered d used x n es) ms vs
       unfolding bind ts zeros accepted
-      with_tail h {l} {r} {c} {q} e₁ = go (tail_of h) refl e₁
+      with_tail {x} {n} h = go (tail_of h) refl
         where
-          go : {y : Got (Tree Axes × Tree (Cells version))} {t : Tail} {vs : List ℕ} → TailIs s next cs y t vs → after_dims version ts (drop next s) next ≡ y → t.axes ≡ counts.Of l r c q
-              → Stored ns cs (checked s) (answered d used t es l r c) ms vs
-          go (tail_on {a = a} {c = x} {r = rest} {p = p} {t = t} {vs = vs} l' r' c' q' axes-are k) f g =
-              let l_is : l' ≡ l = cc in
-              let r_is : r' ≡ r = cc in
-              let c_is : c' ≡ c = cc in
-              let tree : Tree Member = (hd.start, (version, (((start.tree, dims.tree), a), x))) in
+          go : {y : Got (Tree Axes × Tree (Cells version))} {vs : List ℕ} → TailIs s next cs y (Ok (x, n)) vs → after_dims version ts (drop next s) next ≡ y → Stored ns cs (checked s) (answered d used x n es) ms vs
+          go (tail_on {a = a} {c = c} {r = rest} {p = p} {vs = vs} k) f =
+              let tree : Tree Member = (hd.start, (version, (((start.tree, dims.tree), a), c))) in
               let at_is : at ≡ body_at + size (Front version) start.tree = omega (arith, start.there.place, hd.place) in
               let cells_at : next + size Axes a + 4 ≡ cells_start tree = omega (arith, cells_start_lem tree, at_is, there.place) in
               let d-is = dims.keeps.number in
@@ -389,18 +388,17 @@ module _ (version : ℕ) where
               let entries_is : es ≡ dimension_entries tree ++ zeros (dimension_area - length (dimension_entries tree)) =
               dims.keeps.entries ∙ in_front dimension_area (dims_entries version 0 (at + 4) ts) (omega (arith, all))
               ∙ ap (λ (n : ℕ). (dims_entries version) 0 (n + 4) ts ++ zeros (dimension_area - length (dims_entries version 0 (n + 4) ts))) at_is in
-              let order_is : t.order ≡ order tree ++ zeros (most_dimensions - length (order tree)) =
+              let order_is : x.order ≡ order tree ++ zeros (most_dimensions - length (order tree)) =
               k.order ∙ in_front most_dimensions (map entry_index (axis_entries a)) (omega (arith, length-map (axis_entries a) entry_index, k.few_entries)) in
               let node_fit : node_words * nodes tree ≤ length ns = (node_room s at (length ns) room.0).enough (nodes tree) (omega arith) (omega arith) in
               let cell_fit : cell_words * length (cells tree) ≤ length cs = (cell_room s at (length cs) room.1).enough (length (cells tree)) k.few (omega (arith, k.bytes, there.place)) in
               let is : checked s ≡ got tree rest p = rw (in_sections version s o.short hd, start.is, dims.is, f) in
               rw is
               (all_stored
-              (same_answer (word_same d (omega arith) ∙ d-is) (word_same used (omega arith) ∙ used-is) (word_same t.cells (omega (arith, k.count, k.few)) ∙ k.count) entries_is
-              (sym l_is ∙ k.on_layers) (sym r_is ∙ k.on_rows) (sym c_is ∙ k.on_columns) order_is)
+              (same_answer (word_same d (omega arith) ∙ d-is) (word_same used (omega arith) ∙ used-is) (word_same n (omega (arith, k.count, k.few)) ∙ k.count) entries_is
+              k.on_layers k.on_rows k.on_columns order_is)
               (dims.keeps.words ∙ over ns (dims_words version 0 0 (at + 4) ts) (node_words * nodes tree) (width_dims version 0 0 (at + 4) ts) node_fit
               ∙ ap (λ (n : ℕ). dims_words version 0 0 (n + 4) ts ++ drop (node_words * nodes tree) ns) at_is)
               (k.stored
-              ∙ over cs (rows_words (size (Cell version)) (cell_words_of version) (next + size Axes a + 4) (cells_of version x)) (cell_words * length (cells tree)) (width_rows cell_words (size (Cell version)) (cell_words_of version) (λ _ _. refl) (next + size Axes a + 4) (cells_of version x)) cell_fit
-              ∙ ap (λ (n : ℕ). rows_words (size (Cell version)) (cell_words_of version) n (cells_of version x) ++ drop (cell_words * length (cells tree)) cs) cells_at))
-          go (tail_off x) f g = absurd (let z : ◌≡◌ {A = ℕ} 0 1 = cc in omega arith)
+              ∙ over cs (rows_words (size (Cell version)) (cell_words_of version) (next + size Axes a + 4) (cells_of version c)) (cell_words * length (cells tree)) (width_rows cell_words (size (Cell version)) (cell_words_of version) (λ _ _. refl) (next + size Axes a + 4) (cells_of version c)) cell_fit
+              ∙ ap (λ (n : ℕ). rows_words (size (Cell version)) (cell_words_of version) n (cells_of version c) ++ drop (cell_words * length (cells tree)) cs) cells_at))

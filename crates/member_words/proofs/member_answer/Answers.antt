@@ -2,8 +2,8 @@ use Rattle.std.proofs.lemmas.Bool.{le-leb, lt-leb}
 use Rattle.member_words.proofs.Read.{with_answer, without_answer}
 use Rattle.member_words.proofs.member_answer.Goals as goal
 
-pub returns-then-room : goal.returns-then-room
-returns-then-room c = with_answer _ _ _ _ _ (le-leb _ _ c.if-room.true) c.read_member-a.ensures.checks c.read_member-a.ensures.demands c.member_words.ensures.puts_words c.member_words.ensures.a_len
+pub returns : goal.returns
+returns c = with_answer _ _ _ _ _ (le-leb _ _ c.if-answer-lt-ANSWER_WORDS.false) c.read_member-a.ensures.checks c.read_member-a.ensures.demands c.member_words.ensures.puts_words c.member_words.ensures.a_len
 
-pub returns-else-room : goal.returns-else-room
-returns-else-room c = without_answer _ _ _ _ (lt-leb _ _ c.if-room.false)
+pub returns-then-answer-lt-ANSWER_WORDS : goal.returns-then-answer-lt-ANSWER_WORDS
+returns-then-answer-lt-ANSWER_WORDS c = without_answer _ _ _ _ (lt-leb _ _ c.if-answer-lt-ANSWER_WORDS.true)

@@ -3,15 +3,13 @@ use Rattle.std.proofs.lemmas.Bool.{le-leb, lt-leb}
 use Rattle.sizes.specs.Basics.{pick}
 use Rattle.members.specs.Members.{list_refusal}
 use Rattle.members.proofs.list_refusal.Goals as goal
+use Rattle.members.proofs.list_refusal.Goals.{else-few-via-then-few+else-even, else-few-via-else-few}
 
 pub returns-then-even : goal.returns-then-even
 unfolding list_refusal pick
 returns-then-even c = rw (le-leb _ _ c.if-few.true, eq-eqb _ _ c.if-even.true)
 
-pub returns-else-even : goal.returns-else-even
-unfolding list_refusal pick
-returns-else-even c = rw (le-leb _ _ c.if-few.true, ne_eqb _ _ c.if-even.false)
-
 pub returns-else-few : goal.returns-else-few
 unfolding list_refusal pick
-returns-else-few c = rw (lt-leb _ _ c.if-few.false)
+returns-else-few c =
+    elim c.else-few.branch [ else-few-via-then-few+else-even w ↦ rw (le-leb _ _ w.if-few.true, ne_eqb _ _ w.if-even.false) | else-few-via-else-few w ↦ rw (lt-leb _ _ w.if-few.false) ]

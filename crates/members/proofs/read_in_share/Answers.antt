@@ -10,14 +10,14 @@ share_at-node_share-requires c = (c.requires, share_inside _ _ _ c.requires)
 pub share_at-cell_share-requires : goal.share_at-cell_share-requires
 share_at-cell_share-requires c = (c.requires, share_inside _ _ _ c.requires)
 
-pub offset_bounds-nodes-a : goal.offset_bounds-nodes-a
-offset_bounds-nodes-a c = omega (arith, share_inside (length c.args.nodes.now) _ _ c.requires)
+pub offset_bounds-nodes-node_share : goal.offset_bounds-nodes-node_share
+offset_bounds-nodes-node_share c = omega (arith, share_inside (length c.args.nodes.now) _ _ c.requires)
 
 pub slice_bounds-read_member-end : goal.slice_bounds-read_member-end
 slice_bounds-read_member-end c = omega (arith, share_inside (length c.args.nodes.now) _ _ c.requires)
 
-pub offset_bounds-cells-c : goal.offset_bounds-cells-c
-offset_bounds-cells-c c = omega (arith, share_inside (length c.args.cells.now) _ _ c.requires)
+pub offset_bounds-cells-cell_share : goal.offset_bounds-cells-cell_share
+offset_bounds-cells-cell_share c = omega (arith, share_inside (length c.args.cells.now) _ _ c.requires)
 
 pub slice_bounds-read_member-end-2 : goal.slice_bounds-read_member-end-2
 slice_bounds-read_member-end-2 c = omega (arith, share_inside (length c.args.cells.now) _ _ c.requires)

@@ -1,10 +1,5 @@
-use Prim.Native.Nat.{◌-◌, ◌≤◌, ◌/◌}
-use lib.ListN.{length}
 use Rattle.members_words.specs.Laws.MembersRead.{ReadTo}
 use Rattle.members_words.proofs.read_all.Given as goal
 
 abbrev pub invariant-loop-i : goal.invariant-loop-i
-invariant-loop-i l = (l.i ≤ length l.list / 2) × ReadTo l.buffer l.list l.initial.answers l.initial.nodes l.initial.cells l.i l.answers l.nodes l.cells
-
-abbrev pub decreases-loop-i : goal.decreases-loop-i
-decreases-loop-i l = length l.list / 2 - l.i
+invariant-loop-i l = ReadTo l.buffer l.list l.initial.answers l.initial.nodes l.initial.cells l.i l.answers l.nodes l.cells

@@ -1,10 +1,10 @@
 -- More laws by which writers are proved, over any layout.
-use Rattle.std.specs.Prelude.{◌≡◌, refl, List, [], ◌∷◌, ◌++◌, ℕ, ◌+◌, ◌^◌, ◌<◌, length, replicate}
-use Rattle.std.proofs.Common.{sym, ap, ◌∙◌, length-append}
+use Rattle.std.specs.Prelude.{◌≡◌, List, ℕ, ◌^◌, ◌<◌, length, replicate}
+use Rattle.std.proofs.Common.{ap, ◌∙◌}
 use Rattle.layout.specs.Step.{Step}
-use Rattle.grammar.specs.Layout.{Order, any_bytes, no_zero, exact, Layout, string, times, leading, region, All, all_none, all_more, Leads}
+use Rattle.grammar.specs.Layout.{Order, any_bytes, no_zero, exact, Layout, string, leading, region, Leads}
 use Rattle.store.specs.Fields.{Text, Fields, bytes_in}
-use Rattle.store.specs.Put.{State, text_verdict, run_verdict, opened, put_all, put}
+use Rattle.store.specs.Put.{text_verdict, run_verdict, opened, put}
 use Rattle.store.specs.Puts.{StoresTo, PutsTo, PutsPlainTo, ClosesTo}
 use Rattle.store.specs.Laws.Puts.{region_puts}
 
@@ -13,27 +13,6 @@ pub leading_puts : {b n k : ℕ} {a : Layout} {s : List ℕ} {f : Fields a} {buf
     → StoresTo c (replicate k b) buf st b₁ q → PutsTo a s f b₁ q b₂ r → PutsTo (leading b n a) s (k, f) buf st b₂ r
 unfolding put
 leading_puts {a = a} {s} {f} l e x y = record { is = y.is ∙ rw (← e) (ap (put a s f) x.is); fit = (l, y.fit) }
-
--- some, and some more
-all_append : {A : Type 0} (f : A → State → State) (xs ys : List A) (x : State) → put_all f (xs ++ ys) x ≡ put_all f ys (put_all f xs x)
-unfolding put_all
-all_append f [] ys x = refl
-all_append f (y ∷ xs) ys x = all_append f xs ys (f y x)
-
-fit_append : {A : Type 0} {P : A → Type 0} {xs ys : List A} → All P xs → All P ys → All P (xs ++ ys)
-fit_append all_none h = h
-fit_append (all_more x xs) h = all_more x (fit_append xs h)
-
-infixr 20 ◌and◌
-pub ◌and◌ : {a : Layout} {m n : ℕ} {fs gs : List (Fields a)} {b b₁ b₂ : List ℕ} {st q r : Step}
-    → PutsPlainTo (times m a) fs b st b₁ q → PutsPlainTo (times n a) gs b₁ q b₂ r → PutsPlainTo (times (m + n) a) (fs ++ gs) b st b₂ r
-unfolding put
-◌and◌ {a} {m} {n} {fs} {gs} {b} {st = st} x y = record {
-  any = λ s. record {
-    is = (y.any s).is ∙ ap (put_all (put a s) gs) (x.any s).is ∙ sym (all_append (put a s) fs gs (b, st));
-    fit = (length-append fs gs ∙ rw ((x.any s).fit.0, (y.any s).fit.0), fit_append (x.any s).fit.1 (y.any s).fit.1);
-  };
-}
 
 -- a region without names
 pub plain_region : {o : Order} {a : Layout} {f : Fields a} {b b₁ b₂ : List ℕ} {st q r₁ r : Step}

@@ -5,7 +5,7 @@ use mathlib.Core.List.{List, [], ◌∷◌, append-nil}
 use native.Mathlib.Omega.{arith}
 use Rattle.std.proofs.Common.{eq-eqb}
 use Rattle.sizes.specs.Basics.{pick}
-use Rattle.std.specs.Prelude.{Ok, Err}
+use Rattle.std.specs.Prelude.{Ok}
 use Rattle.grammar.specs.Layout.{a_bool, passes, no_zero, suits, spell, Bytes, All, all_none, all_more, Derivation}
 use Rattle.grammar.specs.Sections as grammar
 use Rattle.grammar.specs.Sections.{AreaFont, AreaColors, AreaMargins, EightAreas, BordersContent}

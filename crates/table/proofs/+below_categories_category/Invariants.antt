@@ -14,4 +14,4 @@ decreases-category l = 3 * l.level.depth
 
 abbrev pub invariant-categories-loop : goal.invariant-categories-loop
 invariant-categories-loop l =
-    (length l.nodes ≡ length l.initial.nodes) × Walking l.member.version l.level.depth l.level.dimension l.level.parent l.member.bytes.now l.count l.at-2 l.used-2 l.initial.nodes l.counter l.at l.used l.nodes
+    (length l.nodes ≡ length l.initial.nodes) × Walking l.member.version l.level.depth l.level.dimension l.level.parent l.member.bytes.now l.count l.initial.reached.at l.initial.reached.used l.initial.nodes l.counter l.reached.at l.reached.used l.nodes

@@ -1,16 +1,12 @@
 -- What the lent areas hold after a call: the records where nothing is refused, and what they held.
-use Rattle.std.specs.Prelude.{◌≡◌, refl, Bool, true, false, List, ◌++◌, ℕ, ◌+◌, ◌*◌, ◌≤◌, ◌<◌, take, eqb, leb}
-use Rattle.std.proofs.Common.{ap, ◌∙◌, arith, length-append, take_at, length-take-le}
-use borrow.Author.Tests.{le-leb, lt-leb}
+use Rattle.std.specs.Prelude.{◌≡◌, refl, Bool, true, false, List, ◌++◌, ℕ, suc, ◌+◌, ◌*◌, ◌≤◌, ◌<◌, take, eqb, leb}
+use Rattle.std.proofs.Common.{ap, ◌∙◌, arith, length-append, take_at}
+use borrow.Author.Tests.{leb-true}
 use Rattle.std.proofs.Math.ListN.{length, drop}
 use Rattle.sizes.specs.Sizes.{node_words, cell_words}
-use Rattle.layout.specs.Step.{Step}
-use Rattle.std.specs.Prelude.{Ok, Err}
 use Rattle.sizes.specs.Basics.{pick}
 use Rattle.grammar.specs.Layout.{Bytes, Tree, size}
 use Rattle.grammar.specs.Laws.Layout.Read.{no}
-use Rattle.store.specs.Puts.{PutsWordsTo}
-use Rattle.store.specs.Laws.Puts.{with_room}
 use Rattle.grammar.specs.Table.{Cell}
 use Rattle.grammar.specs.Records.{cell_words_of}
 use Rattle.grammar.specs.Laws.Table.Words.{width_rows}
@@ -22,24 +18,21 @@ use Rattle.answer.specs.Answer.{accepted, wide, long, nodes_after, cells_after}
 use Rattle.grammar.proofs.Laws.Member.Demanded.{derivation_checked}
 use Rattle.total.specs.Laws.Reading.{Taken}
 
--- the first n words of a list over those of an area, where both have so many
+-- the first n words of a list over those of an area
 abbrev pub copied : ℕ → List ℕ → List ℕ → List ℕ
-copied n from to = pick (leb n (length from)) (pick (leb n (length to)) (take n from ++ drop n to) to) to
+copied n from to = take n from ++ drop n to
 
-module _ (n : ℕ) (from to : List ℕ) where
-  pub copied_all : n ≤ length from → n ≤ length to → {to' : List ℕ} {r : Step} → PutsWordsTo (take n from) to (Ok 0) to' r → to' ≡ copied n from to
-  unfolding pick
-  copied_all h l x =
-      let room = le-leb n (length to) l in
-      rw (le-leb n (length from) h, room) (rw room at (with_room n (take n from) to (length-take-le n from h) room x).1)
+-- two lists hold the records that are answered, and two areas have room for them
+pub record Fit (a : Answer) (node-list cell-list N C : List ℕ) : Type 0 where
+  pub nodes_there : node_words * a.nodes ≤ length node-list
+  pub cells_there : cell_words * a.cells ≤ length cell-list
+  pub wide : node_words * a.nodes ≤ length N
+  pub long : cell_words * a.cells ≤ length C
 
-  pub too_few : length from < n → to ≡ copied n from to
-  unfolding pick
-  too_few h = rw (lt-leb n (length from) h)
-
-  pub no_room : n ≤ length from → length to < n → to ≡ copied n from to
-  unfolding pick
-  no_room h l = rw (le-leb n (length from) h, lt-leb n (length to) l)
+-- these records, over the first words of the areas
+pub record Copied (a : Answer) (node-list cell-list N C N' C' : List ℕ) : Type 0 where
+  pub node_area : N' ≡ copied (node_words * a.nodes) node-list N
+  pub cell_area : C' ≡ copied (cell_words * a.cells) cell-list C
 
 pub either : (c : Bool) (l : List ℕ) → l ≡ pick c l l
 unfolding pick
@@ -55,12 +48,9 @@ filled true true n h k old new records e = ap (λ (l : List ℕ). pick (eqb n 0)
 filled true false n h k old new records e = rw (k refl refl)
 filled false is-long n h k old new records e = rw (h refl)
 
--- records in front of a list, over the words of an area that has room for them
-front : (n : ℕ) (records others to : List ℕ) → length records ≡ n → leb n (length to) ≡ true → copied n (records ++ others) to ≡ records ++ drop n to
-unfolding pick
-front n records others to l room =
-    let long : leb n (length (records ++ others)) ≡ true = rw length-append (le-leb n (length records + length others) (omega (arith, l))) in
-    rw (long, room, take_at records others n l)
+-- records in front of a list, over the words of an area
+front : (n : ℕ) (records others to : List ℕ) → length records ≡ n → copied n (records ++ others) to ≡ records ++ drop n to
+front n records others to l = rw (take_at records others n l)
 
 -- both areas after a call that refused with n, or with 0
 pub record Areas (bs N C : List ℕ) (n : ℕ) (N' C' : List ℕ) : Type 0 where
@@ -89,11 +79,11 @@ module _ {bs : List ℕ} (b : Bytes bs) (d : MemberDerivation bs) (dem : AsDeman
         node_area =
             f ∙ rw is
             (filled (wide t (length N)) (long t (length C)) n h k N (copied i (node_records t ++ other_nodes) N) (node_records t ++ drop i N)
-            (λ v _. front i (node_records t) other_nodes N node-words-long v));
+            (λ _ _. front i (node_records t) other_nodes N node-words-long));
         cell_area =
             g ∙ rw is
             (filled (wide t (length N)) (long t (length C)) n h k C (copied j (cell_records t ++ other_cells) C) (cell_records t ++ drop j C)
-            (λ _ v. front j (cell_records t) other_cells C cell-words-long v));
+            (λ _ _. front j (cell_records t) other_cells C cell-words-long));
       }
 
 -- the refusal n of areas of some lengths, for an answer a
@@ -109,9 +99,34 @@ module _ {bs : List ℕ} (b : Bytes bs) {a : Answer} {node-list cell-list : List
       let k' : Too_short (accepted h.derivation.tree) (length N) (length C) n = rw h.answer at k in
       of_derivation b h.derivation h.demands h.other_nodes h.other_cells N C n k'.0 k'.1 (rw (h.answer, h.in_nodes) at f) (rw (h.answer, h.in_cells) at g)
 
-  pub with_records : eqb n 0 ≡ true → {N' C' : List ℕ} → N' ≡ copied (node_words * a.nodes) node-list N → C' ≡ copied (cell_words * a.cells) cell-list C → Areas bs N C n N' C'
+  -- where nothing is refused, the lists and the areas are long enough
+  has_room : (x y m : ℕ) → n ≡ 0 → (leb x y ≡ false → n ≡ suc m) → leb x y ≡ true
+  has_room x y m fine short = go (leb x y) refl
+    where
+      go : (v : Bool) → leb x y ≡ v → leb x y ≡ true
+      go true e = e
+      go false e = absurd (let z = short e in omega (arith, fine, z))
+
+  pub records_fit : n ≡ 0 → Fit a node-list cell-list N C
+  unfolding accepted
+  records_fit fine =
+      let t = h.derivation.tree in
+      let is-wide = has_room (node_words * a.nodes) (length N) 11 fine k.0 in
+      let is-long = has_room (cell_words * a.cells) (length C) 12 fine (k.1 is-wide) in
+      let node-count : a.nodes ≡ nodes t = ap (λ (x : Answer). x.nodes) h.answer in
+      let cell-count : a.cells ≡ length (cells t) = ap (λ (x : Answer). x.cells) h.answer in
+      let node-words-long = width_dims (version t) 0 0 (dimensions_at t) (dimensions t) in
+      let cell-words-long = width_rows cell_words (size (Cell (version t))) (cell_words_of (version t)) (λ _ _. refl) (cells_start t) (cells t) in
+      record {
+        nodes_there = rw h.in_nodes (omega (arith, length-append (node_records t) h.other_nodes, node-words-long, node-count));
+        cells_there = rw h.in_cells (omega (arith, length-append (cell_records t) h.other_cells, cell-words-long, cell-count));
+        wide = leb-true (node_words * a.nodes) (length N) is-wide;
+        long = leb-true (cell_words * a.cells) (length C) is-long;
+      }
+
+  pub with_records : eqb n 0 ≡ true → {N' C' : List ℕ} → Copied a node-list cell-list N C N' C' → Areas bs N C n N' C'
   unfolding pick
-  with_records fine f g = areas (rw fine f) (rw fine g)
+  with_records fine x = areas (rw fine x.node_area) (rw fine x.cell_area)
 
   pub without_records : eqb n 0 ≡ false → Areas bs N C n N C
   unfolding pick

@@ -1,5 +1,5 @@
 -- A total is below 2^44: there are at most 4,096 cells.
-use Rattle.std.specs.Prelude.{◌≡◌, refl, Bool, true, false, List, [], ◌∷◌, ℕ, suc, ◌+◌, ◌^◌, ◌<◌}
+use Rattle.std.specs.Prelude.{◌≡◌, refl, Bool, true, false, List, [], ◌∷◌, ℕ, suc, ◌+◌, ◌^◌, ◌<◌, Option, None, Some}
 use Rattle.std.proofs.Common.{ap, arith}
 use Rattle.std.proofs.Math.ListN.{length}
 use Rattle.sizes.specs.Basics.{pick}
@@ -8,7 +8,7 @@ use Rattle.grammar.specs.Table.{Cell}
 use Rattle.grammar.specs.Member.{version, cells, nodes, cells_start, MemberDerivation}
 use Rattle.total.specs.declared.LeafTotal.{LeafTotal}
 use Rattle.total.specs.Total.{cells_say, member_cells, under, leaf_sums}
-use Rattle.total.specs.Answers.{refused, totalled, answered, there, leaf_answer_of}
+use Rattle.total.specs.Answers.{refused, totalled, unless_bad, answered, there, leaf_answer_of}
 use Rattle.total.specs.Laws.Sums.{sums_within}
 use Rattle.total.specs.Laws.LeafIs.{few_cells}
 
@@ -22,6 +22,10 @@ unfolding pick
 either true x y h k = h
 either false x y h k = k
 
+unless_bad_below : (o : Option ℕ) (x : LeafTotal) → x.total < 2 ^ 44 → (unless_bad o x).total < 2 ^ 44
+unless_bad_below (Some place) x h = omega arith
+unless_bad_below None x h = h
+
 module _ {bs : List ℕ} (d : MemberDerivation bs) (dimension leaf : ℕ) where
   sums_below : (leaf_sums d.tree dimension leaf).total < 2 ^ 44
   sums_below =
@@ -34,4 +38,4 @@ module _ {bs : List ℕ} (d : MemberDerivation bs) (dimension leaf : ℕ) where
       let s = leaf_sums d.tree dimension leaf in
       let n = nodes d.tree in
       let m = length (cells d.tree) in
-      either (there d.tree dimension leaf) (answered n m s) (refused 19 0 0 0) (either s.bad (refused 20 s.place 0 0) (totalled n m s) (omega arith) sums_below) (omega arith)
+      either (there d.tree dimension leaf) (answered n m s) (refused 19 0 0 0) (unless_bad_below s.bad (totalled n m s) sums_below) (omega arith)

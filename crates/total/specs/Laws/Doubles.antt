@@ -1,5 +1,5 @@
 -- The smallest and the largest are doubles of whole numbers, and no NaN.
-use Rattle.std.specs.Prelude.{Bool, true, false, not, cond, T, ltb, Float}
+use Rattle.std.specs.Prelude.{Bool, true, false, not, cond, T, ltb, Float, Option, None, Some}
 use Prim.Native.Nat.{ℕ, zero, suc, ◌+◌, ◌-◌, ◌*◌, ◌/◌, ◌%◌, ◌^◌, compare}
 use Rattle.std.specs.Float.{inf, Format, binary64}
 use Rattle.std.specs.Float.Ieee.{prec, emax, low, size, nearest, odd, units, round, of_int, is_nan}
@@ -11,7 +11,7 @@ use Rattle.answer.specs.Answer.{wide, long}
 use Rattle.total.specs.declared.sums.Sums.{Sums}
 use Rattle.total.specs.declared.LeafTotal.{LeafTotal}
 use Rattle.total.specs.Total.{leaf_sums}
-use Rattle.total.specs.Answers.{member_first, double, refused, answered, there, leaf_answer_of, total_answer}
+use Rattle.total.specs.Answers.{member_first, double, refused, unless_bad, answered, there, leaf_answer_of, total_answer}
 
 odd_number : (d : ℕ) (s : Bool) (q k l : ℕ) → T (not (is_nan (odd d s q k l)))
 unfolding odd is_nan
@@ -50,9 +50,13 @@ unfolding pick
 either_numbers true x y h k = h
 either_numbers false x y h k = k
 
+unless_bad_numbers : (o : Option ℕ) (x : LeafTotal) → Numbers x → Numbers (unless_bad o x)
+unless_bad_numbers (Some place) x h = refused_numbers 20 place 0 0
+unless_bad_numbers None x h = h
+
 pub answered_numbers : (node-count cell-count : ℕ) (s : Sums) → Numbers (answered node-count cell-count s)
 answered_numbers node-count cell-count s =
-    either_numbers s.bad _ _ (refused_numbers 20 s.place 0 0) (record { smallest = double_number s.smallest; largest = double_number s.largest })
+    unless_bad_numbers s.bad _ (record { smallest = double_number s.smallest; largest = double_number s.largest })
 
 leaf_numbers : (t : Tree Member) (dimension leaf : ℕ) → Numbers (leaf_answer_of t dimension leaf)
 unfolding leaf_answer_of

@@ -1,5 +1,7 @@
 -- The sums of all leaves in rows of words, as the code holds them.
-use Rattle.std.specs.Prelude.{◌≡◌, Bool, drop, get_or, eqb}
+use Rattle.std.specs.Prelude.{◌≡◌, Bool, drop, get_or, eqb, Option, None, Some}
+use Rattle.std.specs.Option.{is_some, unwrap_or}
+use Rattle.std.specs.Bool.{then_some}
 use Rattle.std.proofs.Math.Path.{refl, ap}
 use Rattle.std.proofs.Common.{sym, ◌∙◌, add-zero, add-one, length-drop, length-append, drop-drop, drop_at}
 use Rattle.std.proofs.Math.Bool.{true, false}
@@ -30,13 +32,12 @@ use Rattle.total.specs.Laws.Rows.{rows_same, row_word, but, row_set, last_row, r
 
 -- sums as a row of words
 abbrev pub sum_row : Sums → List ℕ
-sum_row s = bit s.bad ∷ s.place ∷ word32 s.total ∷ s.total / 2 ^ 32 ∷ s.numbers ∷ s.texts ∷ s.missing ∷ s.smallest ∷ s.largest ∷ 0 ∷ 0 ∷ []
+sum_row s = bit (is_some s.bad) ∷ unwrap_or s.bad 0 ∷ word32 s.total ∷ s.total / 2 ^ 32 ∷ s.numbers ∷ s.texts ∷ s.missing ∷ s.smallest ∷ s.largest ∷ 0 ∷ 0 ∷ []
 
 -- those of row j
 unfoldable pub sums_at : List ℕ → ℕ → Sums
 sums_at ws j = record {
-  bad = eqb (word ws (leaf_total_words * j)) 1;
-  place = word ws (leaf_total_words * j + 1);
+  bad = then_some (eqb (word ws (leaf_total_words * j)) 1) (word ws (leaf_total_words * j + 1));
   total = word ws (leaf_total_words * j + 2) + word ws (leaf_total_words * j + 3) * 2 ^ 32;
   numbers = word ws (leaf_total_words * j + 4);
   texts = word ws (leaf_total_words * j + 5);
@@ -85,9 +86,9 @@ module _ (block step n : ℕ) (c : CellSays) (ws : List ℕ) {leaf : ℕ} (e : l
   unfolding scattered pick
   scatter_out h = rw (← e, le-ltb leaf n h)
 
-is_bit : (b : Bool) → eqb (bit b) 1 ≡ b
-is_bit true = refl
-is_bit false = refl
+is_bad : (o : Option ℕ) → then_some (eqb (bit (is_some o)) 1) (unwrap_or o 0) ≡ o
+is_bad (Some place) = refl
+is_bad None = refl
 
 -- a row that holds sums
 module _ (g : ℕ → List ℕ) (width : (j : ℕ) → length (g j) ≡ leaf_total_words) (n : ℕ) (rest : List ℕ) (j : ℕ) (h : j < n) (s : Sums) (is : g j ≡ sum_row s) where
@@ -102,7 +103,7 @@ module _ (g : ℕ → List ℕ) (width : (j : ℕ) → length (g j) ≡ leaf_tot
   unfolding sums_at state
   sums_at_lem =
       let whole : s.total % 2 ^ 32 + s.total / 2 ^ 32 * 2 ^ 32 ≡ s.total = omega arith in
-      let first : word state (leaf_total_words * j) ≡ bit s.bad = rw (add-zero (leaf_total_words * j)) at (in_row 0 (omega arith)) in
+      let first : word state (leaf_total_words * j) ≡ bit (is_some s.bad) = rw (add-zero (leaf_total_words * j)) at (in_row 0 (omega arith)) in
       rw (
         first,
         in_row 1 (omega arith),
@@ -113,7 +114,7 @@ module _ (g : ℕ → List ℕ) (width : (j : ℕ) → length (g j) ≡ leaf_tot
         in_row 6 (omega arith),
         in_row 7 (omega arith),
         in_row 8 (omega arith),
-        is_bit s.bad,
+        is_bad s.bad,
         whole,
       )
 

@@ -1,5 +1,5 @@
 -- A place of an answer is inside the member, so that a word of 32 bits keeps it.
-use Rattle.std.specs.Prelude.{◌≡◌, Bool, true, false, List, ◌++◌, ℕ, ◌+◌, ◌^◌, ◌≤◌, ◌<◌, drop}
+use Rattle.std.specs.Prelude.{◌≡◌, Bool, true, false, List, ◌++◌, ℕ, ◌+◌, ◌^◌, ◌≤◌, ◌<◌, drop, ⊤, Option, None, Some}
 use Rattle.std.proofs.Math.Path.{refl}
 use Rattle.std.proofs.Common.{ap, ◌∙◌, append_assoc, arith, length-append, length-drop}
 use Rattle.std.proofs.Math.ListN.{length}
@@ -24,25 +24,30 @@ use Rattle.counts.specs.Count.{kind}
 use Rattle.total.specs.declared.sums.Sums.{Sums}
 use Rattle.total.specs.declared.LeafTotal.{LeafTotal}
 use Rattle.total.specs.Total.{CellSays, add, with_cell, sums, cells_say, under, leaf_sums}
-use Rattle.total.specs.Answers.{member_first, refused, answered, there, leaf_answer_of, total_answer}
+use Rattle.total.specs.Answers.{member_first, refused, unless_bad, answered, there, leaf_answer_of, total_answer}
 
 -- ---- sums
 
-either : (b : Bool) (m : ℕ) (s s' : Sums) → s.place ≤ m → s'.place ≤ m → (pick b s s').place ≤ m
+-- a place, if there is one, is at most m
+abbrev Up_to : ℕ → Option ℕ → Type 0
+Up_to m (Some place) = place ≤ m
+Up_to m None = ⊤
+
+either : (b : Bool) (m : ℕ) (s s' : Sums) → Up_to m s.bad → Up_to m s'.bad → Up_to m (pick b s s').bad
 unfolding pick
 either true m s s' h k = h
 either false m s s' h k = k
 
-added : (m : ℕ) (k : Kind) (place : ℕ) (s : Sums) → place ≤ m → s.place ≤ m → (add k place s).place ≤ m
+added : (m : ℕ) (k : Kind) (place : ℕ) (s : Sums) → place ≤ m → Up_to m s.bad → Up_to m (add k place s).bad
 unfolding add
 added m Text place s h l = l
 added m Missing place s h l = l
 added m (Number n) place s h l = l
 added m Bad place s h l = h
 
-sums_place : (test : ℕ → Bool) (m : ℕ) {cs : List CellSays} → All (λ c. c.place ≤ m) cs → (sums test cs).place ≤ m
+sums_place : (test : ℕ → Bool) (m : ℕ) {cs : List CellSays} → All (λ c. c.place ≤ m) cs → Up_to m (sums test cs).bad
 unfolding sums with_cell
-sums_place test m all_none = omega arith
+sums_place test m all_none = tt
 sums_place test m (all_more {x = c} {xs = cs} h hs) =
     let k = kind c.contents.raw.form c.contents.raw.bits in
     let s = sums test cs in
@@ -69,17 +74,21 @@ unfolding pick
 either_total true m x y h k = h
 either_total false m x y h k = k
 
+unless_bad_place : (o : Option ℕ) (m : ℕ) (x : LeafTotal) → Up_to m o → x.place ≤ m → (unless_bad o x).place ≤ m
+unless_bad_place (Some place) m x h k = h
+unless_bad_place None m x h k = k
+
 module _ {bs : List ℕ} (b : Bytes bs) (N C : List ℕ) (dimension leaf : ℕ) where
   leaf_place : (t : Tree Member) (r : List ℕ) (p : ℕ) → checked bs ≡ got t r p → (leaf_answer_of t dimension leaf).place ≤ length bs
   unfolding leaf_answer_of
   leaf_place t r p e =
       let k = demanded.accepted bs b t r p e in
       let d = k.derivation in
-      let s : (leaf_sums d.tree dimension leaf).place ≤ length bs =
+      let s : Up_to (length bs) (leaf_sums d.tree dimension leaf).bad =
       sums_place (under d.tree dimension leaf) (length bs) (cells_inside (version d.tree) bs (cells_start d.tree) (final d.ends) (cells_there d) d.valid.1.2.1.2.1) in
-      let s' : (leaf_sums t dimension leaf).place ≤ length bs = rw k.its_tree at s in
+      let s' : Up_to (length bs) (leaf_sums t dimension leaf).bad = rw k.its_tree at s in
       either_total (there t dimension leaf) (length bs) (answered (nodes t) (length (cells t)) (leaf_sums t dimension leaf)) (refused 19 0 0 0)
-      (either_total (leaf_sums t dimension leaf).bad (length bs) (refused 20 (leaf_sums t dimension leaf).place 0 0) _ s' (omega arith)) (omega arith)
+      (unless_bad_place (leaf_sums t dimension leaf).bad (length bs) _ s' (omega arith)) (omega arith)
 
   pub total_place : (total_answer (checked bs) (length N) (length C) dimension leaf).place ≤ length bs
   unfolding total_answer member_first answer_of refusal

@@ -1,5 +1,5 @@
 -- "Where no cell of the table is refused, the totals over all leaves of any one dimension add up to the same table total."
-use Rattle.std.specs.Prelude.{◌≡◌, refl, Bool, true, false, List, [], ◌∷◌, ℕ, ◌<◌, length, get_or}
+use Rattle.std.specs.Prelude.{◌≡◌, refl, Bool, true, false, List, [], ◌∷◌, ℕ, ◌<◌, length, get_or, None}
 use Rattle.std.proofs.Common.{◌∙◌, arith}
 use Rattle.std.proofs.lemmas.List.{length-map}
 use borrow.Author.Tests.{lt-ltb}
@@ -19,20 +19,20 @@ use Rattle.total.specs.Laws.Under.{all_say}
 use Rattle.total.specs.Laws.Leaves.{sum_to, sum_same, leaves_add_up}
 
 -- a cell that is added to sums, none of them bad, is not bad, and neither were they
-kept_good : (k : Kind) (place : ℕ) (s s' : Sums) → (add k place s).bad ≡ false → (s.bad ≡ false) × (s'.bad ≡ false → (add k place s').bad ≡ false)
+kept_good : (k : Kind) (place : ℕ) (s s' : Sums) → (add k place s).bad ≡ None → (s.bad ≡ None) × (s'.bad ≡ None → (add k place s').bad ≡ None)
 unfolding add
 kept_good Text place s s' e = (e, λ f. f)
 kept_good Missing place s s' e = (e, λ f. f)
 kept_good (Number n) place s s' e = (e, λ f. f)
 kept_good Bad place s s' e = absurd (let z : ◌≡◌ {A = ℕ} 0 1 = cc in omega arith)
 
-either : (b : Bool) (s s' : Sums) → s.bad ≡ false → s'.bad ≡ false → (pick b s s').bad ≡ false
+either : (b : Bool) (s s' : Sums) → s.bad ≡ None → s'.bad ≡ None → (pick b s s').bad ≡ None
 unfolding pick
 either true s s' e f = e
 either false s s' e f = f
 
 -- where none of all cells is bad, none of some is
-some_good : (test : ℕ → Bool) (cs : List CellSays) → (sums (λ _. true) cs).bad ≡ false → (sums test cs).bad ≡ false
+some_good : (test : ℕ → Bool) (cs : List CellSays) → (sums (λ _. true) cs).bad ≡ None → (sums test cs).bad ≡ None
 unfolding sums with_cell pick
 some_good test [] e = refl
 some_good test (c ∷ cs) e =
@@ -51,11 +51,11 @@ module _ (t : Tree Member) (a : AsDemanded t) (i : ℕ) (there : i < length (dim
   under_some (all_more {x = k} h hs) = all_more (coordinate_below (ns t) i k h (omega (arith, how_many))) (under_some hs)
 
   -- the total of a leaf that is there, where no cell is refused
-  leaf_total_lem : (table_sums t).bad ≡ false → (j : ℕ) → j < get_or (ns t) i 0 → (leaf_answer_of t i j).total ≡ (leaf_sums t i j).total
+  leaf_total_lem : (table_sums t).bad ≡ None → (j : ℕ) → j < get_or (ns t) i 0 → (leaf_answer_of t i j).total ≡ (leaf_sums t i j).total
   unfolding leaf_answer_of pick
   leaf_total_lem good j h = rw (lt-ltb i (length (dimensions t)) there, lt-ltb j (get_or (ns t) i 0) h, some_good _ (member_cells t) good)
 
-  pub totals_add_up : (table_sums t).bad ≡ false → sum_to (get_or (ns t) i 0) (λ j. (leaf_answer_of t i j).total) ≡ (table_sums t).total
+  pub totals_add_up : (table_sums t).bad ≡ None → sum_to (get_or (ns t) i 0) (λ j. (leaf_answer_of t i j).total) ≡ (table_sums t).total
   totals_add_up good =
       sum_same (get_or (ns t) i 0) (λ j. (leaf_answer_of t i j).total) (λ j. (leaf_sums t i j).total) (leaf_total_lem good)
       ∙ leaves_add_up (coordinate (ns t) i) (get_or (ns t) i 0) (all_say (version t) (λ k. coordinate (ns t) i k < get_or (ns t) i 0) (cells_start t) (cells t) (under_some a.inside.below))

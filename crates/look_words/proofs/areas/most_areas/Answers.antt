@@ -1,5 +1,5 @@
 use Rattle.look_words.specs.LookWords.{most_areas}
-use Rattle.store.specs.Laws.Puts.{◌⟩◌, long_words}
+use Rattle.store.specs.Laws.Puts.{◌⟩◌}
 use Rattle.look_words.proofs.areas.most_areas.Goals as goal
 
 pub returns : goal.returns
@@ -8,6 +8,3 @@ returns c =
     c.area-st.ensures ⟩ c.area-st-2.ensures ⟩ c.area-st-3.ensures
     ⟩ c.area-st-4.ensures ⟩ c.area-st-5.ensures ⟩ c.area-st-6.ensures
     ⟩ c.area.ensures
-
-pub shape_of-out : goal.shape_of-out
-shape_of-out c = long_words (returns c)

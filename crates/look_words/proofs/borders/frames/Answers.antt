@@ -1,5 +1,5 @@
 use Rattle.look_words.specs.LookWords.{frames}
-use Rattle.store.specs.Laws.Puts.{◌⟩◌, long_words}
+use Rattle.store.specs.Laws.Puts.{◌⟩◌}
 use Rattle.look_words.proofs.borders.frames.Goals as goal
 
 pub returns : goal.returns
@@ -7,6 +7,3 @@ unfolding frames
 returns c =
     c.separator-st.ensures ⟩ c.frame-st.ensures ⟩ c.frame-st-2.ensures
     ⟩ c.separator-st-2.ensures ⟩ c.separator.ensures
-
-pub shape_of-out : goal.shape_of-out
-shape_of-out c = long_words (returns c)

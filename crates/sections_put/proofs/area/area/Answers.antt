@@ -1,7 +1,7 @@
 use Rattle.sizes.specs.Basics.{pick}
 use Rattle.grammar.specs.Sections as grammar
 use Rattle.sections_put.specs.Fields.{area}
-use Rattle.store.specs.Laws.Puts.{plain, ◌⟫◌, long}
+use Rattle.store.specs.Laws.Puts.{plain, ◌⟫◌}
 use Rattle.sections_put.proofs.area.area.Goals as goal
 
 pub returns : goal.returns
@@ -10,6 +10,3 @@ returns c =
     c.font-st.ensures
     ⟫ plain c.colors-st.ensures
     ⟫ plain c.margins.ensures
-
-pub shape_of-buf : goal.shape_of-buf
-shape_of-buf c = long (returns c)

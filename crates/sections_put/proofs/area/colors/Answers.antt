@@ -1,6 +1,6 @@
 use Rattle.grammar.specs.Sections.{AreaColors}
 use Rattle.sections_put.specs.Fields.{colors}
-use Rattle.store.specs.Laws.Puts.{◌⊳◌, long_plain}
+use Rattle.store.specs.Laws.Puts.{◌⊳◌}
 use Rattle.sections_put.proofs.area.colors.Goals as goal
 
 pub returns : goal.returns
@@ -11,6 +11,3 @@ returns c =
     ⊳ c.flag-st.ensures
     ⊳ c.empty-st.ensures
     ⊳ c.empty.ensures
-
-pub shape_of-buf : goal.shape_of-buf
-shape_of-buf c = long_plain (returns c)

@@ -1,6 +1,6 @@
 use Rattle.grammar.specs.Sections.{EightAreas}
 use Rattle.sections_put.specs.Fields.{eight_areas}
-use Rattle.store.specs.Laws.Puts.{◌⟫◌, long}
+use Rattle.store.specs.Laws.Puts.{◌⟫◌}
 use Rattle.sections_put.proofs.area.eight_areas.Goals as goal
 
 pub returns : goal.returns
@@ -14,6 +14,3 @@ returns c =
     ⟫ c.area-st-6.ensures
     ⟫ c.area-st-7.ensures
     ⟫ c.area.ensures
-
-pub shape_of-buf : goal.shape_of-buf
-shape_of-buf c = long (returns c)

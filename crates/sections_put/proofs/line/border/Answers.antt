@@ -1,4 +1,4 @@
-use Rattle.store.specs.Laws.Puts.{◌⊳◌, long_plain}
+use Rattle.store.specs.Laws.Puts.{◌⊳◌}
 use Rattle.sections_put.proofs.line.border.Goals as goal
 
 pub returns : goal.returns
@@ -6,6 +6,3 @@ returns c =
     c.be32-st.ensures
     ⊳ c.be32-st-2.ensures
     ⊳ c.be32.ensures
-
-pub shape_of-buf : goal.shape_of-buf
-shape_of-buf c = long_plain (returns c)

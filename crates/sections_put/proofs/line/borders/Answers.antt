@@ -1,5 +1,4 @@
 use Rattle.grammar.specs.Sections.{Borders}
-use Rattle.store.specs.Laws.Puts.{long_plain}
 use Rattle.sections_put.specs.Fields.{borders}
 use Rattle.sections_put.specs.Laws.Long.{content_short}
 use Rattle.sections_put.specs.Laws.Puts.{plain_region}
@@ -8,6 +7,3 @@ use Rattle.sections_put.proofs.line.borders.Goals as goal
 pub returns : goal.returns
 unfolding borders Borders
 returns c = plain_region c.start-inside.ensures c.content-last.ensures c.end.ensures (λ s. content_short s _)
-
-pub shape_of-buf : goal.shape_of-buf
-shape_of-buf c = long_plain (returns c)

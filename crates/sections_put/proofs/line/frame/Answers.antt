@@ -1,4 +1,4 @@
-use Rattle.store.specs.Laws.Puts.{plain_none, plain_more, long_plain}
+use Rattle.store.specs.Laws.Puts.{plain_none, plain_more}
 use Rattle.sections_put.proofs.line.frame.Goals as goal
 
 pub returns : goal.returns
@@ -8,6 +8,3 @@ returns c =
     (plain_more {n = 1} c.border-st-3.ensures
     (plain_more {n = 0} c.border.ensures
     plain_none)))
-
-pub shape_of-buf : goal.shape_of-buf
-shape_of-buf c = long_plain (returns c)

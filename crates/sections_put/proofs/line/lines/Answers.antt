@@ -1,5 +1,5 @@
-use Rattle.store.specs.Laws.Puts.{plain_more, long_plain}
-use Rattle.sections_put.specs.Laws.Puts.{◌and◌}
+use Rattle.store.specs.Laws.Puts.{plain_more}
+use Rattle.store.specs.Laws.Puts.{◌and◌}
 use Rattle.sections_put.proofs.line.lines.Goals as goal
 
 pub returns : goal.returns
@@ -10,6 +10,3 @@ returns c =
     (plain_more {n = 8} c.border-st-3.ensures
     (c.pair-st.ensures and c.pair-st-2.ensures
     and c.pair-st-3.ensures and c.pair.ensures)))
-
-pub shape_of-buf : goal.shape_of-buf
-shape_of-buf c = long_plain (returns c)

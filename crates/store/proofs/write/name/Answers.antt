@@ -12,7 +12,7 @@ use Rattle.store.specs.declared.Name.{Name}
 use Rattle.store.specs.Fields.{lent, bytes_of, text_of}
 use Rattle.store.specs.Put.{text_verdict}
 use Rattle.store.specs.Laws.Verdicts.{TextCase, text_good, text_longer, text_out, text_bad, text_case}
-use Rattle.store.specs.Laws.Puts.{text_puts, long}
+use Rattle.store.specs.Laws.Puts.{text_puts}
 use Rattle.store.proofs.write.name.Goals as goal
 
 part_there : (w : ℕ) (c : Content) (s : List ℕ) (n : Name) → text_verdict w c s (lent n) ≡ 0 → part_of s n.place n.length ≡ text_of s (lent n)
@@ -30,6 +30,3 @@ returns c =
     let v = c.name_verdict-verdict.ensures in
     let a = c.args in
     text_puts tt v (λ z. c.part-text.ensures ∙ part_there _ _ a.names.now a.n (sym v ∙ z)) c.string_field.ensures
-
-pub shape_of-buf : goal.shape_of-buf
-shape_of-buf c = long (returns c)

@@ -4,7 +4,7 @@ use Rattle.grammar.specs.Layout.{any_bytes, suits}
 use Rattle.layout.specs.Steps.Slices.{bytes_of}
 use Rattle.store.specs.Fields.{letters, text_of}
 use Rattle.store.specs.Put.{content_verdict, text_verdict}
-use Rattle.store.specs.Laws.Puts.{text_puts, long_plain}
+use Rattle.store.specs.Laws.Puts.{text_puts}
 use Rattle.store.proofs.write.text.Goals as goal
 
 verdict_of : (w : ℕ) (s xs : List ℕ) {short : Bool} → short ≡ ltb (length xs) (256 ^ w) → pick short 0 7 ≡ text_verdict w any_bytes s (letters xs)
@@ -18,6 +18,3 @@ returns c =
     record {
       any = λ s. text_puts (bytes_of xs c.type_inv.text) (c.unless-verdict.ensures ∙ verdict_of _ s xs c.says.ensures) (λ z. refl) c.string_field.ensures;
     }
-
-pub shape_of-buf : goal.shape_of-buf
-shape_of-buf c = long_plain (returns c)

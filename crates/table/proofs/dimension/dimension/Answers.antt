@@ -13,19 +13,19 @@ returns-in_err-name c =
     let p = err_from_is_err_and c.from_residual.result c.from_residual.ensures.1 in
     rw (p.1, p.2) (no_start _ _ (in_member m.are_bytes) m.short _ _ (kept refl ◂ kept refl ◂ rw c.in_err-name.was at c.value.ensures) refl)
 
-pub returns-in_err-first : goal.returns-in_err-first
-returns-in_err-first c =
+pub returns-in_err-any : goal.returns-in_err-any
+returns-in_err-any c =
     let m = c.args.member in
-    let p = err_from_is_err_and c.from_residual-in_err-first.result c.from_residual-in_err-first.ensures.1 in
-    rw (p.1, p.2) (no_start _ _ (in_member m.are_bytes) m.short _ _ (c.any.ensures.low ◂ c.properties-before.ensures ◂ rw c.in_ok-name.was at c.value.ensures) (ap by_number c.in_err-first.was))
+    let p = err_from_is_err_and c.from_residual-in_err-any.result c.from_residual-in_err-any.ensures.1 in
+    rw (p.1, p.2) (no_start _ _ (in_member m.are_bytes) m.short _ _ (c.any.ensures.low ◂ c.properties-before.ensures ◂ rw c.in_ok-name.was at c.value.ensures) (ap by_number c.in_err-any.was))
 
 pub returns-in_err-end : goal.returns-in_err-end
 returns-in_err-end c =
     let m = c.args.member in
     let p = err_from_is_err_and c.from_residual-in_err-end.result c.from_residual-in_err-end.ensures.1 in
     let v = rw c.in_ok-name.was at c.value.ensures in
-    rw (p.1, p.2) (no_categories _ _ (in_member m.are_bytes) m.short _ _ c.requires.1 c.requires.2
-    v (c.properties-before.ensures ◂ v) c.any.ensures.low c.peek-n.ensures (ap by_number c.in_ok-first.was)
+    rw (p.1, p.2) (no_categories _ _ (in_member m.are_bytes) m.short _ _ c.args.from.few c.requires.1
+    v (c.properties-before.ensures ◂ v) c.any.ensures.low c.peek-n.ensures (ap by_number c.in_ok-any.was)
     (kept_off (rw c.in_err-end.was at c.categories.ensures)))
 
 pub returns : goal.returns
@@ -33,6 +33,6 @@ returns c =
     let m = c.args.member in
     let v = rw c.in_ok-name.was at c.value.ensures in
     let r = kept_on (rw c.in_ok-end.was at c.categories.ensures) in
-    close_dim _ _ (in_member m.are_bytes) m.short _ _ c.requires.1 c.requires.2
-    v (c.properties-before.ensures ◂ v) c.any.ensures.low c.peek-n.ensures (ap by_number c.in_ok-first.was)
+    close_dim _ _ (in_member m.are_bytes) m.short _ _ c.args.from.few c.requires.1
+    v (c.properties-before.ensures ◂ v) c.any.ensures.low c.peek-n.ensures (ap by_number c.in_ok-any.was)
     {ts = r.tree} r.is r.keeps (rw c.length.ensures at c.close.ensures)

@@ -28,14 +28,14 @@ returns-in_err-first c =
     let p = err_from_is_err_and c.from_residual.result c.from_residual.ensures.1 in
     rw (p.1, p.2) (no_number most_dimensions (next_dim m.version) m.bytes.now (in_member m.are_bytes) a.at ((AllDims m.version) a.at a.nodes.now a.dims.now) c.count.ensures (ap by_number c.in_err-first.was))
 
-pub returns-in_err-end : goal.returns-in_err-end
+pub returns-in_err-reached : goal.returns-in_err-reached
 unfolding dimensions_rule
-returns-in_err-end c =
+returns-in_err-reached c =
     let a = c.args in
     let m = a.member in
-    let p = err_from_is_err_and c.from_residual-in_err-end.result c.from_residual-in_err-end.ensures.1 in
+    let p = err_from_is_err_and c.from_residual-in_err-reached.result c.from_residual-in_err-reached.ensures.1 in
     rw (p.1, p.2) (no_items most_dimensions (next_dim m.version) m.bytes.now (in_member m.are_bytes) a.at ((AllDims m.version) a.at a.nodes.now a.dims.now) c.count.ensures (ap by_number c.in_ok-first.was) c.peek-n.ensures
-    (kept_off (rw c.in_err-end.was at c.all.ensures)))
+    (kept_off (rw c.in_err-reached.was at c.all.ensures)))
 
 pub returns : goal.returns
 unfolding dimensions_rule
@@ -44,6 +44,6 @@ returns c =
     let m = a.member in
     let b = in_member m.are_bytes in
     let was = ap by_number c.in_ok-first.was in
-    let r = kept_on (rw c.in_ok-end.was at c.all.ensures) in
+    let r = kept_on (rw c.in_ok-reached.was at c.all.ensures) in
     the_items most_dimensions (next_dim m.version) m.bytes.now b a.at ((AllDims m.version) a.at a.nodes.now a.dims.now) c.count.ensures was c.peek-n.ensures r.tree r.is
     ((the_dims m.version) (ends_at most_dimensions (next_dim m.version) m.bytes.now b a.at ((AllDims m.version) a.at a.nodes.now a.dims.now) c.count.ensures was c.peek-n.ensures) r.keeps)

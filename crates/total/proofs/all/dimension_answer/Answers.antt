@@ -3,14 +3,14 @@ use Rattle.sizes.specs.Basics.{pick}
 use Rattle.total.specs.Laws.AllCall.{dimension_of}
 use Rattle.total.proofs.all.dimension_answer.Goals as goal
 
-pub returns-then-fits : goal.returns-then-fits
+pub returns-then-a-dimension : goal.returns-then-a-dimension
 unfolding dimension_of pick
-returns-then-fits c = rw (lt-ltb _ _ c.if-inside.true, ← c.word-n.ensures, le-leb _ _ c.if-fits.true) c.refused_all.ensures
+returns-then-a-dimension c = rw (le-ltb _ _ c.if-a-dimension.true) c.refused_all.ensures
 
-pub returns-else-fits : goal.returns-else-fits
+pub returns-then-room-n : goal.returns-then-room-n
 unfolding dimension_of pick
-returns-else-fits c = rw (lt-ltb _ _ c.if-inside.true, ← c.word-n.ensures, lt-leb _ _ c.if-fits.false) c.refused_all-else-fits.ensures
+returns-then-room-n c = rw (lt-ltb _ _ c.if-a-dimension.false, ← c.word-n.ensures, lt-leb _ _ c.if-room-n.true) c.refused_all-then-room-n.ensures
 
-pub returns-else-inside : goal.returns-else-inside
+pub returns : goal.returns
 unfolding dimension_of pick
-returns-else-inside c = rw (le-ltb _ _ c.if-inside.false) c.refused_all-else-inside.ensures
+returns c = rw (lt-ltb _ _ c.if-a-dimension.false, ← c.word-n.ensures, le-leb _ _ c.if-room-n.false) c.refused_all-2.ensures

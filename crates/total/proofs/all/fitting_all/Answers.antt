@@ -2,14 +2,14 @@ use Rattle.std.proofs.lemmas.Bool.{le-leb, lt-leb}
 use Rattle.sizes.specs.Basics.{pick}
 use Rattle.total.proofs.all.fitting_all.Goals as goal
 
-pub returns-then-long : goal.returns-then-long
+pub returns-then-node_room-a : goal.returns-then-node_room-a
 unfolding pick
-returns-then-long c = rw (le-leb _ _ c.if-wide.true, le-leb _ _ c.if-long.true) c.dimension_answer.ensures
+returns-then-node_room-a c = rw (lt-leb _ _ c.if-node_room-a.true) c.refused_all.ensures
 
-pub returns-else-long : goal.returns-else-long
+pub returns-then-cell_room-a : goal.returns-then-cell_room-a
 unfolding pick
-returns-else-long c = rw (le-leb _ _ c.if-wide.true, lt-leb _ _ c.if-long.false) c.refused_all.ensures
+returns-then-cell_room-a c = rw (le-leb _ _ c.if-node_room-a.false, lt-leb _ _ c.if-cell_room-a.true) c.refused_all-then-cell_room-a.ensures
 
-pub returns-else-wide : goal.returns-else-wide
+pub returns : goal.returns
 unfolding pick
-returns-else-wide c = rw (lt-leb _ _ c.if-wide.false) c.refused_all-else-wide.ensures
+returns c = rw (le-leb _ _ c.if-node_room-a.false, le-leb _ _ c.if-cell_room-a.false) c.dimension_answer.ensures

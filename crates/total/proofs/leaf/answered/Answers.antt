@@ -1,10 +1,7 @@
-use Rattle.sizes.specs.Basics.{pick}
 use Rattle.total.proofs.leaf.answered.Goals as goal
 
-pub returns-then-s : goal.returns-then-s
-unfolding pick
-returns-then-s c = rw c.if-s.true c.refused.ensures
+pub returns-in-Some : goal.returns-in-Some
+returns-in-Some c = rw c.in-Some.is c.refused.ensures
 
-pub returns : goal.returns
-unfolding pick
-returns c = rw c.if-s.false
+pub returns-in-None : goal.returns-in-None
+returns-in-None c = rw c.in-None.is

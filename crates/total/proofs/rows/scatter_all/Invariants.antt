@@ -1,7 +1,7 @@
 -- The loop has added the cells of the records from i on.
 use mathlib.Core.Path.{◌≡◌}
 use mathlib.Core.List.{◌++◌}
-use Prim.Native.Nat.{◌-◌, ◌*◌, ◌≤◌}
+use Prim.Native.Nat.{◌-◌, ◌*◌}
 use lib.ListN.{drop}
 use Rattle.sizes.specs.Sizes.{leaf_total_words}
 use Rattle.total.specs.Laws.Words.{records_say}
@@ -9,7 +9,4 @@ use Rattle.total.specs.Laws.LeafRows.{all_sums}
 use Rattle.total.proofs.rows.scatter_all.Given as goal
 
 abbrev pub invariant-loop-i : goal.invariant-loop-i
-invariant-loop-i l = (l.i ≤ l.m) × (l.area ≡ all_sums l.block l.step (records_say l.member l.version l.words l.i (l.m - l.i)) l.n ++ drop (leaf_total_words * l.n) l.initial.area)
-
-abbrev pub decreases-loop-i : goal.decreases-loop-i
-decreases-loop-i l = l.i
+invariant-loop-i l = l.area ≡ all_sums l.block l.step (records_say l.member l.version l.words l.i (l.m - l.i)) l.n ++ drop (leaf_total_words * l.n) l.initial.area

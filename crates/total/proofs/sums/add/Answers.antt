@@ -28,7 +28,7 @@ returns-in-Missing c = rw c.in-Missing.is
 
 pub returns-in-Number : goal.returns-in-Number
 unfolding add
-returns-in-Number c = rw (c.in-Number.is, c.greatest.ensures, c.least.ensures)
+returns-in-Number c = rw (c.in-Number.is, c.max.ensures, c.least.ensures)
 
 pub returns-in-Bad : goal.returns-in-Bad
 unfolding add

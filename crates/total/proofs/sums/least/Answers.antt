@@ -3,14 +3,10 @@ use native.Mathlib.Omega.{arith}
 use Rattle.sizes.specs.Basics.{pick}
 use Rattle.total.proofs.sums.least.Goals as goal
 
-pub returns-then-first : goal.returns-then-first
+pub returns-then-numbers-eq0 : goal.returns-then-numbers-eq0
 unfolding pick
-returns-then-first c = rw (eq-eqb _ _ c.if-first.true)
+returns-then-numbers-eq0 c = rw (eq-eqb _ _ c.if-numbers-eq0.true)
 
-pub returns-then-n-smallest : goal.returns-then-n-smallest
+pub returns-else-numbers-eq0 : goal.returns-else-numbers-eq0
 unfolding pick
-returns-then-n-smallest c = rw (ne_eqb _ _ c.if-first.false) (omega arith)
-
-pub returns-else-n-smallest : goal.returns-else-n-smallest
-unfolding pick
-returns-else-n-smallest c = rw (ne_eqb _ _ c.if-first.false) (omega arith)
+returns-else-numbers-eq0 c = rw (ne_eqb _ _ c.if-numbers-eq0.false) c.min.ensures
