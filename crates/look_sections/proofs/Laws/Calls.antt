@@ -50,7 +50,7 @@ unfolding chain ending pick
 ended m room n (Err (k, p)) e = absurd (let z : ◌≡◌ {A = ℕ} 0 1 = cc in omega arith)
 ended m room n (Ok p) e = go (leb m room) e
   where
-    go : (b : Bool) → pick b (Ok m) (Err (15, 0)) ≡ Ok n → m ≡ n
+    go : (b : Bool) → pick {X = Step} b (Ok m) (Err (15, 0)) ≡ Ok n → m ≡ n
     go true i = cc
     go false i = absurd (let z : ◌≡◌ {A = ℕ} 0 1 = cc in omega arith)
 

@@ -8,7 +8,7 @@ use Rattle.grammar.specs.Layout.{little, Layout, ◌▸◌, Tree, digits, spell,
 use Rattle.grammar.specs.Sections.{HeaderStart, Areas, Borders, PrintSettings, TableSettings, Formats, Front}
 use Rattle.grammar.specs.Table.{Dimensions, Axes, Cells}
 use Rattle.grammar.specs.Member.{Member, version, front_section, dimensions_section, axes_section, cells_section, dimensions, cells, dimensions_at, cells_start, final, MemberDerivation, AsDemanded}
-use Rattle.look_sections.specs.Laws.InMember.{Sections, Before, Behind, sections_in, front_with, before_in, behind_in, own_sections, member_with, bytes_before, bytes_behind}
+use Rattle.look_sections.specs.Laws.InMember.{Sections, Before, sections_in, front_with, before_in, behind_in, own_sections, member_with, bytes_before, bytes_behind}
 
 -- ---- of what stands before the dimensions
 

@@ -15,6 +15,7 @@ use Rattle.grammar.specs.Laws.Layout.Check.{check}
 use Rattle.layout.specs.Reads.{forget, chain}
 use Rattle.store.specs.Fields.{placed}
 use Rattle.store.specs.Deliver.{ending}
+use Rattle.store.specs.Laws.Refusals.{same_refusal}
 use Rattle.look.specs.declared.Look.{Look}
 use Rattle.look.specs.Read.{Answer}
 use Rattle.look.specs.Look.{TableLook}
@@ -30,7 +31,7 @@ use Rattle.look_sections.specs.Refused.{LookOf, Refused, own, style, too_short, 
 module _ (s : List ℕ) (h : Bytes s) (room : ℕ) where
   data Answers : Step → Type 0 where
     can : (n : ℕ) (a : Allowed s room) → n ≡ length (sections a.says.look s) → Answers (Ok n)
-    can_not : {n p : ℕ} → Err (s, room) n p → Answers (Err (n, p))
+    can_not : {n p : ℕ} → Refused s room n p → Answers (Err (n, p))
 
   -- of an accepted look
   module _ (y : Look) (i : outcome (Ok y) ≡ expected (read TableLook s 0)) where
@@ -73,7 +74,7 @@ module _ (s : List ℕ) (h : Bytes s) (room : ℕ) where
   answers (Ok y) i = accepted y i
   answers (Err (n, p)) i = can_not (own ((reading.refused_exactly s h (Err (n, p)) i n p).0 refl))
 
-  refused_so : {n p : ℕ} → Err (s, room) n p → (a : Answer) → outcome a ≡ expected (read TableLook s 0) → sectioning a s room ≡ Err (n, p)
+  refused_so : {n p : ℕ} → Refused s room n p → (a : Answer) → outcome a ≡ expected (read TableLook s 0) → sectioning a s room ≡ Err (n, p)
   unfolding sectioning chain ending pick
   refused_so {n} {p} (own f) a i = rw ((reading.refused_exactly s h a i n p).1 f)
   refused_so {n} {p} (style d f) a i =
@@ -95,12 +96,12 @@ module _ (s : List ℕ) (h : Bytes s) (room : ℕ) where
 
   -- whatever answer meets `read_look`'s contract
   module _ (a : Answer) (i : outcome a ≡ expected (read TableLook s 0)) where
-    pub refused_exactly : (n p : ℕ) → (sectioning a s room ≡ Err (n, p)) ↔ Err (s, room) n p
+    pub refused_exactly : (n p : ℕ) → (sectioning a s room ≡ Err (n, p)) ↔ Refused s room n p
     refused_exactly n p = (λ e. go (answers a i) e, λ f. refused_so f a i)
       where
-        go : {c : Step} → Answers c → c ≡ Err (n, p) → Err (s, room) n p
+        go : {c : Step} → Answers c → c ≡ Err (n, p) → Refused s room n p
         go (can m x j) e = absurd (let z : ◌≡◌ {A = ℕ} 0 1 = cc in omega arith)
-        go (can_not {n = m} {p = q} u) e = let a : m ≡ n = cc in let b : q ≡ p = cc in rw (← a, ← b) u
+        go (can_not {n = m} {p = q} u) e = let same : (m ≡ n) × (q ≡ p) = same_refusal e in rw (← same.0, ← same.1) u
 
     pub written_exactly : (n : ℕ) → (sectioning a s room ≡ Ok n) ↔ ((c : Allowed s room) × (n ≡ length (sections c.says.look s)))
     written_exactly n = (λ e. go (answers a i) e, λ c. allowed_so c.0 a i ∙ ap Ok (sym c.1))

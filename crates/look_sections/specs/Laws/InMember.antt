@@ -1,10 +1,10 @@
 -- Areas and Borders of a member in the place of its own: a derivation again, with the same dimensions, nodes and cells, whose places move by the
 -- difference of the lengths.
-use Rattle.std.specs.Prelude.{Bool, List, ◌++◌, ℕ, ◌+◌}
+use Rattle.std.specs.Prelude.{Bool, List, ◌++◌, ℕ}
 use Rattle.grammar.specs.Layout.{little, Layout, ◌▸◌, Tree, digits, spell}
 use Rattle.grammar.specs.Sections.{HeaderStart, HeaderRest, Titles, Footnotes, Areas, Borders, PrintSettings, TableSettings, Formats, Front}
 use Rattle.grammar.specs.Table.{Dimensions, Axes, Cells}
-use Rattle.grammar.specs.Member.{Member, version, front_section, dimensions_section, axes_section, cells_section, dimensions, cells, final}
+use Rattle.grammar.specs.Member.{Member, version, front_section, dimensions_section, axes_section, cells_section, final}
 
 -- the two sections, one after the other
 abbrev pub Sections : ℕ → Layout

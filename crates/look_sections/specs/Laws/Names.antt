@@ -8,7 +8,7 @@ use Rattle.grammar.specs.Laws.Layout.Read.{read}
 use Rattle.store.specs.Unwritable.{Writable}
 use Rattle.look.specs.declared.AreaStyle.{AreaStyle}
 use Rattle.look.specs.declared.Look.{Look}
-use Rattle.std.specs.Prelude.{Ok, Err}
+use Rattle.std.specs.Prelude.{Ok}
 use Rattle.look.specs.Look as grammar
 use Rattle.look.specs.Look.{TableLook}
 use Rattle.look.specs.Values as values
