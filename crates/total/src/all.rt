@@ -34,7 +34,10 @@ fn dimension_answer(a: &Answer, dimension: u32, room: usize) -> DimensionTotals
     if a.dims <= dimension {
         return refused_all(19, 0, 0, 0, 0);
     }
-    let n = word(&a.dimensions, DIMENSION_WORDS * dimension as usize + DIMENSION_N);
+    let n = word(
+        &a.dimensions,
+        DIMENSION_WORDS * dimension as usize + DIMENSION_N,
+    );
     if room < LEAF_TOTAL_WORDS * n as usize {
         return refused_all(15, 0, 0, 0, n);
     }

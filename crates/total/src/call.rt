@@ -13,11 +13,7 @@ use member::read_into;
 use sizes::{CELL_WORDS, NODE_WORDS};
 
 // The records of an accepted member, over the first words of areas that have room for them.
-pub fn copy_records(
-    x: Accepted,
-    nodes: &mut [u32],
-    cells: &mut [u32],
-)
+pub fn copy_records(x: Accepted, nodes: &mut [u32], cells: &mut [u32])
     requires { areas.Fit x.answer.now x.node_list.now x.cell_list.now nodes.old cells.old }
     ensures { areas.Copied x.entry.answer.now x.entry.node_list.now x.entry.cell_list.now nodes.old cells.old nodes.new cells.new }
 {
@@ -28,13 +24,7 @@ pub fn copy_records(
 }
 
 // What is answered of an accepted member, for lent areas of some lengths.
-fn fitting(
-    x: Accepted,
-    dimension: u32,
-    leaf: u32,
-    node_room: usize,
-    cell_room: usize,
-) -> LeafTotal
+fn fitting(x: Accepted, dimension: u32, leaf: u32, node_room: usize, cell_room: usize) -> LeafTotal
     ensures { result ≡ spec.fitting x.entry.member.now x.entry.answer.now x.entry.cell_list.now dimension leaf node_room cell_room }
 {
     let a = x.answer;

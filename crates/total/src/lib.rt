@@ -86,6 +86,10 @@ pub fn totals(
         &mut |node_list, cell_list|
             requires { LongEnough member.now 0 (length node_list.old) (length cell_list.old) }
             ensures { AllTotalled member.entry.now totals.entry.now nodes.entry.now cells.entry.now dimension result totals.exit.now nodes.exit.now cells.exit.now }
-        { all_into_lists(member, dimension, node_list, cell_list, totals, nodes, cells) },
+        {
+            all_into_lists(
+                member, dimension, node_list, cell_list, totals, nodes, cells,
+            )
+        },
     )
 }
