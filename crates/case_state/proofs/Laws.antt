@@ -1,5 +1,4 @@
 -- The laws of the state and of its test.
 pub mod Counting
-pub mod Phases
 pub mod Tests
 pub mod Valid

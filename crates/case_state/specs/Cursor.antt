@@ -5,38 +5,35 @@ use Rattle.sizes.specs.Basics.{le, undigit, pick}
 use Rattle.case_stream.specs.Stream.{limit, block_code, Stop, ended, bad, full}
 use Rattle.case_stream.specs.Machine.{State, gather, acting, stopped}
 use Rattle.case_state.specs.declared.Cursor.{Cursor}
-use Rattle.case_state.specs.declared.phases.Phase.{Phase}
-use Rattle.case_state.specs.declared.phases.Phase.TheVariants.{Gathers, Acts, Ended, BadCode, TooMany}
-use Rattle.case_state.specs.Phases.{number}
 
 -- ---- 1. a machine's state in numbers
 
--- whatever is not in use is 0
+-- `phase` is 0 where a group's codes are gathered, 1 where they act; where reading has stopped it is 252, or the refusal's number
 abbrev pub gather_at : ℕ → ℕ → ℕ → ℕ → Cursor
-gather_at at n l x = record { at = at; taken = n; phase = Gathers; place = 0; codes = x; left = l; block = 0; filled = 0 }
+gather_at at n l x = record { at = at; taken = n; phase = 0; place = 0; codes = x; left = l; block = 0; filled = 0 }
 
 abbrev pub act_at : ℕ → ℕ → ℕ → ℕ → ℕ → ℕ → ℕ → Cursor
-act_at at n p x l k m = record { at = at; taken = n; phase = Acts; place = p; codes = x; left = l; block = k; filled = m }
+act_at at n p x l k m = record { at = at; taken = n; phase = 1; place = p; codes = x; left = l; block = k; filled = m }
 
-abbrev pub rest_at : ℕ → ℕ → Phase → ℕ → Cursor
+abbrev pub rest_at : ℕ → ℕ → ℕ → ℕ → Cursor
 rest_at at n w p = record { at = at; taken = n; phase = w; place = p; codes = 0; left = 0; block = 0; filled = 0 }
 
 -- codes and the bytes of a block are numbers, the first of them the lowest byte; what is not in use is 0
 unfoldable pub numbers : State → Cursor
 numbers (gather at n g) = gather_at at n (length g) (undigit g)
 numbers (acting at n p c cs k) = act_at at n p (undigit (c ∷ cs)) (1 + length cs) (undigit k) (length k)
-numbers (stopped at n ended) = rest_at at n Ended 0
-numbers (stopped at n (bad p)) = rest_at at n BadCode p
-numbers (stopped at n full) = rest_at at n TooMany 0
+numbers (stopped at n ended) = rest_at at n 252 0
+numbers (stopped at n (bad p)) = rest_at at n 22 p
+numbers (stopped at n full) = rest_at at n 7 0
 
 -- and the state that numbers stand for
 unfoldable pub stop_of : ℕ → ℕ → Stop
 stop_of w p = pick (eqb w 252) ended (pick (eqb w 22) (bad p) full)
 
 unfoldable pub view : Cursor → State
-view c = pick (eqb (number c.phase) 0) (gather c.at c.taken (le c.left c.codes))
-    (pick (eqb (number c.phase) 1) (acting c.at c.taken c.place (c.codes % 256) (le (c.left - 1) (c.codes / 256)) (le c.filled c.block))
-    (stopped c.at c.taken (stop_of (number c.phase) c.place)))
+view c = pick (eqb c.phase 0) (gather c.at c.taken (le c.left c.codes))
+    (pick (eqb c.phase 1) (acting c.at c.taken c.place (c.codes % 256) (le (c.left - 1) (c.codes / 256)) (le c.filled c.block))
+    (stopped c.at c.taken (stop_of c.phase c.place)))
 
 -- ---- 2. which numbers are a state
 
@@ -58,7 +55,7 @@ pub data StoppedBy (count at n : ℕ) : ℕ → ℕ → Type 0 where
   by_7 : n ≡ limit → StoppedBy count at n 7 0
 
 abbrev pub Stopped : ℕ → Cursor → Type 0
-Stopped count c = StoppedBy count c.at c.taken (number c.phase) c.place
+Stopped count c = StoppedBy count c.at c.taken c.phase c.place
 
 -- The numbers of a state, `count` being the number of kinds, that fit together, with nothing stale in it.
 pub record Good (count : ℕ) (c : Cursor) : Type 0 where
@@ -66,7 +63,7 @@ pub record Good (count : ℕ) (c : Cursor) : Type 0 where
   pub codes_in : c.codes < 256 ^ c.left
   pub block_in : c.block < 256 ^ c.filled
   -- a group begins at a multiple of 8, and has at most one element for each byte before it
-  pub gathers : number c.phase ≡ 0 → (c.left ≡ c.taken % 8) × (c.at ≤ c.taken - c.left) × (c.place ≡ 0) × (c.filled ≡ 0)
+  pub gathers : c.phase ≡ 0 → (c.left ≡ c.taken % 8) × (c.at ≤ c.taken - c.left) × (c.place ≡ 0) × (c.filled ≡ 0)
   -- the codes left are those from the place on; a block is begun at a 253 alone
-  pub acts : number c.phase ≡ 1 → (c.left ≡ 8 - c.place % 8) × (c.filled ≡ c.taken % 8) × (0 < c.filled → c.codes % 256 ≡ block_code) × Counts count c.at c.place c.taken
-  pub rests : (number c.phase ≡ 0 → ⊥) → (number c.phase ≡ 1 → ⊥) → (c.left ≡ 0) × (c.filled ≡ 0) × Stopped count c
+  pub acts : c.phase ≡ 1 → (c.left ≡ 8 - c.place % 8) × (c.filled ≡ c.taken % 8) × (0 < c.filled → c.codes % 256 ≡ block_code) × Counts count c.at c.place c.taken
+  pub rests : (c.phase ≡ 0 → ⊥) → (c.phase ≡ 1 → ⊥) → (c.left ≡ 0) × (c.filled ≡ 0) × Stopped count c

@@ -4,7 +4,6 @@ use Rattle.sizes.specs.Basics.{pick}
 use Rattle.case_stream.specs.Stream.{limit, block_code, most_kinds, most_bias, string_kind}
 use Rattle.case_state.specs.declared.Cursor.{Cursor}
 use Rattle.case_state.specs.declared.State.{State}
-use Rattle.case_state.specs.Phases.{number}
 
 abbrev pub nothing_held : Cursor → Bool
 nothing_held c = pick (eqb c.left 0) (pick (eqb c.codes 0) (pick (eqb c.filled 0) (eqb c.block 0) false) false) false
@@ -39,13 +38,13 @@ unfoldable pub full_ok : Cursor → Bool
 full_ok c = pick (eqb c.place 0) (eqb c.taken limit) false
 
 unfoldable pub stop_ok : ℕ → Cursor → Bool
-stop_ok count c = pick (eqb (number c.phase) 22) (bad_ok count c) (pick (eqb (number c.phase) 252) (ended_ok c) (pick (eqb (number c.phase) 7) (full_ok c) false))
+stop_ok count c = pick (eqb c.phase 22) (bad_ok count c) (pick (eqb c.phase 252) (ended_ok c) (pick (eqb c.phase 7) (full_ok c) false))
 
 unfoldable pub resting_ok : ℕ → Cursor → Bool
 resting_ok count c = pick (nothing_held c) (stop_ok count c) false
 
 unfoldable pub cursor_ok : ℕ → Cursor → Bool
-cursor_ok count c = pick (ltb c.at count) (pick (eqb (number c.phase) 0) (gather_ok c) (pick (eqb (number c.phase) 1) (acting_ok count c) (resting_ok count c))) false
+cursor_ok count c = pick (ltb c.at count) (pick (eqb c.phase 0) (gather_ok c) (pick (eqb c.phase 1) (acting_ok count c) (resting_ok count c))) false
 
 -- the first n kinds are numeric or string
 unfoldable pub kinds_ok : ℕ → List ℕ → Bool

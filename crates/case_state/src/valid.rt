@@ -8,7 +8,10 @@ ghost use Rattle.case_stream.specs.Stream.{string_kind};
 ghost use Rattle.case_state.specs.Tests as spec;
 
 use crate::powers::power;
-use crate::{BLOCK, Cursor, LIMIT, MOST_BIAS, MOST_KINDS, Phase, STRING, State};
+use crate::{
+    ACTS, BAD_CODE, BLOCK, Cursor, ENDED, GATHERS, LIMIT, MOST_BIAS, MOST_KINDS, STRING, State,
+    TOO_MANY,
+};
 
 // Whether x has at most n bytes.
 fn below(x: u64, n: usize) -> bool
@@ -98,12 +101,12 @@ fn cursor_ok(count: usize, c: Cursor) -> bool
 {
     c.at < count
         && match c.phase {
-            Phase::Gathers => gather_ok(c),
-            Phase::Acts => acting_ok(count, c),
-            Phase::Ended => nothing_held(c) && ended_ok(c),
-            Phase::BadCode => nothing_held(c) && bad_ok(count, c),
-            Phase::TooMany => nothing_held(c) && full_ok(c),
-            Phase::Unknown => false,
+            GATHERS => gather_ok(c),
+            ACTS => acting_ok(count, c),
+            ENDED => nothing_held(c) && ended_ok(c),
+            BAD_CODE => nothing_held(c) && bad_ok(count, c),
+            TOO_MANY => nothing_held(c) && full_ok(c),
+            _ => false,
         }
 }
 

@@ -12,7 +12,6 @@ use Rattle.refusals.specs.declared.Refusal.{Refusal}
 use Rattle.refusals.specs.declared.Reason.{Reason}
 use Rattle.refusals.specs.declared.Reason.TheVariants.{Limit, CaseState, CaseCode, CaseEnd}
 use Rattle.cases.specs.declared.Call.{Call}
-use Rattle.case_state.specs.Phases.{number}
 use Rattle.case_state.specs.Cursor.{gather_at, numbers, view}
 use Rattle.case_state.specs.Tests.{kinds_ok, state_ok}
 use Rattle.cases.specs.Steps.{joined, firsts}
@@ -142,7 +141,7 @@ unfoldable pub unfinished_at : ℕ → ℕ → ℕ → ℕ → Answer
 unfinished_at phase left at n = pick (eqb phase 0) (pick (eqb left 0) (pick (eqb at 0) well (Err (too_soon n))) (Err (too_soon n))) (Err (too_soon n))
 
 unfoldable pub end_where : Cursor → Answer
-end_where c = pick (eqb (number c.phase) 252) well
-    (pick (eqb (number c.phase) 22) (refusal_at (number c.phase) c.place)
-    (pick (eqb (number c.phase) 7) (refusal_at (number c.phase) c.place)
-    (unfinished_at (number c.phase) c.left c.at c.taken)))
+end_where c = pick (eqb c.phase 252) well
+    (pick (eqb c.phase 22) (refusal_at c.phase c.place)
+    (pick (eqb c.phase 7) (refusal_at c.phase c.place)
+    (unfinished_at c.phase c.left c.at c.taken)))

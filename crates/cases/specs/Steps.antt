@@ -6,7 +6,6 @@ use Rattle.case_stream.specs.Stream.{Element, limit}
 use Rattle.case_stream.specs.Machine.{fits, less, Step, halts, goes, moves, out, put, feed}
 use Rattle.case_stream.specs.Laws.Steps.{μ}
 use Rattle.case_state.specs.declared.Cursor.{Cursor}
-use Rattle.case_state.specs.declared.phases.Phase.{Phase}
 use Rattle.cases.specs.declared.steps.Moved.{Moved}
 use Rattle.case_state.specs.Cursor.{gather_at, act_at, rest_at, view, Good}
 
@@ -24,7 +23,7 @@ passed c at n = pick (ltb 1 c.left) (act_at at n (c.place + 1) (c.codes / 256) (
 abbrev pub block_byte : Cursor → ℕ → Cursor
 block_byte c b = act_at c.at (c.taken + 1) c.place c.codes c.left (c.block + b * 256 ^ c.filled) (c.filled + 1)
 
-abbrev pub stop_at : Cursor → Phase → ℕ → Cursor
+abbrev pub stop_at : Cursor → ℕ → ℕ → Cursor
 stop_at c phase place = rest_at c.at c.taken phase place
 
 -- ---- 2. a step

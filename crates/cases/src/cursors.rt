@@ -5,7 +5,7 @@ ghost use Rattle.case_state.specs.Cursor as numbers;
 ghost use Rattle.cases.specs.Steps as spec;
 
 use case_state::powers::power;
-use case_state::{Cursor, Phase};
+use case_state::{ACTS, Cursor, GATHERS};
 
 // Codes that act next, the first of them at this place.
 pub fn acting(at: usize, n: u32, place: u32, codes: u64, left: usize) -> Cursor
@@ -14,7 +14,7 @@ pub fn acting(at: usize, n: u32, place: u32, codes: u64, left: usize) -> Cursor
     Cursor {
         at,
         taken: n,
-        phase: Phase::Acts,
+        phase: ACTS,
         place,
         codes,
         left,
@@ -30,7 +30,7 @@ pub fn gathering(at: usize, n: u32, codes: u64, left: usize) -> Cursor
     Cursor {
         at,
         taken: n,
-        phase: Phase::Gathers,
+        phase: GATHERS,
         place: 0,
         codes,
         left,
@@ -74,7 +74,7 @@ pub fn blocked(c: Cursor, block: u64) -> Cursor
     Cursor {
         at: c.at,
         taken: c.taken + 1,
-        phase: Phase::Acts,
+        phase: ACTS,
         place: c.place,
         codes: c.codes,
         left: c.left,
@@ -84,7 +84,7 @@ pub fn blocked(c: Cursor, block: u64) -> Cursor
 }
 
 // Reading stops for good.
-pub fn stopped(c: Cursor, phase: Phase, place: u32) -> Cursor
+pub fn stopped(c: Cursor, phase: u32, place: u32) -> Cursor
     ensures { result ≡ spec.stop_at c phase place }
 {
     Cursor {

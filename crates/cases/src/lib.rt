@@ -10,13 +10,12 @@ mod steps; // one step of a call
 
 ghost use Rattle.std.specs.Prelude.{◌≡◌, length, ◌≤◌};
 ghost use Rattle.case_stream.specs.Stream.{limit};
-ghost use Rattle.case_state.specs.Phases.{number};
 ghost use Rattle.cases.specs.Answers as spec;
 
 use crate::calls::run;
 use crate::cursors::gathering;
 use case_state::valid::{kinds_ok, state_ok};
-use case_state::{Cursor, LIMIT, MOST_BIAS, MOST_KINDS, Phase, State};
+use case_state::{BAD_CODE, Cursor, ENDED, GATHERS, LIMIT, MOST_BIAS, MOST_KINDS, State, TOO_MANY};
 use refusals::{Reason, Refusal};
 
 // Nothing, or a refusal.
@@ -76,12 +75,12 @@ pub fn start(kinds: &[u8], bias: u32) -> Result<State, Refusal>
 // The refusal for ever after, of a state that has one.
 #[tactic(auto, unfolding(sizes::specs::Basics::pick, crate::specs::Answers::refusal_at))]
 fn refusal_of(c: Cursor) -> Answer
-    ensures is { result ≡ spec.refusal_at (number c.phase) c.place }
+    ensures is { result ≡ spec.refusal_at c.phase c.place }
     ensures placed { spec.Placed result }
 {
     match c.phase {
-        Phase::BadCode => Err(refused(Reason::CaseCode, c.place)),
-        Phase::TooMany => Err(refused(Reason::Limit, LIMIT)),
+        BAD_CODE => Err(refused(Reason::CaseCode, c.place)),
+        TOO_MANY => Err(refused(Reason::Limit, LIMIT)),
         _ => Ok(()),
     }
 }
@@ -120,9 +119,9 @@ fn end_of(c: Cursor) -> Answer
     ensures placed { spec.Placed result }
 {
     match c.phase {
-        Phase::Ended => Ok(()),
-        Phase::BadCode | Phase::TooMany => refusal_of(c),
-        Phase::Gathers if c.left == 0 && c.at == 0 => Ok(()),
+        ENDED => Ok(()),
+        BAD_CODE | TOO_MANY => refusal_of(c),
+        GATHERS if c.left == 0 && c.at == 0 => Ok(()),
         _ => Err(refused(Reason::CaseEnd, c.taken)),
     }
 }

@@ -1,7 +1,6 @@
 // One step of a call with room: a byte is taken, or a code acts. Where eight bytes of a group or a block are there, they are taken at once.
 ghost use Rattle.std.specs.Prelude.{◌≡◌, true, false, ◌%◌, eqb, drop, Option, IfSome, MatchOption};
 ghost use Rattle.case_stream.specs.Stream as stream;
-ghost use Rattle.case_state.specs.Phases.{number};
 ghost use Rattle.case_state.specs.Cursor.{Good};
 ghost use Rattle.cases.specs.Steps as spec;
 
@@ -9,7 +8,7 @@ use crate::bytes::eight_bytes;
 use crate::cursors::{acting, blocked, following, gathered, passed, stopped};
 use case_codes::{Verdict, judge};
 use case_state::powers::power;
-use case_state::{Cursor, LIMIT, Phase};
+use case_state::{ACTS, BAD_CODE, Cursor, ENDED, GATHERS, LIMIT, TOO_MANY};
 use layout::number::left;
 
 // A step, or eight at once: the state after it, how many bytes it takes, and the element that it writes.
@@ -44,23 +43,23 @@ fn writing(cursor: Cursor, takes: usize, element: u64) -> Option<Moved>
 
 // A byte of a group, or the byte too many.
 fn code_byte(kind: u8, count: usize, bias: u8, c: Cursor, b: u8) -> Option<Moved>
-    requires { (number c.phase ≡ 0) × Good count c }
+    requires { (c.phase ≡ 0) × Good count c }
     ensures { spec.Advances kind count bias c true b result }
 {
     if c.taken < LIMIT {
         silent(gathered(c, b), 1)
     } else {
-        silent(stopped(c, Phase::TooMany, 0), 0)
+        silent(stopped(c, TOO_MANY, 0), 0)
     }
 }
 
 // A byte of a block, the last of which writes it, or the byte too many.
 fn block_byte(kind: u8, count: usize, bias: u8, c: Cursor, b: u8) -> Option<Moved>
-    requires { (number c.phase ≡ 1) × Good count c × (stream.says kind bias (c.codes % 256) ≡ stream.block) }
+    requires { (c.phase ≡ 1) × Good count c × (stream.says kind bias (c.codes % 256) ≡ stream.block) }
     ensures { spec.Advances kind count bias c true b result }
 {
     if c.taken == LIMIT {
-        return silent(stopped(c, Phase::TooMany, 0), 0);
+        return silent(stopped(c, TOO_MANY, 0), 0);
     }
     let block = c.block + (b as u64) * power(c.filled);
     if c.filled < 7 {
@@ -80,7 +79,7 @@ fn whole(c: Cursor, held: usize, rest: usize) -> bool
 
 // The bytes of a group: eight at once, the same as eight steps, or one.
 fn take_codes(kind: u8, count: usize, bias: u8, c: Cursor, input: &[u8], i: usize) -> Option<Moved>
-    requires { (number c.phase ≡ 0) × Good count c }
+    requires { (c.phase ≡ 0) × Good count c }
     ensures { spec.Strides kind count bias c (drop i input.now) result }
 {
     if whole(c, c.left, left(input, i)) {
@@ -95,7 +94,7 @@ fn take_codes(kind: u8, count: usize, bias: u8, c: Cursor, input: &[u8], i: usiz
 
 // The bytes of the next code's block: eight at once, the same as eight steps, or one.
 fn take_block(kind: u8, count: usize, bias: u8, c: Cursor, input: &[u8], i: usize) -> Option<Moved>
-    requires { (number c.phase ≡ 1) × Good count c × (stream.says kind bias (c.codes % 256) ≡ stream.block) }
+    requires { (c.phase ≡ 1) × Good count c × (stream.says kind bias (c.codes % 256) ≡ stream.block) }
     ensures { spec.Strides kind count bias c (drop i input.now) result }
 {
     if whole(c, c.filled, left(input, i)) {
@@ -110,13 +109,13 @@ fn take_block(kind: u8, count: usize, bias: u8, c: Cursor, input: &[u8], i: usiz
 
 // The next code acts, or takes bytes of its block.
 fn act(kind: u8, count: usize, bias: u8, c: Cursor, input: &[u8], i: usize) -> Option<Moved>
-    requires { (number c.phase ≡ 1) × Good count c }
+    requires { (c.phase ≡ 1) × Good count c }
     ensures { spec.Strides kind count bias c (drop i input.now) result }
 {
     match judge(kind, bias, (c.codes % 256) as u8) {
         Verdict::Skip => silent(passed(c, c.at, c.taken), 0),
-        Verdict::Finish => silent(stopped(c, Phase::Ended, 0), 0),
-        Verdict::Wrong => silent(stopped(c, Phase::BadCode, c.place), 0),
+        Verdict::Finish => silent(stopped(c, ENDED, 0), 0),
+        Verdict::Wrong => silent(stopped(c, BAD_CODE, c.place), 0),
         Verdict::Gives(x) => writing(passed(c, following(c.at, count), c.taken), 0, x),
         Verdict::Block => take_block(kind, count, bias, c, input, i),
     }
@@ -129,8 +128,8 @@ pub fn stride(kind: u8, count: usize, bias: u8, c: Cursor, input: &[u8], i: usiz
     ensures { spec.Strides kind count bias c (drop i input.now) result }
 {
     match c.phase {
-        Phase::Gathers => take_codes(kind, count, bias, c, input, i),
-        Phase::Acts => act(kind, count, bias, c, input, i),
+        GATHERS => take_codes(kind, count, bias, c, input, i),
+        ACTS => act(kind, count, bias, c, input, i),
         _ => None,
     }
 }
@@ -140,9 +139,9 @@ pub fn give(kind: u8, count: usize, bias: u8, c: Cursor) -> Option<(Cursor, u64)
     requires { Good count c }
     ensures { IfSome result (λ given. spec.Given kind count bias c given.0 given.1) }
 {
-    let Phase::Acts = c.phase else {
+    if c.phase != ACTS {
         return None;
-    };
+    }
     match judge(kind, bias, (c.codes % 256) as u8) {
         Verdict::Gives(x) => Some((passed(c, following(c.at, count), c.taken), x)),
         _ => None,

@@ -4,7 +4,6 @@
 use Rattle.std.specs.Prelude.{List, [], ◌∷◌, ◌++◌, ℕ, ◌+◌, ◌*◌, ◌/◌, ◌%◌, ◌^◌, min, drop, get_or}
 use Rattle.layout.specs.Words.{word32}
 use Rattle.case_state.specs.declared.Cursor.{Cursor}
-use Rattle.case_state.specs.Phases.{number, phase_of}
 use Rattle.case_state.specs.declared.State.{State}
 use Rattle.cases.specs.Steps.{firsts}
 
@@ -16,7 +15,7 @@ abbrev pub first_kind : ℕ
 first_kind = 12
 
 unfoldable pub head_words : ℕ → ℕ → Cursor → List ℕ
-head_words count bias c = word32 count ∷ bias ∷ word32 c.at ∷ c.taken ∷ number c.phase ∷ c.place ∷ c.codes % 2 ^ 32 ∷ c.codes / 2 ^ 32
+head_words count bias c = word32 count ∷ bias ∷ word32 c.at ∷ c.taken ∷ c.phase ∷ c.place ∷ c.codes % 2 ^ 32 ∷ c.codes / 2 ^ 32
     ∷ word32 c.left ∷ c.block % 2 ^ 32 ∷ c.block / 2 ^ 32 ∷ word32 c.filled ∷ []
 
 unfoldable pub state_words_of : State → List ℕ
@@ -38,7 +37,7 @@ unfoldable pub cursor_of : List ℕ → Cursor
 cursor_of ws = record {
   at = get_or ws 2 0;
   taken = get_or ws 3 0;
-  phase = phase_of (get_or ws 4 0);
+  phase = get_or ws 4 0;
   place = get_or ws 5 0;
   codes = joint (get_or ws 6 0) (get_or ws 7 0);
   left = get_or ws 8 0;

@@ -5,7 +5,7 @@ ghost use Rattle.store.specs.Puts.{PutsWords};
 ghost use Rattle.cases.specs.Steps.{firsts};
 ghost use Rattle.cases_words.specs.StateWords as spec;
 
-use case_state::{Cursor, Phase, State};
+use case_state::{Cursor, State};
 use layout::Step;
 use store::words::put;
 
@@ -57,7 +57,7 @@ fn cursor_of(words: &[u32]) -> Cursor
     Cursor {
         at: word(words, 2) as usize,
         taken: word(words, 3),
-        phase: Phase::from(word(words, 4)),
+        phase: word(words, 4),
         place: word(words, 5),
         codes: joint(word(words, 6), word(words, 7)),
         left: word(words, 8) as usize,
@@ -103,7 +103,7 @@ fn put_state(out: &mut [u32], s: State) -> Step
             s.bias,
             low(c.at),
             c.taken,
-            c.phase.number(),
+            c.phase,
             c.place,
             (c.codes % 4294967296) as u32,
             (c.codes / 4294967296) as u32,

@@ -140,13 +140,14 @@ impl Way for ToUtf8 {
     // overwritten, and there is no branch to miss.
     fn store_one(&self, input: &[u8], i: usize, out: &mut [u8], w: usize) -> Taken {
         let b = input[i];
-        let e = self.entry((b % ASCII) as usize);
+        let n = b as usize; // once, for both uses
+        let e = self.entry(n % 128);
         if e < 2048 && i + 1 < input.len() {
             out[w] = first_of(b, e);
             out[w + 1] = (128 + e % 64) as u8;
             return Taken {
                 taken: 1,
-                made: 1 + (b / 128) as usize,
+                made: 1 + n / 128,
             };
         }
         let c = self.code_point(b).unwrap();

@@ -129,10 +129,14 @@ fn write<W: Way>(way: &W, each: bool, input: &[u8], start: usize, out: &mut [u8]
         w += s.made;
         long = s.taken == BLOCK;
     }
-    while i < input.len() {
+    // a byte follows each of these, so that `store_one` need not ask
+    while i + 1 < input.len() {
         let s = way.store_one(input, i, out, w);
         i += s.taken;
         w += s.made;
+    }
+    if i < input.len() {
+        way.store_one(input, i, out, w);
     }
 }
 

@@ -107,11 +107,18 @@ impl FromUtf8 {
         m
     }
 
-    // Whether a character of two bytes stands at a place, and in the page.
+    // Whether a character of two bytes stands at a place, and in the page. (Both bytes are read before either is tested, with one test
+    // of the length.)
     fn two_at(&self, input: &[u8], j: usize) -> bool
+        requires { j ≤ length input.now }
         ensures { result ≡ true → Skips (from (index self.now.page)) input.now j 2 1 }
     {
-        j < input.len() && input[j] / 32 == 6 && self.character(input, j).is_some()
+        if input.len() - j < 2 {
+            return false;
+        }
+        let a = input[j];
+        let b = input[j + 1];
+        a / 32 == 6 && self.two(a, b).is_some()
     }
 
     // The byte of a character that is known to have one: nothing is tested again.

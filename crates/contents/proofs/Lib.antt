@@ -1,1 +1,4 @@
+mod Unread
+mod Values
+mod Figures
 pub mod Laws

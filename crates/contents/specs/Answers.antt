@@ -1,5 +1,7 @@
 -- What is answered for any bytes: what the Value, or the Argument, in front of them says; or the refusal that they get.
-use Rattle.std.specs.Prelude.{◌≡◌, false, List, ℕ, length, leb}
+use Rattle.std.specs.Prelude.{◌≡◌, false, List, ℕ, Result, Ok, Err, length, leb}
+use Rattle.refusals.specs.declared.Refusal.{Refusal}
+use Rattle.refusals.specs.Numbers.{number}
 use Rattle.sizes.specs.Sizes.{member_bytes, below_value}
 use Rattle.sizes.specs.Basics.{among, pick}
 use Rattle.grammar.specs.Layout.{a_version, Layout, Tree}
@@ -7,8 +9,10 @@ use Rattle.grammar.specs.Numbers.{refusal}
 use Rattle.grammar.specs.Fails.{Spells, Fails}
 use Rattle.grammar.specs.Sections.{versions}
 use Rattle.grammar.specs.Value.{CellValue, Argument}
-use Rattle.contents.specs.declared.Contents.{Contents}
-use Rattle.contents.specs.declared.Argument.{Argument as ArgumentContents}
+use Rattle.contents.specs.declared.Contents as value_said
+use Rattle.contents.specs.declared.Argument as argument_said
+use Rattle.contents.specs.Said.{Contents}
+use Rattle.contents.specs.Said.{Argument as ArgumentContents}
 unfoldable pub use Rattle.contents.specs.Contents.{none, raw, contents, argument_of, argument_contents}
 
 -- the refusal of bytes that are not read, 0 for none: 1 for more than a member has, 4 for a version that is neither 1 nor 3, both at 0 (our rule)
@@ -38,3 +42,21 @@ ValueAnswers version s x = Answers version (CellValue version) (contents version
 -- an Argument of the outermost Value; those inside are read so too (`Nested`)
 abbrev pub ArgumentAnswers : ℕ → List ℕ → ArgumentContents → Type 0
 ArgumentAnswers version s x = Answers version (Argument version below_value) (argument_contents version) refused_argument_answer s x
+
+-- ---- the same of what code has
+
+-- whether the bytes are read: if not, they are refused at 0
+abbrev pub Readable : ℕ → List ℕ → Result Unit Refusal → Type 0
+Readable version s (Ok x) = unread version s ≡ 0
+Readable version s (Err e) = (unread version s ≡ number e.reason) × (e.place ≡ 0)
+
+abbrev pub contents_of : Result value_said.Contents Refusal → Contents
+contents_of (Ok x) = record { refusal = 0; place = 0; length = x.length; zeros = x.zeros; raw = x.raw }
+contents_of (Err e) = refused (number e.reason) e.place
+
+abbrev pub argument_with : argument_said.Argument → ArgumentContents
+argument_with x = record { refusal = 0; place = 0; length = x.length; values = x.values; first = x.first }
+
+abbrev pub argument_answered : Result argument_said.Argument Refusal → ArgumentContents
+argument_answered (Ok x) = argument_with x
+argument_answered (Err e) = refused_argument_answer (number e.reason) e.place

@@ -1,9 +1,12 @@
 -- What a Value says (source document 003, "Value"): which form it has, each number by value, each string by the place and length of its bytes.
-use Rattle.std.specs.Prelude.{Bool, true, List, [], ◌∷◌, ℕ, ◌+◌, eqb}
+use Rattle.std.specs.Prelude.{◌≡◌, Bool, true, List, [], ◌∷◌, ℕ, ◌+◌, eqb}
 use Rattle.std.proofs.Math.Bool.{false}
 use Rattle.sizes.specs.Sizes.{below_value}
 use Rattle.layout.specs.Step.{Step}
-use Rattle.std.specs.Prelude.{Ok, Err}
+use Rattle.std.specs.Prelude.{Result, Ok, Err}
+use Rattle.refusals.specs.declared.Refusal.{Refusal}
+use Rattle.refusals.specs.Numbers.{number, by_number}
+use Rattle.layout.specs.Reads.{field}
 use Rattle.sizes.specs.Basics.{pick}
 use Rattle.grammar.specs.Layout.{Layout, ◌▸◌, Tree, size}
 use Rattle.grammar.specs.Conventions.{choose}
@@ -11,8 +14,8 @@ use Rattle.store.specs.declared.Name.{Name}
 use Rattle.store.specs.Fields.{Text, lent, letters, Fields, placed}
 use Rattle.grammar.specs.Value.{Modifiers, ArgumentOf, TemplateOf, Form01, Form02, Form03, Form04, Form05, Form06, RawValueOf, ValueIn, CellValue, Argument}
 use Rattle.contents.specs.declared.RawValue.{RawValue}
-use Rattle.contents.specs.declared.Contents.{Contents}
-use Rattle.contents.specs.declared.Argument.{Argument as ArgumentContents}
+use Rattle.contents.specs.Said.{Contents}
+use Rattle.contents.specs.Said.{Argument as ArgumentContents}
 
 -- ---- fields
 
@@ -50,6 +53,11 @@ template_form = 7
 abbrev pub position_of : Step → ℕ
 position_of (Ok at) = at
 position_of (Err (r, p)) = 0
+
+-- past a byte that is refused by n, which no form begins with
+abbrev pub NoForm : ℕ → List ℕ → Result ℕ Refusal → Result (RawValue × ℕ) Refusal → Type 0
+NoForm n s st (Ok (x, p)) = ◌≡◌ {A = Step} (Ok p) (field 1 n s (by_number st))
+NoForm n s st (Err e) = ◌≡◌ {A = Step} (Err (number e.reason, e.place)) (field 1 n s (by_number st))
 
 -- what is said of the fields of a tree, at its place
 abbrev pub said : (g : Layout) → (Fields g → RawValue) → Tree g → ℕ → RawValue

@@ -7,7 +7,7 @@ use Rattle.grammar.specs.Laws.Layout.Read.{read, bind, read_number, read_counted
 use Rattle.store.specs.declared.Name.{Name}
 use Rattle.store.specs.Fields.{placed, placed_all, placed_in}
 use Rattle.grammar.specs.Value as grammar
-use Rattle.contents.specs.declared.Contents.{Contents}
+use Rattle.contents.specs.Said.{Contents}
 use Rattle.contents.specs.declared.RawValue.{RawValue}
 use Rattle.contents.specs.Contents.{none, raw, contents, chosen, either, raw_says, template_form, says_01, says_02, says_03, says_04, says_05, says_06, says_31, says_58, argument_of, argument_contents}
 use Rattle.contents.specs.Answers.{unread, refused}

@@ -1,3 +1,4 @@
+pub mod Said
 pub mod Contents
 pub mod Number
 pub mod Answers

@@ -24,7 +24,7 @@ use Rattle.grammar.specs.Member.{version, node_records, dimension_entries, cell_
 use Rattle.grammar.specs.Laws.Member.RecordsSpelt.{dimensions_point, values_point, part_of_lem}
 use Rattle.grammar.proofs.Laws.Member.RecordsSpelt.{nodes_point}
 use Rattle.grammar.specs.Laws.Member.ValidValues.{nodes_valid, dimensions_valid, cells_valid}
-use Rattle.contents.specs.declared.Contents.{Contents}
+use Rattle.contents.specs.Said.{Contents}
 use Rattle.contents.specs.Contents.{contents}
 use Rattle.contents.specs.Answers.{unread, ValueAnswers}
 

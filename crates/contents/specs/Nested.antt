@@ -11,8 +11,8 @@ use Rattle.grammar.specs.Laws.Layout.{digits_length}
 use Rattle.grammar.specs.Laws.Layout.Spelt as spelt
 use Rattle.store.specs.Fields.{placed}
 use Rattle.grammar.specs.Value.{ArgumentOf, TemplateOf, Argument, ValueIn, Value, CellValue}
-use Rattle.contents.specs.declared.Contents.{Contents}
-use Rattle.contents.specs.declared.Argument.{Argument as ArgumentContents}
+use Rattle.contents.specs.Said.{Contents}
+use Rattle.contents.specs.Said.{Argument as ArgumentContents}
 use Rattle.contents.specs.Contents.{contents, argument_contents, says_58}
 use Rattle.contents.specs.Answers.{unread, ValueAnswers, ArgumentAnswers}
 use Rattle.contents.specs.Laws.Wider.{widen, spell_widen, valid_widen, argument_wider, value_wider}

@@ -5,41 +5,50 @@ ghost use Rattle.contents.specs.Laws.Figure as spec;
 
 use crate::forms::{form_01, form_02};
 use crate::plain::{is_plain, plain_bits};
-use crate::readable;
+use crate::{RawValue, readable};
+use fields::Read;
 use layout::LITTLE;
 use layout::number::{any, peek};
 use layout::run::skip;
 use value::cell_zeros;
 
-// The form, 1 or 2, and the bits of the double.
+// The form, 1 or 2, by its number as in `RawValue`, and the bits of the double.
 #[derive(Clone, Copy)]
 pub struct Figure {
     pub form: u32,
     pub bits: u64,
 }
 
-// The figure of a Value, by the first byte after its bytes 00; none for any other, and for one that is refused.
+// The figure of a form; none after a refusal.
+fn figure_of(read: Read<RawValue>) -> Option<Figure>
+    ensures { spec.figure_or_none result ≡ spec.figure_said read }
+{
+    let Ok((x, _)) = read else {
+        return None;
+    };
+    let number = x.form == 1 || x.form == 2;
+    if number {
+        Some(Figure {
+            form: x.form,
+            bits: x.bits,
+        })
+    } else {
+        None
+    }
+}
+
+// A figure after the bytes 00 of a Value, by the first byte that follows.
 fn figure_at(s: &[u8], version: u64) -> Option<Figure>
     ensures { spec.figure_or_none result ≡ spec.figure (value_answer version s.now).raw }
 {
-    readable(s, version).ok()?;
+    if readable(s, version).is_err() {
+        return None;
+    }
     let start = skip(s, Ok(0), 0, cell_zeros(version));
     let at = any(s, start, 1);
     match peek(s, start, LITTLE, 1) {
-        1 => {
-            let (x, _) = form_01(s, at, version).ok()?;
-            Some(Figure {
-                form: 1,
-                bits: x.bits,
-            })
-        }
-        2 => {
-            let (x, _) = form_02(s, at, version).ok()?;
-            Some(Figure {
-                form: 2,
-                bits: x.bits,
-            })
-        }
+        1 => figure_of(form_01(s, at, version)),
+        2 => figure_of(form_02(s, at, version)),
         _ => None,
     }
 }

@@ -1,6 +1,7 @@
-// The fields of each form of a Value, read in the order of 003.
+// The fields of each form of a Value, read in the order of 003: each form has its own, in its own order, so each function is its line there.
 ghost use Rattle.sizes.specs.Sizes.{below_value};
 ghost use Rattle.grammar.specs.Layout.{◌▸◌};
+ghost use Rattle.refusals.specs.Numbers.{number};
 ghost use Rattle.fields.specs.Gives.{ShowsValue};
 ghost use Rattle.grammar.specs.Value as grammar;
 ghost use Rattle.contents.specs.Contents as spec;

@@ -23,7 +23,7 @@ use value::{argument, cell_zeros};
 // The fields of a Value without the bytes 00 before it; 0 for those that its form has not.
 #[derive(Clone, Copy)]
 pub struct RawValue {
-    // 1 to 6, or 7 for a template
+    // 1 to 6, or 7 for a template: a number, since C gets it (`digarumbi_value`)
     pub form: u32,
     pub format: u32,
     // the double's
@@ -63,14 +63,21 @@ pub struct Argument {
 fn readable(s: &[u8], version: u64) -> Result<(), Refusal>
     ensures { spec.Readable version s.now result }
 {
-    let reason = if MEMBER_BYTES < s.len() {
-        Reason::TooLong
-    } else if version != 1 && version != 3 {
-        Reason::Version
+    if MEMBER_BYTES < s.len() {
+        return Err(Refusal {
+            reason: Reason::TooLong,
+            place: 0,
+        });
+    }
+    let known = version == 1 || version == 3;
+    if known {
+        Ok(())
     } else {
-        return Ok(());
-    };
-    Err(Refusal { reason, place: 0 })
+        Err(Refusal {
+            reason: Reason::Version,
+            place: 0,
+        })
+    }
 }
 
 // What the Value in front of the bytes says, in a member of that version.
@@ -85,7 +92,7 @@ pub fn read_value(s: &[u8], version: u64) -> Result<Contents, Refusal>
 
 // How many values an argument has whose first number is x, and where the first of them starts.
 fn argument_of(length: usize, x: u32) -> Argument
-    ensures { spec.argument_said result ≡ spec.argument_of length x }
+    ensures { spec.argument_with result ≡ spec.argument_of length x }
 {
     let (values, first) = if x == 0 { (1, 4) } else { (x, 8) };
     Argument {

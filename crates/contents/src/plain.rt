@@ -16,10 +16,13 @@ pub const PLAIN_BYTES: usize = 14;
 pub fn is_plain(s: &[u8], version: u64) -> bool
     ensures { result ≡ spec.plain version s.now }
 {
-    PLAIN_BYTES <= s.len()
-        && readable(s, version).is_ok()
-        && peek(s, Ok(0), LITTLE, 1) == 1
-        && peek(s, Ok(1), LITTLE, 1) == 0x58
+    if s.len() < PLAIN_BYTES {
+        return false;
+    }
+    if readable(s, version).is_err() {
+        return false;
+    }
+    peek(s, Ok(0), LITTLE, 1) == 1 && peek(s, Ok(1), LITTLE, 1) == 0x58
 }
 
 // The fields of one.

@@ -4,3 +4,4 @@ pub mod Letters
 pub mod Shows
 pub mod Gives
 pub mod Failing
+pub mod Exits

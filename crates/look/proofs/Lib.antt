@@ -1,4 +1,3 @@
-mod Exits
 mod Separators
 mod Versions
 mod Answered

@@ -8,7 +8,7 @@ use Rattle.layout.specs.Reads.{ReadsTo}
 use Rattle.store.specs.Fields.{Fields}
 use Rattle.fields.specs.Gives.{GivesTo}
 use Rattle.fields.specs.Laws.Gives.{more_gives, none_gives, refused_gives}
-use Rattle.look.proofs.Exits.{stopped}
+use Rattle.fields.specs.Laws.Exits.{stopped}
 use Rattle.look.specs.declared.Separator as border
 use Rattle.look.specs.Look.{Separator}
 use Rattle.look.specs.declared.Separator.TheVariants.{NotDrawn}

@@ -129,6 +129,7 @@ pub fn area(s: &[u8], st: Step) -> Read<Area>
     Ok((Area { color, style }, end))
 }
 
+// One by one: an array would first have to be filled with areas that are no look's.
 pub fn most_areas(s: &[u8], st: Step) -> Read<MostAreas>
     ensures { GivesValue (times 7 grammar.MostAreas) values.most_areas s.now st result }
 {

@@ -6,7 +6,7 @@ use Rattle.grammar.specs.Index.{coordinate}
 use Rattle.grammar.specs.Table.{Cell}
 use Rattle.grammar.specs.Records.{cell_index, cell_value}
 use Rattle.grammar.specs.Member.{Member, version, cells, cells_start, ns}
-use Rattle.contents.specs.declared.Contents.{Contents}
+use Rattle.contents.specs.Said.{Contents}
 use Rattle.contents.specs.Contents.{contents}
 use Rattle.counts.specs.declared.Kind.{Kind}
 use Rattle.counts.specs.declared.Kind.TheVariants.{Text, Missing, Number, Bad}

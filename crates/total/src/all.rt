@@ -7,6 +7,7 @@ ghost use Rattle.total.specs.Laws.Reading.{Taken};
 ghost use Rattle.total.specs.Laws.AllCall as laws;
 
 use crate::DimensionTotals;
+use crate::accepted::Accepted;
 use crate::call::copy_records;
 use crate::rows::fill;
 use answer::Answer;
@@ -27,14 +28,16 @@ pub fn refused_all(n: u32, p: usize, nodes: u32, cells: u32, leaves: u32) -> Dim
 }
 
 // A dimension of an accepted member, for so many words of totals.
-fn dimension_answer(a: Answer, dimension: u32, room: usize) -> DimensionTotals
-    ensures { result ≡ laws.dimension_of a dimension room }
+fn dimension_answer(a: &Answer, dimension: u32, room: usize) -> DimensionTotals
+    ensures { result ≡ laws.dimension_of a.now dimension room }
 {
     if a.dims <= dimension {
         return refused_all(19, 0, 0, 0, 0);
     }
-    let dims = a.dimensions;
-    let n = word(&dims, DIMENSION_WORDS * dimension as usize + DIMENSION_N);
+    let n = word(
+        &a.dimensions,
+        DIMENSION_WORDS * dimension as usize + DIMENSION_N,
+    );
     if room < LEAF_TOTAL_WORDS * n as usize {
         return refused_all(15, 0, 0, 0, n);
     }
@@ -43,13 +46,13 @@ fn dimension_answer(a: Answer, dimension: u32, room: usize) -> DimensionTotals
 
 // What is answered of an accepted member, for lent areas of some lengths.
 fn fitting_all(
-    a: Answer,
+    a: &Answer,
     dimension: u32,
     room: usize,
     node_room: usize,
     cell_room: usize,
 ) -> DimensionTotals
-    ensures { result ≡ laws.fitting_all a dimension room node_room cell_room }
+    ensures { result ≡ laws.fitting_all a.now dimension room node_room cell_room }
 {
     if node_room < NODE_WORDS * a.nodes as usize {
         return refused_all(12, 0, a.nodes, a.cells, 0);
@@ -62,27 +65,24 @@ fn fitting_all(
 
 // The same, with the totals and the records into the lent areas where nothing is refused.
 fn accepted_all(
-    member: &[u8],
-    a: Answer,
-    node_list: &[u32],
-    cell_list: &[u32],
+    x: Accepted,
     dimension: u32,
     totals: &mut [u32],
     nodes: &mut [u32],
     cells: &mut [u32],
 ) -> DimensionTotals
-    requires { Taken member.now a node_list.now cell_list.now }
-    ensures { AllTotalled member.now totals.old nodes.old cells.old dimension result totals.new nodes.new cells.new }
+    requires { Taken x.member.now x.answer.now x.node_list.now x.cell_list.now }
+    ensures { AllTotalled x.entry.member.now totals.old nodes.old cells.old dimension result totals.new nodes.new cells.new }
 {
     let room = totals.len();
     let node_room = nodes.len();
     let cell_room = cells.len();
-    let x = fitting_all(a, dimension, room, node_room, cell_room);
-    if x.refusal == 0 {
-        fill(member, a, cell_list, dimension, x.leaves as usize, totals);
-        copy_records(a, node_list, cell_list, nodes, cells);
+    let all = fitting_all(x.answer, dimension, room, node_room, cell_room);
+    if all.refusal == 0 {
+        fill(x, dimension, all.leaves as usize, totals);
+        copy_records(x, nodes, cells);
     }
-    x
+    all
 }
 
 // Reads a member into two lists that are long enough for its records.
@@ -102,7 +102,11 @@ pub fn all_into_lists(
     if a.refusal != 0 {
         return refused_all(a.refusal, a.place, 0, 0, 0);
     }
-    accepted_all(
-        member, a, node_list, cell_list, dimension, totals, nodes, cells,
-    )
+    let x = Accepted {
+        member,
+        answer: &a,
+        node_list,
+        cell_list,
+    };
+    accepted_all(x, dimension, totals, nodes, cells)
 }

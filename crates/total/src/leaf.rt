@@ -4,9 +4,9 @@ ghost use Rattle.total.specs.Answers as spec;
 ghost use Rattle.total.specs.Laws.Leaf as words;
 
 use crate::LeafTotal;
+use crate::accepted::Accepted;
 use crate::sums::Sums;
 use crate::under::sums_under;
-use answer::Answer;
 use grid::{grid_of, is_there};
 
 pub fn refused(n: u32, p: usize, nodes: u32, cells: u32) -> LeafTotal
@@ -47,26 +47,28 @@ pub fn answered(nodes: u32, cells: u32, s: Sums) -> LeafTotal
 }
 
 // The sums under a leaf.
-fn leaf_sums(member: &[u8], a: Answer, records: &[u32], dimension: u32, leaf: u32) -> Sums
-    ensures { result ≡ words.word_sums member.now a records.now dimension leaf }
+fn leaf_sums(x: Accepted, dimension: u32, leaf: u32) -> Sums
+    ensures { result ≡ words.word_sums x.entry.member.now x.entry.answer.now x.entry.cell_list.now dimension leaf }
 {
-    let g = grid_of(member, a, dimension);
-    sums_under(member, g.version, records, g.cells, g.block, g.step, leaf)
+    let g = grid_of(x.member, x.answer, dimension);
+    sums_under(
+        x.member,
+        g.version,
+        x.cell_list,
+        g.cells,
+        g.block,
+        g.step,
+        leaf,
+    )
 }
 
 // What is answered for a leaf of an accepted member.
-pub fn leaf_answer(
-    member: &[u8],
-    a: Answer,
-    records: &[u32],
-    dimension: u32,
-    leaf: u32,
-) -> LeafTotal
-    ensures { result ≡ words.word_answer member.now a records.now dimension leaf }
+pub fn leaf_answer(x: Accepted, dimension: u32, leaf: u32) -> LeafTotal
+    ensures { result ≡ words.word_answer x.entry.member.now x.entry.answer.now x.entry.cell_list.now dimension leaf }
 {
-    let dims = a.dimensions;
-    if is_there(dims, a.dims, dimension, leaf) {
-        let s = leaf_sums(member, a, records, dimension, leaf);
+    let a = x.answer;
+    if is_there(&a.dimensions, a.dims, dimension, leaf) {
+        let s = leaf_sums(x, dimension, leaf);
         answered(a.nodes, a.cells, s)
     } else {
         refused(19, 0, 0, 0)

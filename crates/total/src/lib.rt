@@ -1,6 +1,7 @@
 // The total of the cells under a leaf (document 02, T-01).
 #![tactic(auto)]
 
+mod accepted; // a member that was accepted
 mod all; // a call for all leaves of a dimension
 pub mod answers; // the answers as words
 mod call; // a call for a leaf
@@ -20,7 +21,8 @@ use lists::with_lists;
 
 // What is answered for a leaf: the refusal, or 0, and its place; how many nodes and cells there are; the total of the numbers under the
 // leaf, how many numbers, texts and missing ones there are, the smallest number and the largest. All but the first two are 0 after a
-// refusal, the counts of nodes and cells not with 12 and 13.
+// refusal, the counts of nodes and cells not with 12 and 13. It is no Result: `Totalled` and `ByDerivation` speak of these fields, also after a
+// refusal, and C gets them as words.
 #[derive(Clone, Copy)]
 pub struct LeafTotal {
     pub refusal: u32,
@@ -35,7 +37,8 @@ pub struct LeafTotal {
     pub largest: f64,
 }
 
-// What is answered for all leaves of a dimension: the refusal, or 0, and its place; how many nodes and cells there are, and how many leaves.
+// What is answered for all leaves of a dimension: the refusal, or 0, and its place; how many nodes and cells there are, and how many leaves,
+// also with 15. It is no Result: `AllTotalled` and `AllByDerivation` speak of these fields, and C gets them as words.
 #[derive(Clone, Copy)]
 pub struct DimensionTotals {
     pub refusal: u32,
@@ -83,6 +86,10 @@ pub fn totals(
         &mut |node_list, cell_list|
             requires { LongEnough member.now 0 (length node_list.old) (length cell_list.old) }
             ensures { AllTotalled member.entry.now totals.entry.now nodes.entry.now cells.entry.now dimension result totals.exit.now nodes.exit.now cells.exit.now }
-        { all_into_lists(member, dimension, node_list, cell_list, totals, nodes, cells) },
+        {
+            all_into_lists(
+                member, dimension, node_list, cell_list, totals, nodes, cells,
+            )
+        },
     )
 }

@@ -8,11 +8,11 @@ ghost use Rattle.total.specs.Laws.Doubles.{Numbers};
 ghost use Rattle.total.specs.Laws.LeafRows as laws;
 
 use crate::LeafTotal;
+use crate::accepted::Accepted;
 use crate::leaf::answered;
 use crate::sums::{Sums, add};
 use crate::under::{coordinate, kind_at, no_sums};
 use crate::words::bits;
-use answer::Answer;
 use grid::grid_of;
 use once::word;
 use sizes::{CELL_WORDS, LEAF_TOTAL_WORDS};
@@ -177,14 +177,21 @@ fn finish(area: &mut [u32], n: usize, nodes: u32, cells: u32)
 }
 
 // What is answered for each of the n leaves of a dimension of an accepted member, a row of words for each.
-pub fn fill(member: &[u8], a: Answer, records: &[u32], dimension: u32, n: usize, area: &mut [u32])
+pub fn fill(x: Accepted, dimension: u32, n: usize, area: &mut [u32])
     requires { (n < 2 ^ 32) × (leaf_total_words * n ≤ length area.old) }
-    ensures { area.new ≡ laws.leaf_rows member.now a records.now dimension n ++ drop (leaf_total_words * n) area.old }
+    ensures { area.new ≡ laws.leaf_rows x.entry.member.now x.entry.answer.now x.entry.cell_list.now dimension n ++ drop (leaf_total_words * n) area.old }
 {
-    let g = grid_of(member, a, dimension);
+    let g = grid_of(x.member, x.answer, dimension);
     clear(area, n);
     scatter_all(
-        member, g.version, records, g.cells, g.block, g.step, n, area,
+        x.member,
+        g.version,
+        x.cell_list,
+        g.cells,
+        g.block,
+        g.step,
+        n,
+        area,
     );
-    finish(area, n, a.nodes, a.cells);
+    finish(area, n, x.answer.nodes, x.answer.cells);
 }

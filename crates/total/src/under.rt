@@ -6,36 +6,23 @@ ghost use Rattle.total.specs.Laws.Words as words_spec;
 use crate::sums::{Sums, add};
 use contents::read_figure;
 use counts::{Kind, kind_of};
+use index::{quotient, remainder};
 use member::part;
 use once::word;
 use sizes::CELL_WORDS;
-
-// k divided by n; 0 for an n of 0.
-fn quotient(k: u64, n: u64) -> u64
-    ensures { result ≡ k / n }
-{
-    if n == 0 { 0 } else { k / n }
-}
-
-// What is left of k after division by n; k for an n of 0.
-fn remainder(k: u64, n: u64) -> u64
-    ensures { result ≡ k % n }
-{
-    if n == 0 { k } else { k % n }
-}
 
 // The leaf of a dimension that an index is under, where the dimensions from it on have `block` places and those after it `step`.
 pub fn coordinate(index: u32, block: u64, step: u64) -> u64
     ensures { result ≡ index % block / step }
 {
-    quotient(remainder(index as u64, block), step)
+    quotient(remainder(u64::from(index), block), step)
 }
 
 // Whether it is under that leaf.
 fn is_under(index: u32, block: u64, step: u64, leaf: u32) -> bool
     ensures { result ≡ words_spec.under_by block step leaf index }
 {
-    coordinate(index, block, step) == leaf as u64
+    coordinate(index, block, step) == u64::from(leaf)
 }
 
 // What the cell of record i counts as.
@@ -46,8 +33,10 @@ pub fn kind_at(member: &[u8], version: u64, words: &[u32], i: usize) -> Kind
     let at = CELL_WORDS * i;
     let place = word(words, at + 1) as usize;
     let n = word(words, at + 2) as usize;
-    let x = read_figure(part(member, place, n), version);
-    kind_of(x.form, x.bits)
+    match read_figure(part(member, place, n), version) {
+        Some(x) => kind_of(x.form, x.bits),
+        None => Kind::Text,
+    }
 }
 
 pub fn no_sums() -> Sums

@@ -5,7 +5,7 @@ use Rattle.grammar.specs.Layout.{Tree}
 use Rattle.grammar.specs.RecordWords.{word}
 use Rattle.grammar.specs.Member as member
 use Rattle.grammar.specs.Member.{Member}
-use Rattle.contents.specs.declared.Contents.{Contents}
+use Rattle.contents.specs.Said.{Contents}
 use Rattle.total.specs.declared.sums.Sums.{Sums}
 use Rattle.total.specs.Total.{CellSays, sums}
 use Rattle.position.specs.Axes.{coordinate_at, axes_of}

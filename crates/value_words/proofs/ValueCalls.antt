@@ -7,9 +7,9 @@ use lib.ListN.{length}
 use lib.Dec.{leb}
 use Rattle.sizes.specs.Sizes.{value_answer_words, argument_answer_words}
 use Rattle.layout.specs.Step.{Step}
-use Rattle.std.specs.Prelude.{Ok, Err}
-use Rattle.contents.specs.declared.Contents.{Contents}
-use Rattle.contents.specs.declared.Argument.{Argument}
+use Rattle.std.specs.Prelude.{Ok}
+use Rattle.contents.specs.Said.{Contents}
+use Rattle.contents.specs.Said.{Argument}
 use Rattle.contents.specs.Answers.{ValueAnswers, ArgumentAnswers, refused, refused_argument_answer}
 use Rattle.store.specs.Puts.{PutsWordsTo}
 use Rattle.store.specs.Laws.Puts.{with_room, without_room}

@@ -6,8 +6,8 @@ use Rattle.layout.specs.Words.{word32}
 use Rattle.store.specs.Values.{bit}
 use Rattle.store.specs.Puts.{AtFront}
 use Rattle.contents.specs.declared.RawValue.{RawValue}
-use Rattle.contents.specs.declared.Contents.{Contents}
-use Rattle.contents.specs.declared.Argument.{Argument}
+use Rattle.contents.specs.Said.{Contents}
+use Rattle.contents.specs.Said.{Argument}
 use Rattle.contents.specs.Answers.{ValueAnswers, ArgumentAnswers}
 
 -- 18 words: form, format, the double's bits (low word first), show, fixed; place and length of local, s or template, of var-name, of

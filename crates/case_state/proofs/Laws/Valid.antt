@@ -13,7 +13,6 @@ use Rattle.sizes.specs.Basics.{pick}
 use Rattle.case_stream.specs.Stream.{limit, block_code, most_kinds, most_bias, string_kind}
 use Rattle.case_state.specs.declared.Cursor.{Cursor}
 use Rattle.case_state.specs.declared.State.{State}
-use Rattle.case_state.specs.Phases.{number}
 use Rattle.case_state.specs.Cursor.{Good, Stopped, StoppedBy, by_252, by_22, by_7}
 use Rattle.case_state.specs.Tests.{gather_ok, block_ok, acting_ok, ended_ok, bad_ok, full_ok, stop_ok, resting_ok, cursor_ok, kinds_ok, rest_ok, state_ok}
 use Rattle.case_state.proofs.Laws.Tests.{both}
@@ -22,7 +21,7 @@ use Rattle.case_state.proofs.Laws.Counting.{counts_sound, counts_complete}
 module _ (count : ℕ) (c : Cursor) (in_case : c.at < count) where
   -- ---- 1. what passes is good
 
-  gather_sound : number c.phase ≡ 0 → gather_ok c ≡ true → Good count c
+  gather_sound : c.phase ≡ 0 → gather_ok c ≡ true → Good count c
   unfolding gather_ok
   gather_sound p t =
       let t₁ = both _ _ t in let t₂ = both _ _ t₁.1 in let t₃ = both _ _ t₂.1 in let t₄ = both _ _ t₃.1 in let t₅ = both _ _ t₄.1 in
@@ -45,7 +44,7 @@ module _ (count : ℕ) (c : Cursor) (in_case : c.at < count) where
       by true e t = absurd (omega (arith, eqb-true c.filled 0 e))
       by false e t = eqb-true (c.codes % 256) block_code t
 
-  acting_sound : number c.phase ≡ 1 → acting_ok count c ≡ true → Good count c
+  acting_sound : c.phase ≡ 1 → acting_ok count c ≡ true → Good count c
   unfolding acting_ok
   acting_sound p t =
       let t₁ = both _ _ t in let t₂ = both _ _ t₁.1 in let t₃ = both _ _ t₂.1 in let t₄ = both _ _ t₃.1 in let t₅ = both _ _ t₄.1 in
@@ -59,20 +58,20 @@ module _ (count : ℕ) (c : Cursor) (in_case : c.at < count) where
         rests = λ q r. absurd (r p);
       }
 
-  ended_sound : number c.phase ≡ 252 → ended_ok c ≡ true → Stopped count c
+  ended_sound : c.phase ≡ 252 → ended_ok c ≡ true → Stopped count c
   unfolding ended_ok
   ended_sound e t =
       let t₁ = both _ _ t in let t₂ = both _ _ t₁.1 in
       let s : StoppedBy count c.at c.taken 252 0 = by_252 (eqb-true (c.taken % 8) 0 t₂.0) (ltb-true c.at c.taken t₂.1) in
       rw (e, eqb-true c.place 0 t₁.0) s
 
-  bad_sound : number c.phase ≡ 22 → bad_ok count c ≡ true → Stopped count c
+  bad_sound : c.phase ≡ 22 → bad_ok count c ≡ true → Stopped count c
   unfolding bad_ok
   bad_sound e t =
       let t₁ = both _ _ t in
       rw e (by_22 c.place (eqb-true (c.taken % 8) 0 t₁.0) (counts_sound count c.at in_case c.place c.taken t₁.1))
 
-  full_sound : number c.phase ≡ 7 → full_ok c ≡ true → Stopped count c
+  full_sound : c.phase ≡ 7 → full_ok c ≡ true → Stopped count c
   unfolding full_ok
   full_sound e t =
       let t₁ = both _ _ t in
@@ -81,16 +80,16 @@ module _ (count : ℕ) (c : Cursor) (in_case : c.at < count) where
 
   stop_sound : stop_ok count c ≡ true → Stopped count c
   unfolding stop_ok pick
-  stop_sound t = by (eqb (number c.phase) 22) (eqb (number c.phase) 252) (eqb (number c.phase) 7) refl refl refl t
+  stop_sound t = by (eqb c.phase 22) (eqb c.phase 252) (eqb c.phase 7) refl refl refl t
     where
-      by : (x y z : Bool) → eqb (number c.phase) 22 ≡ x → eqb (number c.phase) 252 ≡ y → eqb (number c.phase) 7 ≡ z
+      by : (x y z : Bool) → eqb c.phase 22 ≡ x → eqb c.phase 252 ≡ y → eqb c.phase 7 ≡ z
           → pick x (bad_ok count c) (pick y (ended_ok c) (pick z (full_ok c) false)) ≡ true → Stopped count c
-      by true y z e f g t = bad_sound (eqb-true (number c.phase) 22 e) t
-      by false true z e f g t = ended_sound (eqb-true (number c.phase) 252 f) t
-      by false false true e f g t = full_sound (eqb-true (number c.phase) 7 g) t
+      by true y z e f g t = bad_sound (eqb-true c.phase 22 e) t
+      by false true z e f g t = ended_sound (eqb-true c.phase 252 f) t
+      by false false true e f g t = full_sound (eqb-true c.phase 7 g) t
       by false false false e f g t = let n : ◌≡◌ {A = ℕ} 0 1 = cc in absurd (omega arith)
 
-  resting_sound : (number c.phase ≡ 0 → ⊥) → (number c.phase ≡ 1 → ⊥) → resting_ok count c ≡ true → Good count c
+  resting_sound : (c.phase ≡ 0 → ⊥) → (c.phase ≡ 1 → ⊥) → resting_ok count c ≡ true → Good count c
   unfolding resting_ok
   resting_sound p q t =
       let t₁ = both _ _ t in let h₁ = both _ _ t₁.0 in let h₂ = both _ _ h₁.1 in let h₃ = both _ _ h₂.1 in
@@ -119,45 +118,45 @@ module _ (count : ℕ) (c : Cursor) (in_case : c.at < count) where
           some zero f = absurd (f refl)
           some (suc n) f = omega arith
 
-  stopped_complete : {w p : ℕ} → number c.phase ≡ w → c.place ≡ p → StoppedBy count c.at c.taken w p → stop_ok count c ≡ true
+  stopped_complete : {w p : ℕ} → c.phase ≡ w → c.place ≡ p → StoppedBy count c.at c.taken w p → stop_ok count c ≡ true
   unfolding stop_ok ended_ok bad_ok full_ok pick
   stopped_complete f g (by_252 a b) = rw f (rw (eq-eqb c.place 0 g, eq-eqb (c.taken % 8) 0 a) (lt-ltb c.at c.taken b))
   stopped_complete f g (by_22 p a b) = rw f (rw (eq-eqb (c.taken % 8) 0 a, g) (counts_complete count c.at in_case p c.taken b))
   stopped_complete f g (by_7 a) = rw f (rw (eq-eqb c.place 0 g) (eq-eqb c.taken limit a))
 
-  complete_by : (a b : Bool) → eqb (number c.phase) 0 ≡ a → eqb (number c.phase) 1 ≡ b → Good count c → pick a (gather_ok c) (pick b (acting_ok count c) (resting_ok count c)) ≡ true
+  complete_by : (a b : Bool) → eqb c.phase 0 ≡ a → eqb c.phase 1 ≡ b → Good count c → pick a (gather_ok c) (pick b (acting_ok count c) (resting_ok count c)) ≡ true
   unfolding pick gather_ok acting_ok resting_ok
   complete_by true b e f g =
-      let q = g.gathers (eqb-true (number c.phase) 0 e) in
+      let q = g.gathers (eqb-true c.phase 0 e) in
       let k : c.block < 256 ^ 0 = rw q.3 at g.block_in in
       let z : c.block ≡ 0 = omega arith in
       let l : c.at ≤ c.taken - c.taken % 8 = rw q.0 at q.1 in
       rw (eq-eqb c.left (c.taken % 8) q.0, le-leb c.at (c.taken - c.taken % 8) l, eq-eqb c.place 0 q.2, eq-eqb c.filled 0 q.3, eq-eqb c.block 0 z) (lt-ltb c.codes (256 ^ c.left) g.codes_in)
   complete_by false true e f g =
-      let q = g.acts (eqb-true (number c.phase) 1 f) in
+      let q = g.acts (eqb-true c.phase 1 f) in
       rw (eq-eqb c.left (8 - c.place % 8) q.0, eq-eqb c.filled (c.taken % 8) q.1, block_complete q.2, lt-ltb c.block (256 ^ c.filled) g.block_in, lt-ltb c.codes (256 ^ c.left) g.codes_in)
       (counts_complete count c.at in_case c.place c.taken q.3)
   complete_by false false e f g =
-      let q = g.rests (eqb-false (number c.phase) 0 e) (eqb-false (number c.phase) 1 f) in
+      let q = g.rests (eqb-false c.phase 0 e) (eqb-false c.phase 1 f) in
       let k : c.block < 256 ^ 0 = rw q.1 at g.block_in in
       let l : c.codes < 256 ^ 0 = rw q.0 at g.codes_in in
       rw (eq-eqb c.left 0 q.0, eq-eqb c.codes 0 (omega arith), eq-eqb c.filled 0 q.1, eq-eqb c.block 0 (omega arith))
       (stopped_complete refl refl q.2)
 
-  by_phase : (a b : Bool) → eqb (number c.phase) 0 ≡ a → eqb (number c.phase) 1 ≡ b → pick a (gather_ok c) (pick b (acting_ok count c) (resting_ok count c)) ≡ true → Good count c
+  by_phase : (a b : Bool) → eqb c.phase 0 ≡ a → eqb c.phase 1 ≡ b → pick a (gather_ok c) (pick b (acting_ok count c) (resting_ok count c)) ≡ true → Good count c
   unfolding pick
-  by_phase true b e f t = gather_sound (eqb-true (number c.phase) 0 e) t
-  by_phase false true e f t = acting_sound (eqb-true (number c.phase) 1 f) t
-  by_phase false false e f t = resting_sound (eqb-false (number c.phase) 0 e) (eqb-false (number c.phase) 1 f) t
+  by_phase true b e f t = gather_sound (eqb-true c.phase 0 e) t
+  by_phase false true e f t = acting_sound (eqb-true c.phase 1 f) t
+  by_phase false false e f t = resting_sound (eqb-false c.phase 0 e) (eqb-false c.phase 1 f) t
 
 module _ (count : ℕ) (c : Cursor) where
   pub sound : cursor_ok count c ≡ true → Good count c
   unfolding cursor_ok
-  sound t = let u = both _ _ t in by_phase count c (ltb-true c.at count u.0) (eqb (number c.phase) 0) (eqb (number c.phase) 1) refl refl u.1
+  sound t = let u = both _ _ t in by_phase count c (ltb-true c.at count u.0) (eqb c.phase 0) (eqb c.phase 1) refl refl u.1
 
   pub complete : Good count c → cursor_ok count c ≡ true
   unfolding cursor_ok pick
-  complete g = rw (lt-ltb c.at count g.at_in) (complete_by count c g.at_in (eqb (number c.phase) 0) (eqb (number c.phase) 1) refl refl g)
+  complete g = rw (lt-ltb c.at count g.at_in) (complete_by count c g.at_in (eqb c.phase 0) (eqb c.phase 1) refl refl g)
 
   -- a cursor passes the test exactly if it is good
   pub passes_exactly : (cursor_ok count c ≡ true) ↔ Good count c

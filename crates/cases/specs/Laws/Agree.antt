@@ -13,8 +13,6 @@ use Rattle.case_stream.specs.Stream.{limit, block_code, Says, skip, finish, bloc
 use Rattle.case_stream.specs.Machine.{acting, goes, after, takes, next, blocked, acts, moves}
 use Rattle.case_state.specs.declared.Cursor.{Cursor}
 use Rattle.cases.specs.declared.steps.Moved.{Moved}
-use Rattle.case_state.specs.declared.phases.Phase.TheVariants.{Ended, BadCode, TooMany}
-use Rattle.case_state.specs.Phases.{number}
 use Rattle.case_state.specs.Cursor.{stop_of, view, Counts, Good, by_252, by_22, by_7}
 use Rattle.cases.specs.Steps.{gather_byte, passed, block_byte, stop_at, offered, elements_of, step_of, silent, writing, Advances}
 use Rattle.cases.specs.Laws.Digits.{le_snoc, snoc_in}
@@ -65,21 +63,21 @@ module _ (kind count bias : ℕ) (c : Cursor) (b : ℕ) (g : Good count c) where
   abbrev At : Bool → Option Moved → Type 0
   At more m = Advances kind count bias c more b m
 
-  pub resting : (more : Bool) → eqb (number c.phase) 0 ≡ false → eqb (number c.phase) 1 ≡ false → At more None
+  pub resting : (more : Bool) → eqb c.phase 0 ≡ false → eqb c.phase 1 ≡ false → At more None
   unfolding step_of pick moves
   resting more e f = record { moved = tt; is = λ kinds l k s. rw (view_stopped c e f) }
 
-  pub waiting : number c.phase ≡ 0 → At false None
+  pub waiting : c.phase ≡ 0 → At false None
   unfolding step_of pick moves takes offered
   waiting e = record { moved = tt; is = λ kinds l k s. rw (view_gather c e) }
 
-  pub gather_full : c.taken ≤ limit → number c.phase ≡ 0 → ltb c.taken limit ≡ false → At true (silent (stop_at c TooMany 0) 0)
+  pub gather_full : c.taken ≤ limit → c.phase ≡ 0 → ltb c.taken limit ≡ false → At true (silent (stop_at c 7 0) 0)
   unfolding step_of elements_of pick moves takes offered view stop_of
   gather_full u e f =
       let n : c.taken ≡ limit = omega (arith, ltb-false c.taken limit f) in
-      record { moved = (omega arith, good_rest count c.at c.taken TooMany 0 g.at_in (omega arith) (by_7 n)); is = λ kinds l k s. rw (e, f) }
+      record { moved = (omega arith, good_rest count c.at c.taken 7 0 g.at_in (omega arith) (by_7 n)); is = λ kinds l k s. rw (e, f) }
 
-  pub gathering : b < 256 → number c.phase ≡ 0 → ltb c.taken limit ≡ true → At true (silent (gather_byte c b) 1)
+  pub gathering : b < 256 → c.phase ≡ 0 → ltb c.taken limit ≡ true → At true (silent (gather_byte c b) 1)
   unfolding step_of elements_of pick moves takes offered
   gathering h e f =
       let q = g.gathers e in
@@ -89,7 +87,7 @@ module _ (kind count bias : ℕ) (c : Cursor) (b : ℕ) (g : Good count c) where
         is = λ kinds l k s. rw (view_gather c e, f, view_gathered c b l₈ g.codes_in h);
       }
 
-  module _ (e₁ : number c.phase ≡ 1) where
+  module _ (e₁ : c.phase ≡ 1) where
     abbrev rest : List ℕ
     rest = le (c.left - 1) (c.codes / 256)
 
@@ -122,17 +120,17 @@ module _ (kind count bias : ℕ) (c : Cursor) (b : ℕ) (g : Good count c) where
       is = λ kinds l k s. acting_is skip e kinds k (offered more b s) ∙ rw (view_passed c c.at c.taken some_left);
     }
 
-    pub finishing : (more : Bool) → says kind bias (c.codes % 256) ≡ finish → At more (silent (stop_at c Ended 0) 0)
+    pub finishing : (more : Bool) → says kind bias (c.codes % 256) ≡ finish → At more (silent (stop_at c 252 0) 0)
     unfolding acts step_of elements_of pick view stop_of
     finishing more e = record {
-      moved = (omega arith, good_rest count c.at c.taken Ended 0 g.at_in (omega arith) (by_252 (unbegun e (λ q. let z : ◌≡◌ {A = ℕ} 0 1 = cc in omega arith)) (omega (arith, room_before))));
+      moved = (omega arith, good_rest count c.at c.taken 252 0 g.at_in (omega arith) (by_252 (unbegun e (λ q. let z : ◌≡◌ {A = ℕ} 0 1 = cc in omega arith)) (omega (arith, room_before))));
       is = λ kinds l k s. acting_is finish e kinds k (offered more b s);
     }
 
-    pub refusing : (more : Bool) → says kind bias (c.codes % 256) ≡ wrong → At more (silent (stop_at c BadCode c.place) 0)
+    pub refusing : (more : Bool) → says kind bias (c.codes % 256) ≡ wrong → At more (silent (stop_at c 22 c.place) 0)
     unfolding acts step_of elements_of pick view stop_of
     refusing more e = record {
-      moved = (omega arith, good_rest count c.at c.taken BadCode c.place g.at_in (omega arith) (by_22 c.place (unbegun e (λ q. let z : ◌≡◌ {A = ℕ} 0 1 = cc in omega arith)) shape.3));
+      moved = (omega arith, good_rest count c.at c.taken 22 c.place g.at_in (omega arith) (by_22 c.place (unbegun e (λ q. let z : ◌≡◌ {A = ℕ} 0 1 = cc in omega arith)) shape.3));
       is = λ kinds l k s. acting_is wrong e kinds k (offered more b s);
     }
 
@@ -154,12 +152,12 @@ module _ (kind count bias : ℕ) (c : Cursor) (b : ℕ) (g : Good count c) where
     unfolding acts step_of pick takes offered
     block_waiting e = record { moved = tt; is = λ kinds l k s. acting_is block e kinds k [] }
 
-    pub block_full : c.taken ≤ limit → says kind bias (c.codes % 256) ≡ block → ltb c.taken limit ≡ false → At true (silent (stop_at c TooMany 0) 0)
+    pub block_full : c.taken ≤ limit → says kind bias (c.codes % 256) ≡ block → ltb c.taken limit ≡ false → At true (silent (stop_at c 7 0) 0)
     unfolding acts step_of elements_of pick takes offered view stop_of
     block_full u e f =
         let n : c.taken ≡ limit = omega (arith, ltb-false c.taken limit f) in
         record {
-          moved = (omega arith, good_rest count c.at c.taken TooMany 0 g.at_in (omega arith) (by_7 n));
+          moved = (omega arith, good_rest count c.at c.taken 7 0 g.at_in (omega arith) (by_7 n));
           is = λ kinds l k s. acting_is block e kinds k (b ∷ s) ∙ rw f;
         }
 
@@ -210,11 +208,11 @@ pub follow_over : (a n : ℕ) → a < n → n ≤ a + 1 → 0 ≡ (a + 1) % n
 follow_over a n h k = let e : a + 1 ≡ n = omega arith in rw e (sym (mod_self n))
 
 -- the next code's place is no last number, and a block has fewer than eight bytes
-pub place_in : (count : ℕ) (c : Cursor) → Good count c → number c.phase ≡ 1 → c.taken ≤ limit → c.place < limit
+pub place_in : (count : ℕ) (c : Cursor) → Good count c → c.phase ≡ 1 → c.taken ≤ limit → c.place < limit
 place_in count c g e h = let q = g.acts e in omega (arith, counts_place q.3)
 
-pub filled_in : (count : ℕ) (c : Cursor) → Good count c → number c.phase ≡ 1 → c.filled < 8
+pub filled_in : (count : ℕ) (c : Cursor) → Good count c → c.phase ≡ 1 → c.filled < 8
 filled_in count c g e = let q = g.acts e in omega (arith, q.1)
 
-pub left_in : (count : ℕ) (c : Cursor) → Good count c → number c.phase ≡ 0 → (c.left < 8) × (c.left ≤ c.taken)
+pub left_in : (count : ℕ) (c : Cursor) → Good count c → c.phase ≡ 0 → (c.left < 8) × (c.left ≤ c.taken)
 left_in count c g e = let q = g.gathers e in (omega (arith, q.0), omega (arith, q.0))

@@ -13,7 +13,6 @@ use Rattle.case_stream.proofs.Laws.Taken.{taken as Taken-of, held, feed_keeps, f
 use Rattle.case_state.specs.declared.Cursor.{Cursor}
 use Rattle.case_state.specs.declared.State.{State}
 use Rattle.cases.specs.declared.Call.{Call}
-use Rattle.case_state.specs.Phases.{number}
 use Rattle.case_state.specs.Cursor.{numbers, stop_of, view, Good, StoppedBy, by_252, by_22, by_7}
 use Rattle.case_state.specs.Tests.{state_ok}
 use Rattle.cases.specs.Steps.{firsts, Fed_is}
@@ -43,15 +42,15 @@ well_1 : (p : ℕ) → refusal_at 1 p ≡ well
 unfolding refusal_at pick
 well_1 p = refl
 
-pub refusal_is : (count : ℕ) (c : Cursor) → Good count c → refusal_at (number c.phase) c.place ≡ refusal_of (view c)
+pub refusal_is : (count : ℕ) (c : Cursor) → Good count c → refusal_at c.phase c.place ≡ refusal_of (view c)
 unfolding refusal_of
-refusal_is count c g = by (eqb (number c.phase) 0) (eqb (number c.phase) 1) refl refl
+refusal_is count c g = by (eqb c.phase 0) (eqb c.phase 1) refl refl
   where
-    by : (x y : Bool) → eqb (number c.phase) 0 ≡ x → eqb (number c.phase) 1 ≡ y → refusal_at (number c.phase) c.place ≡ refusal_of (view c)
-    by true y e f = at_phase c.place (eqb-true (number c.phase) 0 e) (well_0 c.place) ∙ ap refusal_of (sym (view_gather c (eqb-true (number c.phase) 0 e)))
-    by false true e f = at_phase c.place (eqb-true (number c.phase) 1 f) (well_1 c.place) ∙ ap refusal_of (sym (view_acting c (eqb-true (number c.phase) 1 f)))
+    by : (x y : Bool) → eqb c.phase 0 ≡ x → eqb c.phase 1 ≡ y → refusal_at c.phase c.place ≡ refusal_of (view c)
+    by true y e f = at_phase c.place (eqb-true c.phase 0 e) (well_0 c.place) ∙ ap refusal_of (sym (view_gather c (eqb-true c.phase 0 e)))
+    by false true e f = at_phase c.place (eqb-true c.phase 1 f) (well_1 c.place) ∙ ap refusal_of (sym (view_acting c (eqb-true c.phase 1 f)))
     by false false e f =
-        stopped_refusal (g.rests (eqb-false (number c.phase) 0 e) (eqb-false (number c.phase) 1 f)).2 ∙ ap refusal_of (sym (view_stopped c e f))
+        stopped_refusal (g.rests (eqb-false c.phase 0 e) (eqb-false c.phase 1 f)).2 ∙ ap refusal_of (sym (view_stopped c e f))
 
 abbrev end_by : ℕ → ℕ → ℕ → ℕ → ℕ → Answer
 end_by v p at n l = pick (eqb v 252) well (pick (eqb v 22) (refusal_at v p) (pick (eqb v 7) (refusal_at v p) (unfinished_at v l at n)))
@@ -79,39 +78,39 @@ gather_ends p at n l x = gathering_ends at n l x
 
 pub end_is : (count : ℕ) (c : Cursor) → Good count c → end_where c ≡ ending (view c)
 unfolding end_where
-end_is count c g = by (eqb (number c.phase) 0) (eqb (number c.phase) 1) refl refl
+end_is count c g = by (eqb c.phase 0) (eqb c.phase 1) refl refl
   where
-    by : (x y : Bool) → eqb (number c.phase) 0 ≡ x → eqb (number c.phase) 1 ≡ y → end_by (number c.phase) c.place c.at c.taken c.left ≡ ending (view c)
+    by : (x y : Bool) → eqb c.phase 0 ≡ x → eqb c.phase 1 ≡ y → end_by c.phase c.place c.at c.taken c.left ≡ ending (view c)
     by true y e f =
-        let z = eqb-true (number c.phase) 0 e in
-        ap (λ (v : ℕ). end_by v c.place c.at c.taken c.left) z ∙ gather_ends c.place c.at c.taken c.left c.codes ∙ ap ending (sym (view_gather c (eqb-true (number c.phase) 0 e)))
+        let z = eqb-true c.phase 0 e in
+        ap (λ (v : ℕ). end_by v c.place c.at c.taken c.left) z ∙ gather_ends c.place c.at c.taken c.left c.codes ∙ ap ending (sym (view_gather c (eqb-true c.phase 0 e)))
     by false true e f =
-        let z = eqb-true (number c.phase) 1 f in
-        ap (λ (v : ℕ). end_by v c.place c.at c.taken c.left) z ∙ acting_ends c.place c.at c.taken c.left _ _ _ _ ∙ ap ending (sym (view_acting c (eqb-true (number c.phase) 1 f)))
+        let z = eqb-true c.phase 1 f in
+        ap (λ (v : ℕ). end_by v c.place c.at c.taken c.left) z ∙ acting_ends c.place c.at c.taken c.left _ _ _ _ ∙ ap ending (sym (view_acting c (eqb-true c.phase 1 f)))
     by false false e f =
-        stopped_ends (g.rests (eqb-false (number c.phase) 0 e) (eqb-false (number c.phase) 1 f)).2 c.left ∙ ap ending (sym (view_stopped c e f))
+        stopped_ends (g.rests (eqb-false c.phase 0 e) (eqb-false c.phase 1 f)).2 c.left ∙ ap ending (sym (view_stopped c e f))
 
 -- ---- 2. a call
 
 view_taken : (c : Cursor) → Taken-of (view c) ≡ c.taken
 unfolding view pick
-view_taken c = by (eqb (number c.phase) 0) (eqb (number c.phase) 1)
+view_taken c = by (eqb c.phase 0) (eqb c.phase 1)
   where
     by : (x y : Bool) → Taken-of (pick x (gather c.at c.taken (le c.left c.codes))
-        (pick y (acting c.at c.taken c.place (c.codes % 256) (le (c.left - 1) (c.codes / 256)) (le c.filled c.block)) (stopped c.at c.taken (stop_of (number c.phase) c.place)))) ≡ c.taken
+        (pick y (acting c.at c.taken c.place (c.codes % 256) (le (c.left - 1) (c.codes / 256)) (le c.filled c.block)) (stopped c.at c.taken (stop_of c.phase c.place)))) ≡ c.taken
     by true y = refl
     by false true = refl
     by false false = refl
 
 -- the codes that a state holds are among the bytes taken
 held_in : (count : ℕ) (c : Cursor) → Good count c → held (view c) ≤ Taken-of (view c)
-held_in count c g = by (eqb (number c.phase) 0) (eqb (number c.phase) 1) refl refl
+held_in count c g = by (eqb c.phase 0) (eqb c.phase 1) refl refl
   where
-    by : (x y : Bool) → eqb (number c.phase) 0 ≡ x → eqb (number c.phase) 1 ≡ y → held (view c) ≤ Taken-of (view c)
-    by true y e f = let q = g.gathers (eqb-true (number c.phase) 0 e) in rw (view_gather c (eqb-true (number c.phase) 0 e)) (omega (arith, length_le c.left c.codes, q.0))
+    by : (x y : Bool) → eqb c.phase 0 ≡ x → eqb c.phase 1 ≡ y → held (view c) ≤ Taken-of (view c)
+    by true y e f = let q = g.gathers (eqb-true c.phase 0 e) in rw (view_gather c (eqb-true c.phase 0 e)) (omega (arith, length_le c.left c.codes, q.0))
     by false true e f =
-        let q = g.acts (eqb-true (number c.phase) 1 f) in
-        rw (view_acting c (eqb-true (number c.phase) 1 f)) (omega (arith, length_le (c.left - 1) (c.codes / 256), q.0, counts_place q.3))
+        let q = g.acts (eqb-true c.phase 1 f) in
+        rw (view_acting c (eqb-true c.phase 1 f)) (omega (arith, length_le (c.left - 1) (c.codes / 256), q.0, counts_place q.3))
     by false false e f = rw (view_stopped c e f) (omega arith)
 
 abbrev made : State → Cursor → Answer → ℕ → ℕ → Call
@@ -126,7 +125,7 @@ module _ (s : State) (input o₀ o₁ : List ℕ) (c : Cursor) (i w : ℕ) (ok :
   unfolding fed_of
   is_fed = f.is
 
-  call_is : (a : Answer) → a ≡ refusal_at (number c.phase) c.place → made s c a i w ≡ call_of s input (length o₀)
+  call_is : (a : Answer) → a ≡ refusal_at c.phase c.place → made s c a i w ≡ call_of s input (length o₀)
   unfolding call_of answered pick
   call_is a e =
       rw (ok, is_fed) (same_call s c (numbers (view c)) a (refusal_of (view c)) i (length input - length (drop i input)) w (length f.es)
@@ -148,7 +147,7 @@ module _ (s : State) (input o₀ o₁ : List ℕ) (c : Cursor) (i w : ℕ) (ok :
   written_most =
       omega (arith, feed_spends K s.bias (view s.cursor) input (fits (length o₀ / 8)) (view c) (drop i input) f.es f.is, length-drop i input, f.inside, f.count_es)
 
-  pub call_fed : (a : Answer) → a ≡ refusal_at (number c.phase) c.place → c.taken ≤ limit → Called s input o₀ o₁ (made s c a i w)
+  pub call_fed : (a : Answer) → a ≡ refusal_at c.phase c.place → c.taken ≤ limit → Called s input o₀ o₁ (made s c a i w)
   call_fed a e small =
       let t = view_taken c in
       let h = held_in s.count s.cursor (state_sound s ok).1 in

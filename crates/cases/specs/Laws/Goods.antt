@@ -6,8 +6,6 @@ use Rattle.grammar.specs.Laws.Layout.Digits.{length_le}
 use Rattle.case_stream.specs.Stream.{block_code}
 use Rattle.case_stream.specs.Machine.{gather, acting, stopped, after, gathered}
 use Rattle.case_state.specs.declared.Cursor.{Cursor}
-use Rattle.case_state.specs.declared.phases.Phase.{Phase}
-use Rattle.case_state.specs.Phases.{number}
 use Rattle.case_state.specs.Cursor.{gather_at, act_at, rest_at, stop_of, view, Counts, Good, StoppedBy}
 use Rattle.cases.specs.Steps.{gather_byte, passed}
 use Rattle.cases.specs.Laws.Digits.{le_snoc, snoc_in}
@@ -36,7 +34,7 @@ good_act count at n p x l k m h₁ h₂ h₃ h₄ h₅ h₆ h₇ = record {
   rests = λ e f. absurd (f refl);
 }
 
-pub good_rest : (count at n : ℕ) (w : Phase) (p : ℕ) → at < count → 1 < number w → StoppedBy count at n (number w) p → Good count (rest_at at n w p)
+pub good_rest : (count at n w p : ℕ) → at < count → 1 < w → StoppedBy count at n w p → Good count (rest_at at n w p)
 good_rest count at n w p h k s = record {
   at_in = h;
   codes_in = omega arith;
@@ -49,16 +47,16 @@ good_rest count at n w p h k s = record {
 -- ---- 2. what they stand for
 
 module _ (c : Cursor) where
-  pub view_gather : number c.phase ≡ 0 → view c ≡ gather c.at c.taken (le c.left c.codes)
+  pub view_gather : c.phase ≡ 0 → view c ≡ gather c.at c.taken (le c.left c.codes)
   unfolding view pick
   view_gather e = rw e
 
-  pub view_acting : number c.phase ≡ 1
+  pub view_acting : c.phase ≡ 1
       → view c ≡ acting c.at c.taken c.place (c.codes % 256) (le (c.left - 1) (c.codes / 256)) (le c.filled c.block)
   unfolding view pick
   view_acting e = rw e
 
-  pub view_stopped : eqb (number c.phase) 0 ≡ false → eqb (number c.phase) 1 ≡ false → view c ≡ stopped c.at c.taken (stop_of (number c.phase) c.place)
+  pub view_stopped : eqb c.phase 0 ≡ false → eqb c.phase 1 ≡ false → view c ≡ stopped c.at c.taken (stop_of c.phase c.place)
   unfolding view pick
   view_stopped e f = rw (e, f)
 

@@ -19,7 +19,6 @@ use Rattle.case_stream.proofs.Laws.Compose.{less_nil}
 use Rattle.case_stream.proofs.Laws.Whole.{room_goes, gather_whole, block_whole}
 use Rattle.case_state.specs.declared.Cursor.{Cursor}
 use Rattle.cases.specs.declared.steps.Moved.{Moved}
-use Rattle.case_state.specs.Phases.{number}
 use Rattle.case_state.specs.Cursor.{act_at, view, Counts, Good}
 use Rattle.cases.specs.Steps.{passed, offered, elements_of, wrote, step_of, silent, writing, Advances, Strides, Given, eight_at, whole}
 use Rattle.case_state.proofs.Laws.Counting.{counts_first}
@@ -117,7 +116,7 @@ module _ (kind count bias : ℕ) (c : Cursor) (g : Good count c) (s : List ℕ) 
   left_8 : length (drop 8 s) ≡ length s - 8
   left_8 = length-drop 8 s
 
-  module _ (e₀ : number c.phase ≡ 0) (e : eqb c.left 0 ≡ true) where
+  module _ (e₀ : c.phase ≡ 0) (e : eqb c.left 0 ≡ true) where
     abbrev d : Cursor
     d = act_at c.at (c.taken + 8) c.taken x 8 0 0
 
@@ -154,7 +153,7 @@ module _ (kind count bias : ℕ) (c : Cursor) (g : Good count c) (s : List ℕ) 
       falls = λ kinds l k. lighter;
     }
 
-  module _ (e₁ : number c.phase ≡ 1) (code : c.codes % 256 ≡ block_code) (f : eqb c.filled 0 ≡ true) where
+  module _ (e₁ : c.phase ≡ 1) (code : c.codes % 256 ≡ block_code) (f : eqb c.filled 0 ≡ true) where
     abbrev d' : Cursor
     d' = passed c ((c.at + 1) % count) (c.taken + 8)
 
@@ -209,10 +208,10 @@ module _ (kind count bias : ℕ) (c : Cursor) (g : Good count c) (s : List ℕ) 
     abbrev eight : (le 8 x ≡ take 8 (drop i s)) × (x < 256 ^ 8)
     eight = eight_bytes s i x bs whole_in.0 e
 
-    pub group_of : held ≡ c.left → number c.phase ≡ 0 → Strides kind count bias c (drop i s) (silent (act_at c.at (c.taken + 8) c.taken x 8 0 0) 8)
+    pub group_of : held ≡ c.left → c.phase ≡ 0 → Strides kind count bias c (drop i s) (silent (act_at c.at (c.taken + 8) c.taken x 8 0 0) 8)
     group_of h e₀ = whole_group kind count bias c g (drop i s) x there_8 whole_in.1 eight.0 eight.1 e₀ (rw h at whole_in.2)
 
-    pub block_of : held ≡ c.filled → number c.phase ≡ 1 → says kind bias (c.codes % 256) ≡ block
+    pub block_of : held ≡ c.filled → c.phase ≡ 1 → says kind bias (c.codes % 256) ≡ block
         → Strides kind count bias c (drop i s) (writing (passed c ((c.at + 1) % count) (c.taken + 8)) 8 x)
     block_of h e₁ q = whole_block kind count bias c g (drop i s) x there_8 whole_in.1 eight.0 eight.1 e₁ (says_block kind bias (c.codes % 256) q) (rw h at whole_in.2)
 

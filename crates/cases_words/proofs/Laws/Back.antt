@@ -7,10 +7,8 @@ use Rattle.sizes.specs.Basics.{pick}
 use Rattle.layout.specs.Laws.Words.{word_same}
 use Rattle.case_state.specs.declared.Cursor.{Cursor}
 use Rattle.case_state.specs.declared.State.{State}
-use Rattle.case_state.specs.Phases.{number}
 use Rattle.case_state.specs.Cursor.{Good}
 use Rattle.case_state.specs.Tests.{kinds_ok, rest_ok, state_ok}
-use Rattle.case_state.proofs.Laws.Phases.{phase_of_number}
 use Rattle.case_state.proofs.Laws.Tests.{both}
 use Rattle.case_state.proofs.Laws.Valid.{state_parts}
 use Rattle.cases.specs.Steps.{firsts}
@@ -59,7 +57,7 @@ module _ (s : State) (ok : state_ok s ≡ true) where
 
   -- at most eight codes are held, and at most eight bytes of a block
   few_held : (s.cursor.left ≤ 8) × (s.cursor.filled ≤ 8)
-  few_held = go (eqb (number c.phase) 0) refl (eqb (number c.phase) 1) refl
+  few_held = go (eqb c.phase 0) refl (eqb c.phase 1) refl
     where
       c : Cursor
       c = s.cursor
@@ -67,10 +65,10 @@ module _ (s : State) (ok : state_ok s ≡ true) where
       g : Good s.count s.cursor
       g = (state_parts s ok).good
 
-      go : (a : Bool) → eqb (number s.cursor.phase) 0 ≡ a → (b : Bool) → eqb (number s.cursor.phase) 1 ≡ b → (s.cursor.left ≤ 8) × (s.cursor.filled ≤ 8)
-      go true t b u = let p = g.gathers (eqb-true (number s.cursor.phase) 0 t) in (omega (arith, p.0), omega (arith, p.3))
-      go false t true u = let p = g.acts (eqb-true (number s.cursor.phase) 1 u) in (omega (arith, p.0), omega (arith, p.1))
-      go false t false u = let p = g.rests (eqb-false (number s.cursor.phase) 0 t) (eqb-false (number s.cursor.phase) 1 u) in (omega (arith, p.0), omega (arith, p.1))
+      go : (a : Bool) → eqb s.cursor.phase 0 ≡ a → (b : Bool) → eqb s.cursor.phase 1 ≡ b → (s.cursor.left ≤ 8) × (s.cursor.filled ≤ 8)
+      go true t b u = let p = g.gathers (eqb-true s.cursor.phase 0 t) in (omega (arith, p.0), omega (arith, p.3))
+      go false t true u = let p = g.acts (eqb-true s.cursor.phase 1 u) in (omega (arith, p.0), omega (arith, p.1))
+      go false t false u = let p = g.rests (eqb-false s.cursor.phase 0 t) (eqb-false s.cursor.phase 1 u) in (omega (arith, p.0), omega (arith, p.1))
 
   -- the words of a state that passes, and what stands behind them in the area
   pub state_back : (rest : List ℕ) → length s.kinds ≡ 256 → state_of (state_words_of s ++ rest) ≡ s
@@ -87,4 +85,4 @@ module _ (s : State) (ok : state_ok s ≡ true) where
       let Filled-is = word_same s.cursor.filled (omega (arith, few_held.1)) in
       let codes_are : joint (s.cursor.codes % 2 ^ 32) (s.cursor.codes / 2 ^ 32) ≡ s.cursor.codes = omega arith in
       let block_is : joint (s.cursor.block % 2 ^ 32) (s.cursor.block / 2 ^ 32) ≡ s.cursor.block = omega arith in
-      rw (kinds_are, count-is, at_is, left_is, Filled-is, codes_are, block_is, phase_of_number s.cursor.phase)
+      rw (kinds_are, count-is, at_is, left_is, Filled-is, codes_are, block_is)

@@ -18,7 +18,7 @@ use Rattle.store.specs.Fields.{Fields, placed}
 use Rattle.layout.specs.Steps.Runs.{begins}
 use Rattle.grammar.specs.Value.{cell_zeros, CellValue, RawValueOf, ValueIn}
 use Rattle.contents.specs.declared.RawValue.{RawValue}
-use Rattle.contents.specs.declared.Contents.{Contents}
+use Rattle.contents.specs.Said.{Contents}
 use Rattle.contents.specs.declared.figure.Figure.{Figure}
 use Rattle.contents.specs.Contents.{position_of, said, Form, layouts, Raw, either, chosen, each_form, raw_says, contents, says_01, says_02, says_03, says_04, says_05, says_06, says_31, says_58}
 use Rattle.contents.specs.Answers.{unread, refused}

@@ -5,7 +5,7 @@ use Rattle.std.proofs.Common.{sym, arith, length-drop, eqb-true, ne_eqb, leb-tru
 use Rattle.std.proofs.Math.Bool.{false}
 use Rattle.std.proofs.lemmas.Bool.{false≢true}
 use Rattle.sizes.specs.Sizes.{below_value}
-use Rattle.std.specs.Prelude.{Ok, Err}
+use Rattle.std.specs.Prelude.{Ok}
 use Rattle.sizes.specs.Basics.{among, pick}
 use Rattle.grammar.specs.Layout.{little, one_of_but, passes, Layout, empty, undigits, Bytes}
 use Rattle.grammar.specs.Laws.Layout.Read.{read_number, lead}
@@ -17,7 +17,6 @@ use Rattle.fields.specs.Laws.Shows.{◌&◌, shows_nothing, shows_of}
 use Rattle.fields.specs.Laws.Gives.{to_shows, number_gives}
 use Rattle.store.specs.Fields.{placed}
 use Rattle.grammar.specs.Value.{Modifiers, without_long_form, left_out, ValueMod, Form01, RawValueOf, ValueIn, cell_zeros}
-use Rattle.contents.specs.declared.RawValue.{RawValue}
 use Rattle.contents.specs.Contents.{none, raw, said, says_01, chosen, either, raw_says}
 use Rattle.contents.specs.Answers.{unread, ValueAnswers}
 use Rattle.contents.specs.Laws.Forms.{form_shows}

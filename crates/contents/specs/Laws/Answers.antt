@@ -20,8 +20,8 @@ use Rattle.store.specs.Fields.{placed}
 use Rattle.grammar.specs.Value.{cell_zeros, CellValue, RawValueOf, ValueIn}
 use Rattle.grammar.specs.Value as grammar
 use Rattle.contents.specs.declared.RawValue.{RawValue}
-use Rattle.contents.specs.declared.Contents.{Contents}
-use Rattle.contents.specs.declared.Argument.{Argument}
+use Rattle.contents.specs.Said.{Contents}
+use Rattle.contents.specs.Said.{Argument}
 use Rattle.contents.specs.Contents.{position_of, said, Raw, raw_says, contents, argument_of, argument_contents}
 use Rattle.contents.specs.Answers.{unread, Answers, refused, refused_argument_answer, ValueAnswers, ArgumentAnswers}
 

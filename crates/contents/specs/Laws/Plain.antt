@@ -1,12 +1,12 @@
 -- A number with no modifier and no byte 00 before it: 01 58, its format and its double.
-use Rattle.std.specs.Prelude.{Bool, List, ℕ, zero, length, eqb, leb}
+use Rattle.std.specs.Prelude.{Bool, List, ℕ, length, eqb, leb}
 use Rattle.std.proofs.Math.Bool.{false}
-use Rattle.std.specs.Prelude.{Ok, Err}
+use Rattle.std.specs.Prelude.{Ok}
 use Rattle.sizes.specs.Basics.{pick}
 use Rattle.grammar.specs.Layout.{little}
-use Rattle.layout.specs.Reads.{peek, field}
+use Rattle.layout.specs.Reads.{peek}
 use Rattle.contents.specs.declared.RawValue.{RawValue}
-use Rattle.contents.specs.declared.Contents.{Contents}
+use Rattle.contents.specs.Said.{Contents}
 use Rattle.contents.specs.Contents.{none, raw}
 use Rattle.contents.specs.Answers.{unread}
 

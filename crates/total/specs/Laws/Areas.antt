@@ -1,5 +1,5 @@
 -- What the lent areas hold after a call: the records where nothing is refused, and what they held.
-use Rattle.std.specs.Prelude.{◌≡◌, refl, Bool, true, false, List, ◌++◌, ℕ, suc, ◌+◌, ◌*◌, ◌≤◌, ◌<◌, take, eqb, leb}
+use Rattle.std.specs.Prelude.{◌≡◌, refl, Bool, true, false, List, ◌++◌, ℕ, suc, ◌*◌, ◌≤◌, take, eqb, leb}
 use Rattle.std.proofs.Common.{ap, ◌∙◌, arith, length-append, take_at}
 use borrow.Author.Tests.{leb-true}
 use Rattle.std.proofs.Math.ListN.{length, drop}

@@ -3,7 +3,7 @@ use Rattle.std.specs.Prelude.{◌≡◌, refl, Bool, true, false, List, ℕ, len
 use Rattle.std.proofs.Common.{arith}
 use Rattle.sizes.specs.Sizes.{total_answer_words, totals_answer_words}
 use Rattle.layout.specs.Step.{Step}
-use Rattle.std.specs.Prelude.{Ok, Err}
+use Rattle.std.specs.Prelude.{Ok}
 use Rattle.store.specs.Puts.{PutsWordsTo}
 use Rattle.store.specs.Laws.Puts.{with_room, without_room}
 use Rattle.grammar.specs.Laws.Member.Checked.{checked}

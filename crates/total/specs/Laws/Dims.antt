@@ -6,7 +6,7 @@ use mathlib.Core.List.{List, [], ◌∷◌, ◌++◌, append_assoc, map}
 use Rattle.std.proofs.Math.Nat.{sub-zero}
 use Rattle.std.proofs.Math.ListN.{length, length-append}
 use Rattle.sizes.specs.Sizes.{dimension_words, dimension_n}
-use Rattle.std.specs.Prelude.{Ok, Err}
+use Rattle.std.specs.Prelude.{Ok}
 use Rattle.sizes.specs.Basics.{pick}
 use Rattle.grammar.specs.Layout.{little, Tree, digits, spell, size}
 use Rattle.grammar.specs.Laws.Layout.Read.{read_number}

@@ -8,7 +8,9 @@ use Rattle.grammar.specs.RecordWords.{word}
 use Rattle.contents.specs.declared.RawValue.{RawValue}
 use Rattle.contents.specs.Laws.Answers.{value_answer}
 use Rattle.contents.specs.Laws.Figure.{figure, figure_with, no_figure}
+use Rattle.contents.specs.declared.figure.Figure.{Figure}
 use Rattle.counts.specs.declared.Kind.{Kind}
+use Rattle.counts.specs.declared.Kind.TheVariants.{Text}
 use Rattle.counts.specs.Count.{kind}
 use Rattle.total.specs.declared.sums.Sums.{Sums}
 use Rattle.total.specs.Total.{CellSays, add_cell, with_cell, sums}
@@ -55,6 +57,11 @@ figure_counts x = go (among x.form (1 ∷ 2 ∷ [])) refl
         → kind (pick b (record { form = x.form; bits = x.bits }) no_figure).form (pick b (record { form = x.form; bits = x.bits }) no_figure).bits ≡ kind x.form x.bits
     go true e = refl
     go false e = rw e
+
+-- and no figure, as a text
+pub no_figure_counts : (x : RawValue) → no_figure ≡ figure x → Text ≡ kind x.form x.bits
+unfolding kind among pick
+no_figure_counts x e = ap (λ (f : Figure). kind f.form f.bits) e ∙ figure_counts x
 
 -- ---- the loop: the record before those behind it
 

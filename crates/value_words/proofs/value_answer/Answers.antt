@@ -6,13 +6,15 @@ use Rattle.contents.proofs.Laws.Plain.{plain_answers}
 use Rattle.value_words.proofs.ValueCalls.{with_value, without_value}
 use Rattle.value_words.proofs.value_answer.Goals as goal
 
-pub returns-then-plain : goal.returns-then-plain
-returns-then-plain c =
-    with_value _ _ _ (plain_value _) (le-leb _ _ c.if-room.true)
-    (plain_answers _ (bytes_of _ c.type_inv.value) (sym c.is_plain-plain.ensures ∙ c.if-plain.true)) c.plain_words.ensures
+pub returns-then-answer-lt-VALUE_ANSWER_WORDS : goal.returns-then-answer-lt-VALUE_ANSWER_WORDS
+returns-then-answer-lt-VALUE_ANSWER_WORDS c = without_value _ _ _ (lt-leb _ _ c.if-answer-lt-VALUE_ANSWER_WORDS.true)
 
-pub returns-else-plain : goal.returns-else-plain
-returns-else-plain c = with_value _ _ _ _ (le-leb _ _ c.if-room.true) c.read_value-x.ensures c.value_words.ensures
+pub returns-then-is_plain : goal.returns-then-is_plain
+returns-then-is_plain c =
+    rw (← c.from-version.ensures)
+    (with_value _ _ _ (plain_value _) (le-leb _ _ c.if-answer-lt-VALUE_ANSWER_WORDS.false)
+    (plain_answers _ (bytes_of _ c.type_inv.value) (sym c.is_plain.ensures ∙ c.if-is_plain.true)) c.plain_words.ensures)
 
-pub returns-else-room : goal.returns-else-room
-returns-else-room c = without_value _ _ _ (lt-leb _ _ c.if-room.false)
+pub returns : goal.returns
+returns c =
+    rw (← c.from-version.ensures) (with_value _ _ _ _ (le-leb _ _ c.if-answer-lt-VALUE_ANSWER_WORDS.false) c.read_value.ensures c.value_words.ensures)

@@ -1,7 +1,6 @@
 -- The arm of an element by its law of `Agree`.
 use Rattle.std.proofs.Common.{◌≡◌, sym, ap, ◌∙◌, arith}
 use Rattle.case_codes.specs.Codes.{said}
-use Rattle.case_state.specs.Phases.{number}
 use Rattle.cases.specs.Laws.Agree.{giving, place_in}
 use Rattle.cases.specs.Laws.Quick.{given}
 use Rattle.cases.proofs.steps.give.Goals as goal
@@ -10,11 +9,11 @@ pub following-requires : goal.following-requires
 following-requires c = c.requires.at_in
 
 pub passed-requires : goal.passed-requires
-passed-requires c = let acts : number c.args.c.phase ≡ 1 = ap number c.in-Acts.is in place_in c.args.count c.args.c c.requires acts (omega arith)
+passed-requires c = let acts : c.args.c.phase ≡ 1 = omega arith in place_in c.args.count c.args.c c.requires acts (omega arith)
 
 pub returns-in-Gives : goal.returns-in-Gives
 returns-in-Gives c =
     let a = c.args in
-    let acts : number a.c.phase ≡ 1 = ap number c.in-Acts.is in
+    let acts : a.c.phase ≡ 1 = omega arith in
     rw (c.passed.ensures, c.following.ensures)
     (given a.kind a.count a.bias a.c _ _ (λ more b. giving a.kind a.count a.bias a.c b c.requires acts more _ (sym c.judge.ensures ∙ ap said c.in-Gives.is)))

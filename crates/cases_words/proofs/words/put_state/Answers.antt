@@ -8,4 +8,4 @@ shape_of-out c = long_words (c.put-st.ensures ⟩ c.put.ensures)
 
 pub returns : goal.returns
 unfolding state_words_of head_words
-returns c = (rw (c.low.ensures, c.low-2.ensures, c.number.ensures, c.low-3.ensures, c.low-4.ensures) at c.put-st.ensures) ⟩ rw c.widened.ensures at c.put.ensures
+returns c = (rw (c.low.ensures, c.low-2.ensures, c.low-3.ensures, c.low-4.ensures) at c.put-st.ensures) ⟩ rw c.widened.ensures at c.put.ensures

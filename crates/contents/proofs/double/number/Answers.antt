@@ -22,12 +22,12 @@ a-nan bits h = nan_bits_above binary64 bits ∙ lt-ltb infinity (bits % 2 ^ 63) 
 
 pub float_from_bits-result : goal.float_from_bits-result
 unfolding number_of pick
-float_from_bits-result c = rw (no_nan c.args.bits (le-leb _ _ c.if-is.true)) tt
+float_from_bits-result c = rw (no_nan c.args.bits (le-leb _ _ c.if-magnitude-le9218868437227405312.true)) tt
 
-pub returns-then-is : goal.returns-then-is
+pub returns-then-magnitude-le9218868437227405312 : goal.returns-then-magnitude-le9218868437227405312
 unfolding number_of pick
-returns-then-is c = rw (no_nan c.args.bits (le-leb _ _ c.if-is.true))
+returns-then-magnitude-le9218868437227405312 c = rw (no_nan c.args.bits (le-leb _ _ c.if-magnitude-le9218868437227405312.true))
 
-pub returns-else-is : goal.returns-else-is
+pub returns-else-magnitude-le9218868437227405312 : goal.returns-else-magnitude-le9218868437227405312
 unfolding number_of pick
-returns-else-is c = rw (a-nan c.args.bits (lt-leb _ _ c.if-is.false))
+returns-else-magnitude-le9218868437227405312 c = rw (a-nan c.args.bits (lt-leb _ _ c.if-magnitude-le9218868437227405312.false))

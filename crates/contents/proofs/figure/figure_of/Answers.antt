@@ -1,7 +1,27 @@
+use Rattle.std.proofs.Common.{◌≡◌, refl, Bool, true, false, ◌||◌, [], ◌∷◌, eq-eqb, ne_eqb}
+use Rattle.sizes.specs.Basics.{pick, among}
+use Rattle.contents.specs.Laws.Figure.{figure_with}
 use Rattle.contents.proofs.figure.figure_of.Goals as goal
+use Rattle.contents.proofs.figure.figure_of.Goals.{then-x-eq1, else-x-eq1}
 
-pub returns-in-Ok : goal.returns-in-Ok
-returns-in-Ok c = rw c.in-Ok.is c.with_form.ensures
+last : (b : Bool) → b ≡ b || false
+last true = refl
+last false = refl
 
-pub returns-in-Err : goal.returns-in-Err
-returns-in-Err c = rw c.in-Err.is c.no_figure.ensures
+pub returns-then-number : goal.returns-then-number
+unfolding figure_with pick among
+returns-then-number c =
+    let among : c.if-x-eq1.number ≡ among c.in-Ok.x.form (1 ∷ 2 ∷ []) = elim c.if-x-eq1.branch [
+      | then-x-eq1 w ↦ rw (w.number-is, eq-eqb _ _ w.if-x-eq1.true)
+      | else-x-eq1 w ↦ rw (w.number-is, ne_eqb _ _ w.if-x-eq1.false) (last _)
+    ] in
+    rw (c.in-Ok.is, ← among, c.if-number.true)
+
+pub returns-else-number : goal.returns-else-number
+unfolding figure_with pick among
+returns-else-number c =
+    let among : c.if-x-eq1.number ≡ among c.in-Ok.x.form (1 ∷ 2 ∷ []) = elim c.if-x-eq1.branch [
+      | then-x-eq1 w ↦ rw (w.number-is, eq-eqb _ _ w.if-x-eq1.true)
+      | else-x-eq1 w ↦ rw (w.number-is, ne_eqb _ _ w.if-x-eq1.false) (last _)
+    ] in
+    rw (c.in-Ok.is, ← among, c.if-number.false)

@@ -1,6 +1,6 @@
 use Rattle.layout.specs.Steps.Chain.{◌◂◌}
 use Rattle.fields.specs.Laws.Gives.{◌⟩◌}
-use Rattle.look.proofs.Exits.{begins, exit}
+use Rattle.fields.specs.Laws.Exits.{begins, exit}
 use Rattle.look.proofs.areas.area_style.Goals as goal
 
 pub returns-in_err-alignment : goal.returns-in_err-alignment

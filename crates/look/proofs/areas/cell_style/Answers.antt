@@ -1,6 +1,6 @@
 use Rattle.look.specs.Look.{PVCell_style_name, AreaColor}
 use Rattle.look.specs.Values.{area_color}
-use Rattle.look.proofs.Exits.{after}
+use Rattle.fields.specs.Laws.Exits.{after}
 use Rattle.look.proofs.areas.cell_style.Goals as goal
 
 pub returns : goal.returns

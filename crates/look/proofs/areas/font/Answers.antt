@@ -2,7 +2,7 @@ use mir.Syntax.{w32}
 use mir.ValLaws.{to_z-of_z}
 use Rattle.layout.specs.Steps.Chain.{◌◂◌}
 use Rattle.fields.specs.Laws.Gives.{◌⟩◌}
-use Rattle.look.proofs.Exits.{begins, exit}
+use Rattle.fields.specs.Laws.Exits.{begins, exit}
 use Rattle.look.proofs.areas.font.Goals as goal
 
 pub returns-in_err-font_size : goal.returns-in_err-font_size

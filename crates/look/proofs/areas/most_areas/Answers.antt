@@ -1,5 +1,5 @@
 use Rattle.fields.specs.Laws.Gives.{more_gives, none_gives}
-use Rattle.look.proofs.Exits.{whole, exit, stopped, again}
+use Rattle.fields.specs.Laws.Exits.{whole, exit, stopped, again}
 use Rattle.look.proofs.areas.most_areas.Goals as goal
 
 pub returns-in_err-layers : goal.returns-in_err-layers

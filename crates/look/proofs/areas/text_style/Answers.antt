@@ -1,6 +1,6 @@
 use Rattle.layout.specs.Steps.Chain.{◌◂◌}
 use Rattle.fields.specs.Laws.Gives.{◌⟩◌}
-use Rattle.look.proofs.Exits.{begins, exit}
+use Rattle.fields.specs.Laws.Exits.{begins, exit}
 use Rattle.look.specs.Look.{PVText_style_name}
 use Rattle.look.proofs.areas.text_style.Goals as goal
 

@@ -1,5 +1,5 @@
 use Rattle.std.proofs.Common.{◌≡◌, length, rules}
-use Rattle.look.proofs.Exits.{whole, exit}
+use Rattle.fields.specs.Laws.Exits.{whole, exit}
 use Rattle.look.proofs.Separators.{eleven_placed}
 use Rattle.look.proofs.borders.frames.Goals as goal
 

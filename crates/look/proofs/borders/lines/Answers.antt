@@ -1,5 +1,5 @@
 use Rattle.std.proofs.Common.{◌≡◌, length, rules}
-use Rattle.look.proofs.Exits.{whole, exit}
+use Rattle.fields.specs.Laws.Exits.{whole, exit}
 use Rattle.look.proofs.Separators.{four_placed}
 use Rattle.look.proofs.borders.lines.Goals as goal
 

@@ -5,7 +5,7 @@ use Rattle.layout.specs.Steps.Numbers.{switch_of, switch_key}
 use Rattle.fields.specs.Laws.Shows.{peeked}
 use Rattle.fields.specs.Laws.Gives.{first_of_two, switch_known, ◌⟩◌}
 use Rattle.look.specs.Look as grammar
-use Rattle.look.proofs.Exits.{whole, more, early, exit}
+use Rattle.fields.specs.Laws.Exits.{whole, more, early, exit}
 use Rattle.look.proofs.borders.separator.Goals as goal
 
 pub returns-in_err-st : goal.returns-in_err-st

@@ -2,7 +2,7 @@ use Rattle.layout.specs.Steps.Chain.{◌◂◌}
 use Rattle.layout.specs.Steps.Numbers.{tested_of}
 use Rattle.fields.specs.Laws.Gives.{◌⟩◌}
 use Rattle.look.specs.Look.{PTTable_look_name}
-use Rattle.look.proofs.Exits.{whole, more, early, exit_shows}
+use Rattle.fields.specs.Laws.Exits.{whole, more, early, exit_shows}
 use Rattle.look.proofs.Versions.{look_shows, look_refused}
 use Rattle.look.proofs.read.table_look.Goals as goal
 

@@ -19,9 +19,9 @@ pub finish-requires : goal.finish-requires
 finish-requires c =
     let a = c.args in
     let g = c.grid_of-g.result in
-    (c.requires.0, rows_fit a.n a.area.now c.clear.ensures c.requires.1 (λ j. sums (under_by g.block g.step j) (records_say a.member.now g.version a.records.now 0 g.cells)) c.scatter_all.ensures)
+    (c.requires.0, rows_fit a.n a.area.now c.clear.ensures c.requires.1 (λ j. sums (under_by g.block g.step j) (records_say a.x.member.now g.version a.x.cell_list.now 0 g.cells)) c.scatter_all.ensures)
 
 pub returns : goal.returns
 returns c =
     let a = c.args in
-    filled_rows a.n a.area.now c.clear.ensures a.member.now a.a a.records.now a.dimension c.grid_of-g.ensures.0 c.scatter_all.ensures c.finish.ensures
+    filled_rows a.n a.area.now c.clear.ensures a.x.member.now a.x.answer.now a.x.cell_list.now a.dimension c.grid_of-g.ensures.0 c.scatter_all.ensures c.finish.ensures

@@ -1,5 +1,4 @@
 use Rattle.std.proofs.Common.{eq-eqb, ne_eqb}
-use native.Mathlib.Omega.{arith}
 use Rattle.sizes.specs.Basics.{pick}
 use Rattle.total.proofs.sums.least.Goals as goal
 

@@ -35,8 +35,8 @@ loop-i-preserved-then-is_under c =
     let l = c.loop-i in
     let a = c.args in
     before_others a.member.now a.version a.words.now _ l.i a.m (omega arith) l.auto.i l.invariant
-          (cell_added (under_by a.block a.step a.leaf) (record_says a.member.now a.version a.words.now (l.i - 1)) l.s (c.is_under.ensures ∙ rw c.word.ensures) c.if-is_under.true
-          (c.add-s.ensures ∙ rw (c.kind_at-k.ensures, c.word-then-is_under.ensures)))
+    (cell_added (under_by a.block a.step a.leaf) (record_says a.member.now a.version a.words.now (l.i - 1)) l.s (c.is_under.ensures ∙ rw c.word.ensures) c.if-is_under.true
+    (c.add-s.ensures ∙ rw (c.kind_at-k.ensures, c.word-then-is_under.ensures)))
 
 pub loop-i-preserved : goal.loop-i-preserved
 unfolding sums records_say
@@ -44,7 +44,7 @@ loop-i-preserved c =
     let l = c.loop-i in
     let a = c.args in
     before_others a.member.now a.version a.words.now _ l.i a.m (omega arith) l.auto.i l.invariant
-          (cell_left (under_by a.block a.step a.leaf) (record_says a.member.now a.version a.words.now (l.i - 1)) l.s (c.is_under.ensures ∙ rw c.word.ensures) c.if-is_under.false)
+    (cell_left (under_by a.block a.step a.leaf) (record_says a.member.now a.version a.words.now (l.i - 1)) l.s (c.is_under.ensures ∙ rw c.word.ensures) c.if-is_under.false)
 
 pub returns : goal.returns
 unfolding sums records_say
