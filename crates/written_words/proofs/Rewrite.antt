@@ -1,68 +1,71 @@
 -- A call that read a look and wrote it again, by what the reader and the writer gave.
 use mathlib.Core.Path.{◌≡◌, refl}
 use mathlib.Core.Bool.{true, false}
-use mathlib.Core.List.{List, [], ◌∷◌}
+use mathlib.Core.List.{List}
 use Prim.Native.Nat.{ℕ, ◌≤◌}
 use native.Mathlib.Omega.{arith}
 use lib.ListN.{length}
 use lib.Dec.{leb}
 use Rattle.sizes.specs.Sizes.{longest_look, write_answer_words}
-use Rattle.layout.specs.Step.{Step}
 use Rattle.std.specs.Prelude.{Ok, Err}
 use Rattle.sizes.specs.Basics.{pick}
 use Rattle.grammar.specs.Layout.{Bytes}
-use Rattle.layout.specs.Words.{word32}
 use Rattle.layout.specs.Laws.Words.{word_same}
 use Rattle.grammar.specs.Laws.Layout.Read.{read}
 use Rattle.store.specs.Check.{place_of}
-use Rattle.store.specs.Puts.{PutsWordsTo}
-use Rattle.store.specs.Laws.Puts.{with_room, without_room}
+use Rattle.store.specs.Puts.{AtFront}
+use Rattle.store.specs.Laws.Puts.{without_room}
 use Rattle.look.specs.declared.Look.{Look}
 use Rattle.look.specs.Read.{Answer}
 use Rattle.look.specs.Look.{TableLook}
 use Rattle.look.specs.Answers.{outcome, expected}
 use Rattle.store.specs.Written.{Written}
-use Rattle.store.specs.Deliver.{output, answer as written}
+use Rattle.store.specs.Deliver.{output}
 use Rattle.look_write.specs.Writing.{Wrote}
 use Rattle.look_write.specs.Laws.Calls.{reach_within}
-use Rattle.look_words.specs.Laws.Theorems.{place_same}
-use Rattle.written_words.specs.Looks.{rewriting, rewritten, step_words, Rewritten}
+use Rattle.look.specs.Laws.RefusedExactly.{refused_exactly, place_within}
+use Rattle.written_words.specs.Encodings.{answer_words}
+use Rattle.written_words.specs.Looks.{rewriting, step_words, Rewrote, Rewritten}
 
-pub three : (st : Step) → length (step_words st) ≡ write_answer_words
-three (Ok n) = refl
-three (Err (n, p)) = refl
-
--- the words that the code stores of what was written
-abbrev pub stored : Written → List ℕ
-stored (Ok n) = 0 ∷ 0 ∷ word32 n ∷ []
-stored (Err (n, p)) = n ∷ word32 p ∷ 0 ∷ []
-
-pub stored_same : (v : Written) → place_of (written v) ≤ longest_look → stored v ≡ step_words (written v)
+-- a place and a length that a look reaches lose no bit
+pub stored_same : (v : Written) → place_of v ≤ longest_look → answer_words v ≡ step_words v
 stored_same (Ok n) h = rw (word_same n (omega arith))
 stored_same (Err (n, p)) h = rw (word_same p (omega arith))
 
+-- a refusal of the reader
+pub handed_on : {a : Answer} {n p : ℕ} (s out : List ℕ) → a ≡ Err (n, p) → Rewrote a s out (Err (n, p)) out
+unfolding output
+handed_on s out i = record {
+  answers = rw i;
+  holds = rw i;
+  reach = λ x j. absurd (let z : ◌≡◌ {A = ℕ} 0 1 = cc in omega arith);
+}
+
+pub wrote : {a : Answer} {x : Look} {s out : List ℕ} {v : Written} {out' : List ℕ} → a ≡ Ok x → Wrote x s out v out' → Rewrote a s out v out'
+wrote {a} {x} {s} {out} {v} {out'} i call = record {
+  answers = rw i call.0;
+  holds = rw i call.1;
+  reach = λ y j. reach_within x s out v out' call;
+}
+
 module _ (s : List ℕ) (bs : Bytes s) (out answer : List ℕ) (a : Answer) (e : outcome a ≡ expected (read TableLook s 0)) where
-  done : {out' answer' : List ℕ} {r : Step} → leb write_answer_words (length answer) ≡ true → out' ≡ output (rewriting a s (length out)) (rewritten a s) out
-      → PutsWordsTo (step_words (rewriting a s (length out))) answer (Ok 0) answer' r → Rewritten s out answer write_answer_words out' answer'
+  reach : {v : Written} {out' : List ℕ} → Rewrote a s out v out' → place_of v ≤ longest_look
+  reach {v} call = go a refl
+    where
+      go : (c : Answer) → a ≡ c → place_of v ≤ longest_look
+      go (Ok x) i = call.reach x i
+      go (Err (n, p)) i = rw (call.answers, i) (place_within ((refused_exactly s bs a e n p).0 i))
+
+  pub done : {v : Written} {n : ℕ} {out' answer' : List ℕ} → leb write_answer_words (length answer) ≡ true → Rewrote a s out v out'
+      → AtFront write_answer_words (answer_words v) answer n answer' → Rewritten s out answer n out' answer'
   unfolding pick
-  done t o x =
-      let st = rewriting a s (length out) in
-      record { look = a; is_read = e; bytes = bs; words = with_room write_answer_words (step_words st) answer (three st) t x; out_area = rw t o }
-
-  pub not_read : {n p : ℕ} {answer' : List ℕ} {r : Step} → a ≡ Err (n, p) → leb write_answer_words (length answer) ≡ true
-      → PutsWordsTo (n ∷ word32 p ∷ 0 ∷ []) answer (Ok 0) answer' r → Rewritten s out answer write_answer_words out answer'
-  unfolding output
-  not_read {n} {p} {answer'} {r} i t x =
-      let same : word32 p ≡ p = place_same s bs {n = n} {p = p} (rw i at e) in
-      let y : PutsWordsTo (n ∷ p ∷ 0 ∷ []) answer (Ok 0) answer' r = rw same at x in
-      done {r = r} t (rw i) (rw i y)
-
-  pub wrote : {x : Look} {w v : Written} {out' answer' : List ℕ} {r : Step} → a ≡ Ok x → w ≡ v → Wrote x s out w out'
-      → leb write_answer_words (length answer) ≡ true → PutsWordsTo (stored v) answer (Ok 0) answer' r → Rewritten s out answer write_answer_words out' answer'
-  wrote {x} {w} {v} {out'} {answer'} {r} i k call t y =
-      let far : place_of (written v) ≤ longest_look = rw k at (reach_within x s out w out' call) in
-      let y' : PutsWordsTo (step_words (written v)) answer (Ok 0) answer' r = rw (stored_same v far) at y in
-      done {r = r} t (rw i call.1) (rw (i, ← call.0, k) y')
+  done {v} t call x = record {
+    look = a;
+    is_read = e;
+    bytes = bs;
+    words = rw (stored_same v (reach call), call.answers) at x;
+    out_area = rw t call.holds;
+  }
 
   pub not_asked : leb write_answer_words (length answer) ≡ false → Rewritten s out answer 0 out answer
   unfolding pick

@@ -2,33 +2,24 @@
 use mathlib.Core.Path.{◌≡◌, refl, sym, ◌∙◌}
 use mathlib.Core.Bool.{true, false, false≢true}
 use mathlib.Core.List.{List}
-use Prim.Native.Nat.{ℕ, ◌≤◌}
+use Prim.Native.Nat.{ℕ}
 use lib.ListN.{length}
 use lib.Dec.{leb}
-use Rattle.sizes.specs.Sizes.{longest_look, write_answer_words}
-use Rattle.layout.specs.Step.{Step}
-use Rattle.std.specs.Prelude.{Ok, Err}
+use Rattle.sizes.specs.Sizes.{write_answer_words}
 use Rattle.store.specs.Written.{Written}
-use Rattle.store.specs.Check.{place_of}
-use Rattle.store.specs.Puts.{PutsWordsTo}
-use Rattle.store.specs.Deliver as store
-use Rattle.store.specs.Laws.Puts.{with_room}
+use Rattle.store.specs.Puts.{AtFront}
 use Rattle.look_sections.specs.Writing.{Wrote}
 use Rattle.look_sections.proofs.Laws.Calls.{reach_within}
-use Rattle.written_words.specs.Looks.{step_words}
+use Rattle.written_words.specs.Encodings.{answer_words}
 use Rattle.written_words.specs.Sections.{Sectioned}
-use Rattle.written_words.proofs.Rewrite.{stored, stored_same, three}
+use Rattle.written_words.proofs.Rewrite.{stored_same}
 
-pub sectioned : {s out answer : List ℕ} {w v : Written} {out' answer' : List ℕ} {r : Step} → leb write_answer_words (length answer) ≡ true → w ≡ v → Wrote s out w out'
-    → PutsWordsTo (stored v) answer (Ok 0) answer' r → Sectioned s out answer write_answer_words out' answer'
-sectioned {answer = answer} {w} {v} {answer' = answer'} {r} t k call x =
-    let far : place_of (store.answer v) ≤ longest_look = rw k at (reach_within call) in
-    let y : PutsWordsTo (step_words (store.answer v)) answer (Ok 0) answer' r = rw (stored_same v far) at x in
-    let z : PutsWordsTo (step_words (store.answer w)) answer (Ok 0) answer' r = rw k y in
-    record {
-      asked = λ _. record { written = w; wrote = call; words = with_room write_answer_words (step_words (store.answer w)) answer (three (store.answer w)) t z };
-      not_asked = λ f. absurd (false≢true (sym f ∙ t));
-    }
+pub sectioned : {s out answer : List ℕ} {v : Written} {n : ℕ} {out' answer' : List ℕ} → leb write_answer_words (length answer) ≡ true → Wrote s out v out'
+    → AtFront write_answer_words (answer_words v) answer n answer' → Sectioned s out answer n out' answer'
+sectioned {v = v} t call x = record {
+  asked = λ _. record { written = v; wrote = call; words = rw (stored_same v (reach_within call)) at x };
+  not_asked = λ f. absurd (false≢true (sym f ∙ t));
+}
 
 pub not_sectioned : {s out answer : List ℕ} → leb write_answer_words (length answer) ≡ false → Sectioned s out answer 0 out answer
 not_sectioned f = record { asked = λ t. absurd (false≢true (sym f ∙ t)); not_asked = λ _. (refl, refl, refl) }

@@ -1,12 +1,15 @@
 -- A look that is read and written again, as 32-bit words in a lent area.
-use Rattle.std.specs.Prelude.{◌≡◌, List, [], ◌∷◌, ℕ, length, leb}
-use Rattle.sizes.specs.Sizes.{write_answer_words}
+use Rattle.std.specs.Prelude.{◌≡◌, List, [], ◌∷◌, ℕ, ◌≤◌, length, leb}
+use Rattle.sizes.specs.Sizes.{longest_look, write_answer_words}
 use Rattle.layout.specs.Step.{Step}
 use Rattle.std.specs.Prelude.{Ok, Err}
 use Rattle.sizes.specs.Basics.{pick}
 use Rattle.grammar.specs.Layout.{Bytes}
 use Rattle.grammar.specs.Laws.Layout.Read.{read}
+use Rattle.store.specs.Written.{Written}
+use Rattle.store.specs.Check.{place_of}
 use Rattle.store.specs.Puts.{AtFront}
+use Rattle.look.specs.declared.Look.{Look}
 use Rattle.look.specs.Read.{Answer as LookAnswer}
 use Rattle.look.specs.Look.{TableLook}
 use Rattle.look.specs.Answers.{outcome as lookOutcome, expected}
@@ -27,6 +30,13 @@ rewritten (Err (n, p)) s = []
 abbrev pub step_words : Step → List ℕ
 step_words (Ok n) = 0 ∷ 0 ∷ n ∷ []
 step_words (Err (n, p)) = n ∷ p ∷ 0 ∷ []
+
+-- what writing the look of an answer gave, r, and left in the output
+pub record Rewrote (a : LookAnswer) (s out : List ℕ) (r : Written) (out' : List ℕ) : Type 0 where
+  pub answers : r ≡ rewriting a s (length out)
+  pub holds : out' ≡ output (rewriting a s (length out)) (rewritten a s) out
+  -- the place of a refusal, and the length, of a look that was read
+  pub reach : (x : Look) → a ≡ Ok x → place_of r ≤ longest_look
 
 -- a call of `digarumbi_rewrite_look`, which gave n
 pub record Rewritten (s out answer : List ℕ) (n : ℕ) (out' answer' : List ℕ) : Type 0 where

@@ -3,11 +3,14 @@
 
 pub mod text; // text in old code pages
 
-ghost use Rattle.std.specs.Prelude.{[], ◌∷◌};
+ghost use Rattle.std.specs.Prelude.{[], ◌∷◌, ◌≤◌, length};
 ghost use Rattle.std.specs.Prelude.{Ok, Err};
+ghost use Rattle.refusals.specs.Numbers.{by_number};
+ghost use Rattle.sizes.specs.Sizes.{write_answer_words};
 ghost use Rattle.layout.specs.Words.{word32};
-ghost use Rattle.store.specs.Puts.{PutsWords};
-ghost use Rattle.written_words.specs.Looks.{Rewritten};
+ghost use Rattle.store.specs.Puts.{PutsWords, AtFront};
+ghost use Rattle.written_words.specs.Encodings.{answer_words};
+ghost use Rattle.written_words.specs.Looks.{Rewrote, Rewritten};
 ghost use Rattle.written_words.specs.Sections.{Sectioned};
 
 use layout::Step;
@@ -34,27 +37,34 @@ fn step_words(out: &mut [u32], refusal: u32, place: usize, length: usize) -> Ste
     )
 }
 
+// The three words of what was written, and how many they are.
+fn answer_words(answer: &mut [u32], written: Written) -> usize
+    requires { write_answer_words ≤ length answer.old }
+    ensures { AtFront write_answer_words (answer_words (by_number written)) answer.old result answer.new }
+{
+    let _ = match written {
+        Ok(length) => step_words(answer, 0, 0, length),
+        Err(refusal) => step_words(answer, refusal.reason.number(), refusal.place, 0),
+    };
+    WRITE_ANSWER_WORDS
+}
+
+// Writes a look that was read; a refusal of the reader is handed on.
+fn write_again(look: Answer, file: &[u8], out: &mut [u8]) -> Written
+    ensures { Rewrote (by_number look) file.now out.old (by_number result) out.new }
+{
+    write_look(look?, file, out)
+}
+
 // Reads a look and writes it again: see `digarumbi_rewrite_look` of `api`.
 pub fn rewrite_answer(file: &[u8], out: &mut [u8], answer: &mut [u32]) -> usize
     ensures { Rewritten file.now out.old answer.old result out.new answer.new }
 {
+    // read before the area is tested: of a shorter one too `Rewritten` says what reading the file answers
     let got = read_look(file);
     let room = WRITE_ANSWER_WORDS <= answer.len();
     if room {
-        match got {
-            Err(refusal) => {
-                step_words(answer, n, p, 0);
-            }
-            Ok(look) => match write_look(look, file, out) {
-                Err(refusal) => {
-                    step_words(answer, n, p, 0);
-                }
-                Ok(n) => {
-                    step_words(answer, 0, 0, n);
-                }
-            },
-        }
-        WRITE_ANSWER_WORDS
+        answer_words(answer, write_again(got, file, out))
     } else {
         0
     }
@@ -66,15 +76,7 @@ pub fn sections_answer(file: &[u8], out: &mut [u8], answer: &mut [u32]) -> usize
 {
     let asked = WRITE_ANSWER_WORDS <= answer.len();
     if asked {
-        match look_sections(file, out) {
-            Err(refusal) => {
-                step_words(answer, n, p, 0);
-            }
-            Ok(length) => {
-                step_words(answer, 0, 0, length);
-            }
-        }
-        WRITE_ANSWER_WORDS
+        answer_words(answer, look_sections(file, out))
     } else {
         0
     }

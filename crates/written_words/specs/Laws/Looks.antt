@@ -8,7 +8,7 @@ use Rattle.grammar.specs.Layout.{Tree, Derivation}
 use Rattle.grammar.specs.Laws.Layout.Read.{read}
 use Rattle.look.specs.declared.Look.{Look}
 use Rattle.look.specs.Read.{Answer as LookAnswer}
-use Rattle.std.specs.Prelude.{Ok, Err}
+use Rattle.std.specs.Prelude.{Ok}
 use Rattle.look.specs.Look.{TableLook}
 use Rattle.look.specs.Answers.{outcome, expected}
 use Rattle.store.specs.Deliver.{output}
