@@ -33,6 +33,5 @@ fn rewrite(rt: &impl Print, file: &[u8]) -> io::Result<()> {
 fn main(rt: HostRuntime) -> io::Result<()> {
     let mut buf = [0u8; input::SMALL];
     let got = input::read(&mut rt.stdin(), &mut buf)?;
-    let n = got.bytes;
-    rewrite(&rt, &buf[..n])
+    rewrite(&rt, &buf[..got.bytes])
 }

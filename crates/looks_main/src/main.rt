@@ -153,8 +153,7 @@ fn one(rt: &(impl Files + Print + Eprint), path: &[u8]) -> io::Result<()> {
     };
     text(rt, path)?;
     text(rt, b": ")?;
-    let n = got.bytes;
-    report(rt, &buf[..n])
+    report(rt, &buf[..got.bytes])
 }
 
 fn main(rt: HostRuntime) -> io::Result<()> {

@@ -155,13 +155,13 @@ pub fn read_into(member: &[u8], node_list: &mut [u32], cell_list: &mut [u32]) ->
     ensures { Stored node_list.old cell_list.old (into_lists member.now (length node_list.old) (length cell_list.old)) result node_list.new cell_list.new }
 {
     if MEMBER_BYTES < member.len() {
-        return refused(1, 0, 0, 0);
+        return refused(Reason::TooLong.number(), 0, 0, 0);
     }
     if node_list.len() < most_node_words(member.len()) {
-        return refused(12, 0, 0, 0);
+        return refused(Reason::NodeArea.number(), 0, 0, 0);
     }
     if cell_list.len() < most_cell_words(member.len()) {
-        return refused(13, 0, 0, 0);
+        return refused(Reason::CellArea.number(), 0, 0, 0);
     }
     read_ready(member, node_list, cell_list)
 }

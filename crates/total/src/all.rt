@@ -13,6 +13,7 @@ use crate::rows::fill;
 use answer::Answer;
 use member::read_into;
 use once::word;
+use refusals::Reason;
 use sizes::{CELL_WORDS, DIMENSION_N, DIMENSION_WORDS, LEAF_TOTAL_WORDS, NODE_WORDS};
 
 pub fn refused_all(n: u32, p: usize, nodes: u32, cells: u32, leaves: u32) -> DimensionTotals
@@ -32,14 +33,14 @@ fn dimension_answer(a: &Answer, dimension: u32, room: usize) -> DimensionTotals
     ensures { result ≡ laws.dimension_of a.now dimension room }
 {
     if a.dims <= dimension {
-        return refused_all(19, 0, 0, 0, 0);
+        return refused_all(Reason::NoSuchLeaf.number(), 0, 0, 0, 0);
     }
     let n = word(
         &a.dimensions,
         DIMENSION_WORDS * dimension as usize + DIMENSION_N,
     );
     if room < LEAF_TOTAL_WORDS * n as usize {
-        return refused_all(15, 0, 0, 0, n);
+        return refused_all(Reason::OutputTooShort.number(), 0, 0, 0, n);
     }
     refused_all(0, 0, a.nodes, a.cells, n)
 }
@@ -55,10 +56,10 @@ fn fitting_all(
     ensures { result ≡ laws.fitting_all a.now dimension room node_room cell_room }
 {
     if node_room < NODE_WORDS * a.nodes as usize {
-        return refused_all(12, 0, a.nodes, a.cells, 0);
+        return refused_all(Reason::NodeArea.number(), 0, a.nodes, a.cells, 0);
     }
     if cell_room < CELL_WORDS * a.cells as usize {
-        return refused_all(13, 0, a.nodes, a.cells, 0);
+        return refused_all(Reason::CellArea.number(), 0, a.nodes, a.cells, 0);
     }
     dimension_answer(a, dimension, room)
 }

@@ -10,6 +10,7 @@ use crate::LeafTotal;
 use crate::accepted::Accepted;
 use crate::leaf::{leaf_answer, refused};
 use member::read_into;
+use refusals::Reason;
 use sizes::{CELL_WORDS, NODE_WORDS};
 
 // The records of an accepted member, over the first words of areas that have room for them.
@@ -29,10 +30,10 @@ fn fitting(x: Accepted, dimension: u32, leaf: u32, node_room: usize, cell_room: 
 {
     let a = x.answer;
     if node_room < NODE_WORDS * a.nodes as usize {
-        return refused(12, 0, a.nodes, a.cells);
+        return refused(Reason::NodeArea.number(), 0, a.nodes, a.cells);
     }
     if cell_room < CELL_WORDS * a.cells as usize {
-        return refused(13, 0, a.nodes, a.cells);
+        return refused(Reason::CellArea.number(), 0, a.nodes, a.cells);
     }
     leaf_answer(x, dimension, leaf)
 }

@@ -8,6 +8,7 @@ use crate::accepted::Accepted;
 use crate::sums::Sums;
 use crate::under::sums_under;
 use grid::{grid_of, is_there};
+use refusals::Reason;
 
 pub fn refused(n: u32, p: usize, nodes: u32, cells: u32) -> LeafTotal
     ensures { result ≡ spec.refused n p nodes cells }
@@ -30,7 +31,7 @@ pub fn answered(nodes: u32, cells: u32, s: Sums) -> LeafTotal
     ensures { result ≡ spec.answered nodes cells s }
 {
     match s.bad {
-        Some(place) => refused(20, place as usize, 0, 0),
+        Some(place) => refused(Reason::NoCount.number(), place as usize, 0, 0),
         None => LeafTotal {
             refusal: 0,
             place: 0,
@@ -71,6 +72,6 @@ pub fn leaf_answer(x: Accepted, dimension: u32, leaf: u32) -> LeafTotal
         let s = leaf_sums(x, dimension, leaf);
         answered(a.nodes, a.cells, s)
     } else {
-        refused(19, 0, 0, 0)
+        refused(Reason::NoSuchLeaf.number(), 0, 0, 0)
     }
 }

@@ -4,8 +4,8 @@
 #![tactic(auto)]
 
 use contents::{Argument, Contents, RawValue};
-use layout::number::{any, peek};
 use layout::LITTLE;
+use layout::number::{any, peek};
 use refusals::Refusal;
 use regions::region::{bytes, part};
 use std::io;

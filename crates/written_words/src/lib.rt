@@ -60,6 +60,7 @@ fn write_again(look: Answer, file: &[u8], out: &mut [u8]) -> Written
 pub fn rewrite_answer(file: &[u8], out: &mut [u8], answer: &mut [u32]) -> usize
     ensures { Rewritten file.now out.old answer.old result out.new answer.new }
 {
+    // read before the area is tested: of a shorter one too `Rewritten` says what reading the file answers
     let got = read_look(file);
     let room = WRITE_ANSWER_WORDS <= answer.len();
     if room {

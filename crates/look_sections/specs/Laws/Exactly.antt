@@ -101,7 +101,7 @@ module _ (s : List ℕ) (h : Bytes s) (room : ℕ) where
       where
         go : {c : Step} → Answers c → c ≡ Err (n, p) → Refused s room n p
         go (can m x j) e = absurd (let z : ◌≡◌ {A = ℕ} 0 1 = cc in omega arith)
-        go (can_not {n = m} {p = q} u) e = let a = same_refusal e in rw (← a.0, ← a.1) u
+        go (can_not {n = m} {p = q} u) e = let same : (m ≡ n) × (q ≡ p) = same_refusal e in rw (← same.0, ← same.1) u
 
     pub written_exactly : (n : ℕ) → (sectioning a s room ≡ Ok n) ↔ ((c : Allowed s room) × (n ≡ length (sections c.says.look s)))
     written_exactly n = (λ e. go (answers a i) e, λ c. allowed_so c.0 a i ∙ ap Ok (sym c.1))

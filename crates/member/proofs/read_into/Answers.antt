@@ -13,21 +13,21 @@ returns-then-member-gt-MEMBER_BYTES c =
     let a = c.args in
     let k = length a.node_list.now in
     let m = length a.cell_list.now in
-    rw c.refused.ensures (none_stored (into_lists a.member.now k m) (too_long node_record_sizes a.member.now 0 k _ (omega arith)) refl refl)
+    rw (c.refused.ensures, c.number.ensures) (none_stored (into_lists a.member.now k m) (too_long node_record_sizes a.member.now 0 k _ (omega arith)) refl refl)
 
 pub returns-then-node_list-most_node_words : goal.returns-then-node_list-most_node_words
 returns-then-node_list-most_node_words c =
     let a = c.args in
     let k = length a.node_list.now in
     let m = length a.cell_list.now in
-    rw c.refused-then-node_list-most_node_words.ensures (none_stored (into_lists a.member.now k m) (too_short node_record_sizes a.member.now 0 k _ (omega arith) (omega (arith, c.most_node_words.ensures))) refl refl)
+    rw (c.refused-then-node_list-most_node_words.ensures, c.number-then-node_list-most_node_words.ensures) (none_stored (into_lists a.member.now k m) (too_short node_record_sizes a.member.now 0 k _ (omega arith) (omega (arith, c.most_node_words.ensures))) refl refl)
 
 pub returns-then-cell_list-most_cell_words : goal.returns-then-cell_list-most_cell_words
 returns-then-cell_list-most_cell_words c =
     let a = c.args in
     let k = length a.node_list.now in
     let m = length a.cell_list.now in
-    rw c.refused-then-cell_list-most_cell_words.ensures (none_stored (into_lists a.member.now k m)
+    rw (c.refused-then-cell_list-most_cell_words.ensures, c.number-then-cell_list-most_cell_words.ensures) (none_stored (into_lists a.member.now k m)
     (is_within node_record_sizes a.member.now 0 k _ (omega arith) (omega (arith, c.most_node_words.ensures)) ∙ too_short cell_record_sizes a.member.now 0 m _ (omega arith) (omega (arith, c.most_cell_words.ensures))) refl refl)
 
 pub returns : goal.returns
