@@ -52,15 +52,7 @@ fn leaf_sums(x: Accepted, dimension: u32, leaf: u32) -> Sums
     ensures { result ≡ words.word_sums x.entry.member.now x.entry.answer.now x.entry.cell_list.now dimension leaf }
 {
     let g = grid_of(x.member, x.answer, dimension);
-    sums_under(
-        x.member,
-        g.version,
-        x.cell_list,
-        g.cells,
-        g.block,
-        g.step,
-        leaf,
-    )
+    sums_under(x, g, leaf)
 }
 
 // What is answered for a leaf of an accepted member.

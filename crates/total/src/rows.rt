@@ -13,7 +13,7 @@ use crate::leaf::answered;
 use crate::sums::{Sums, add};
 use crate::under::{coordinate, kind_at, no_sums};
 use crate::words::bits;
-use grid::grid_of;
+use grid::{Grid, grid_of};
 use once::word;
 use sizes::{CELL_WORDS, LEAF_TOTAL_WORDS};
 
@@ -146,21 +146,20 @@ fn scatter(
     }
 }
 
-// The cells of m records into the rows of n leaves, in which nothing was added yet.
-fn scatter_all(
-    member: &[u8],
-    version: u64,
-    words: &[u32],
-    m: usize,
-    block: u64,
-    step: u64,
-    n: usize,
-    area: &mut [u32],
-)
-    requires { (m ≤ 2 ^ 31) × (n < 2 ^ 32) × (leaf_total_words * n ≤ length area.old) × (area.old ≡ laws.no_sum_words n ++ drop (leaf_total_words * n) area.old) }
-    ensures { area.new ≡ laws.all_sums block step (words_spec.records_say member.now version words.now 0 m) n ++ drop (leaf_total_words * n) area.old }
+// The cells of a member into the rows of n leaves, in which nothing was added yet.
+fn scatter_all(x: Accepted, g: Grid, n: usize, area: &mut [u32])
+    requires { (g.cells ≤ 2 ^ 31) × (n < 2 ^ 32) × (leaf_total_words * n ≤ length area.old) × (area.old ≡ laws.no_sum_words n ++ drop (leaf_total_words * n) area.old) }
+    ensures { area.new ≡ laws.all_sums g.block g.step (words_spec.records_say x.entry.member.now g.version x.entry.cell_list.now 0 g.cells) n ++ drop (leaf_total_words * n) area.old }
 {
-    for i in (0..m).rev() {
+    let member = x.member;
+    let words = x.cell_list;
+    let Grid {
+        version,
+        block,
+        step,
+        cells,
+    } = g;
+    for i in (0..cells).rev() {
         scatter(member, version, words, i, block, step, n, area);
     }
 }
@@ -183,15 +182,6 @@ pub fn fill(x: Accepted, dimension: u32, n: usize, area: &mut [u32])
 {
     let g = grid_of(x.member, x.answer, dimension);
     clear(area, n);
-    scatter_all(
-        x.member,
-        g.version,
-        x.cell_list,
-        g.cells,
-        g.block,
-        g.step,
-        n,
-        area,
-    );
+    scatter_all(x, g, n, area);
     finish(area, n, x.answer.nodes, x.answer.cells);
 }

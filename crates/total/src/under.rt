@@ -3,9 +3,11 @@ ghost use Rattle.std.specs.Prelude.{◌≡◌, ◌+◌, ◌/◌, ◌%◌, ◌^�
 ghost use Rattle.total.specs.Total as spec;
 ghost use Rattle.total.specs.Laws.Words as words_spec;
 
+use crate::accepted::Accepted;
 use crate::sums::{Sums, add};
 use contents::read_figure;
 use counts::{Kind, kind_of};
+use grid::Grid;
 use index::{quotient, remainder};
 use member::part;
 use once::word;
@@ -53,22 +55,22 @@ pub fn no_sums() -> Sums
     }
 }
 
-// The sums of the cells under a leaf, of m records. Those of other leaves are not touched: sums that are handed over and back are copied
+// The sums of the cells under a leaf. Those of other leaves are not touched: sums that are handed over and back are copied
 // for each of them.
-pub fn sums_under(
-    member: &[u8],
-    version: u64,
-    words: &[u32],
-    m: usize,
-    block: u64,
-    step: u64,
-    leaf: u32,
-) -> Sums
-    requires { m ≤ 2 ^ 31 }
-    ensures { result ≡ spec.sums (words_spec.under_by block step leaf) (words_spec.records_say member.now version words.now 0 m) }
+pub fn sums_under(x: Accepted, g: Grid, leaf: u32) -> Sums
+    requires { g.cells ≤ 2 ^ 31 }
+    ensures { result ≡ spec.sums (words_spec.under_by g.block g.step leaf) (words_spec.records_say x.entry.member.now g.version x.entry.cell_list.now 0 g.cells) }
 {
+    let member = x.member;
+    let words = x.cell_list;
+    let Grid {
+        version,
+        block,
+        step,
+        cells,
+    } = g;
     let mut s = no_sums();
-    for i in (0..m).rev() {
+    for i in (0..cells).rev() {
         let at = CELL_WORDS * i;
         if is_under(word(words, at), block, step, leaf) {
             let k = kind_at(member, version, words, i);

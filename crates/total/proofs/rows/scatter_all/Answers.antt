@@ -12,7 +12,7 @@ use Rattle.total.proofs.rows.scatter_all.Goals as goal
 pub loop-i-init : goal.loop-i-init
 loop-i-init c =
     let a = c.args in
-    none_scattered a.member.now a.version a.words.now a.block a.step a.n (drop (leaf_total_words * a.n) a.area.now) a.m c.requires.3
+    none_scattered a.x.member.now a.g.version a.x.cell_list.now a.g.block a.g.step a.n (drop (leaf_total_words * a.n) a.area.now) a.g.cells c.requires.3
 
 pub scatter-requires : goal.scatter-requires
 scatter-requires c =
@@ -20,20 +20,20 @@ scatter-requires c =
     let a = c.args in
     let rest = drop (leaf_total_words * a.n) a.area.now in
     let same : length l.area ≡ length a.area.now =
-    rw l.invariant (kept_length (λ j. sums (under_by a.block a.step j) (records_say a.member.now a.version a.words.now l.i (a.m - l.i))) a.n a.area.now c.requires.2) in
-    (omega (arith, c.requires), c.requires.1, omega (arith, c.requires.2, same), has_room a.member.now a.version a.words.now a.block a.step a.n rest l.i (a.m - l.i) (omega (arith, c.requires.0)) l.invariant)
+    rw l.invariant (kept_length (λ j. sums (under_by a.g.block a.g.step j) (records_say a.x.member.now a.g.version a.x.cell_list.now l.i (a.g.cells - l.i))) a.n a.area.now c.requires.2) in
+    (omega (arith, c.requires), c.requires.1, omega (arith, c.requires.2, same), has_room a.x.member.now a.g.version a.x.cell_list.now a.g.block a.g.step a.n rest l.i (a.g.cells - l.i) (omega (arith, c.requires.0)) l.invariant)
 
 pub loop-i-preserved : goal.loop-i-preserved
 loop-i-preserved c =
     let l = c.loop-i in
     let a = c.args in
-    one_scattered a.member.now a.version a.words.now a.block a.step a.n (drop (leaf_total_words * a.n) a.area.now) l.i a.m (omega arith) l.auto.i l.invariant c.scatter.ensures
+    one_scattered a.x.member.now a.g.version a.x.cell_list.now a.g.block a.g.step a.n (drop (leaf_total_words * a.n) a.area.now) l.i a.g.cells (omega arith) l.auto.i l.invariant c.scatter.ensures
 
 pub shape_of-area : goal.shape_of-area
 shape_of-area c =
     let l = c.loop-i in
     let a = c.args in
-    rw l.invariant (kept_length (λ j. sums (under_by a.block a.step j) (records_say a.member.now a.version a.words.now l.i (a.m - l.i))) a.n a.area.now c.requires.2)
+    rw l.invariant (kept_length (λ j. sums (under_by a.g.block a.g.step j) (records_say a.x.member.now a.g.version a.x.cell_list.now l.i (a.g.cells - l.i))) a.n a.area.now c.requires.2)
 
 pub returns : goal.returns
 returns c =

@@ -9,4 +9,4 @@ use Rattle.total.specs.Laws.LeafRows.{all_sums}
 use Rattle.total.proofs.rows.scatter_all.Given as goal
 
 abbrev pub invariant-loop-i : goal.invariant-loop-i
-invariant-loop-i l = l.area ≡ all_sums l.block l.step (records_say l.member l.version l.words l.i (l.m - l.i)) l.n ++ drop (leaf_total_words * l.n) l.initial.area
+invariant-loop-i l = l.area ≡ all_sums l.block l.step (records_say l.member l.version l.words l.i (l.cells - l.i)) l.n ++ drop (leaf_total_words * l.n) l.initial.area

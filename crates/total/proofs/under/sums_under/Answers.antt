@@ -27,15 +27,15 @@ pub add-s-requires : goal.add-s-requires
 unfolding sums records_say
 add-s-requires c =
     let a = c.args in
-    room (records_within a.member.now a.version a.words.now (under_by a.block a.step a.leaf) c.loop-i.i (a.m - c.loop-i.i) (omega (arith, c.requires)) c.loop-i.invariant)
+    room (records_within a.x.member.now a.g.version a.x.cell_list.now (under_by a.g.block a.g.step a.leaf) c.loop-i.i (a.g.cells - c.loop-i.i) (omega (arith, c.requires)) c.loop-i.invariant)
 
 pub loop-i-preserved-then-is_under : goal.loop-i-preserved-then-is_under
 unfolding sums records_say
 loop-i-preserved-then-is_under c =
     let l = c.loop-i in
     let a = c.args in
-    before_others a.member.now a.version a.words.now _ l.i a.m (omega arith) l.auto.i l.invariant
-    (cell_added (under_by a.block a.step a.leaf) (record_says a.member.now a.version a.words.now (l.i - 1)) l.s (c.is_under.ensures ∙ rw c.word.ensures) c.if-is_under.true
+    before_others a.x.member.now a.g.version a.x.cell_list.now _ l.i a.g.cells (omega arith) l.auto.i l.invariant
+    (cell_added (under_by a.g.block a.g.step a.leaf) (record_says a.x.member.now a.g.version a.x.cell_list.now (l.i - 1)) l.s (c.is_under.ensures ∙ rw c.word.ensures) c.if-is_under.true
     (c.add-s.ensures ∙ rw (c.kind_at-k.ensures, c.word-then-is_under.ensures)))
 
 pub loop-i-preserved : goal.loop-i-preserved
@@ -43,8 +43,8 @@ unfolding sums records_say
 loop-i-preserved c =
     let l = c.loop-i in
     let a = c.args in
-    before_others a.member.now a.version a.words.now _ l.i a.m (omega arith) l.auto.i l.invariant
-    (cell_left (under_by a.block a.step a.leaf) (record_says a.member.now a.version a.words.now (l.i - 1)) l.s (c.is_under.ensures ∙ rw c.word.ensures) c.if-is_under.false)
+    before_others a.x.member.now a.g.version a.x.cell_list.now _ l.i a.g.cells (omega arith) l.auto.i l.invariant
+    (cell_left (under_by a.g.block a.g.step a.leaf) (record_says a.x.member.now a.g.version a.x.cell_list.now (l.i - 1)) l.s (c.is_under.ensures ∙ rw c.word.ensures) c.if-is_under.false)
 
 pub returns : goal.returns
 unfolding sums records_say

@@ -6,4 +6,4 @@ use Rattle.total.specs.Laws.Words.{under_by, records_say}
 use Rattle.total.proofs.under.sums_under.Given as goal
 
 abbrev pub invariant-loop-i : goal.invariant-loop-i
-invariant-loop-i l = l.s ≡ sums (under_by l.block l.step l.leaf) (records_say l.member l.version l.words l.i (l.m - l.i))
+invariant-loop-i l = l.s ≡ sums (under_by l.block l.step l.leaf) (records_say l.member l.version l.words l.i (l.cells - l.i))
