@@ -28,8 +28,8 @@ pub const MOST_BIAS: u32 = 255;
 pub const LIMIT: u32 = 4294967295;
 
 // ---- phases of a state: a group's codes are gathered; they act; or reading has stopped: by a 252, by 22, by 7. (Words, and no enum: `feed`
-// and `finish` of `cases` answer for a state with any number; and an enum is a byte with three unused ones behind it, whose copies made the
-// loops of `cases` a fifth to two fifths slower.)
+// and `finish` of `cases` answer for a state with any number; and an enum is a byte with three unused ones behind it. Tried: the loops of
+// `cases` were slower for blocks, though not for codes that give elements.)
 
 pub const GATHERS: u32 = 0;
 

@@ -6,7 +6,7 @@ ghost use Rattle.cases.specs.Laws.Loop.{Gone};
 
 use crate::bytes::put;
 use crate::steps::{give, stride};
-use case_state::Cursor;
+use case_state::{ACTS, Cursor};
 
 // Where a call has come to: bytes taken of its input, elements written to its output.
 #[derive(Clone, Copy)]
@@ -30,7 +30,9 @@ fn emit(output: &mut [u8], w: usize, element: Option<u64>) -> usize
     }
 }
 
-// Codes that give elements, as long as there is one and an element fits. No byte is taken, so there is little to hold at a time.
+// Codes that give elements, as long as there is one and an element fits. No byte is taken, so there is little to hold at a time. (The phase is
+// tested after each code too, though `give` tests it: codes act whenever the loop goes on, so the compiler holds no phase in it, and has the
+// position in the case in a register.)
 fn give_all(
     kinds: &[u8; 256],
     count: usize,
@@ -50,6 +52,9 @@ fn give_all(
         };
         put(output, 8 * w, element);
         c = next;
+        if c.phase != ACTS {
+            return (c, w + 1);
+        }
     }
     (c, room)
 }
