@@ -107,12 +107,11 @@ impl fmt::Display for Reason {
     }
 }
 
-// A refusal: at which place of the input, and why. In this order the place of a refusal and the number of an answer beside it lie at the same
-// bytes of a `Result`, which is quicker to hand on.
+// A refusal: why, and at which place of the input.
 #[derive(Clone, Copy, Debug, PartialEq, Eq)]
 pub struct Refusal {
-    pub place: usize,
     pub reason: Reason,
+    pub place: usize,
 }
 
 impl fmt::Display for Refusal {
