@@ -137,23 +137,26 @@ pub fn limit(v: u64, n: u64) -> Verdict
     unless(v <= n, Reason::Limit)
 }
 
-// Fine for one of two numbers, and that reason for any other.
-pub fn unless_either(v: u64, a: u64, b: u64, reason: Reason) -> Verdict
-    ensures { code result ≡ pick (among v (a ∷ b ∷ [])) 0 (number_of reason) }
+// Fine for one of two numbers, and that verdict for any other.
+pub fn unless_either(v: u64, a: u64, b: u64, otherwise: Verdict) -> Verdict
+    ensures { code result ≡ pick (among v (a ∷ b ∷ [])) 0 (code otherwise) }
 {
-    unless(v == a || v == b, reason)
+    if v == a || v == b {
+        return Ok(());
+    }
+    otherwise
 }
 
 fn known(v: u64, a: u64, b: u64) -> Verdict
     ensures { code result ≡ verdict (a_version (a ∷ b ∷ [])) v }
 {
-    unless_either(v, a, b, Reason::Version)
+    unless_either(v, a, b, Err(Reason::Version))
 }
 
 fn either(v: u64, a: u64, b: u64) -> Verdict
     ensures { code result ≡ verdict (one_of (a ∷ b ∷ [])) v }
 {
-    unless_either(v, a, b, Reason::FixedDiffers)
+    unless_either(v, a, b, Err(Reason::FixedDiffers))
 }
 
 // The verdict on one of two numbers, of which the first is left out in other versions.

@@ -1,2 +1,4 @@
+pub mod Listed
 pub mod Numbers
 pub mod Verdicts
+pub mod Reasons

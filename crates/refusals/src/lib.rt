@@ -1,13 +1,27 @@
 // Why something is refused, and at which place.
 #![tactic(auto)]
 
-ghost use Rattle.std.specs.Prelude.{◌≡◌};
-ghost use Rattle.refusals.specs.Numbers.{number};
+ghost use Rattle.std.specs.Prelude.{◌≡◌, false};
+ghost use Rattle.refusals.specs.Listed.{listed};
 
 use std::error::Error;
 use std::fmt;
 
-// The rows of document 01's table "Refusal numbers" and of document 02, in their order.
+// A number that document 01 and 02 give no reason, and that isn't 0.
+#[derive(Clone, Copy, Debug, PartialEq, Eq)]
+pub struct Unlisted {
+    number: u32,
+    ghost other: { listed number ≡ false },
+}
+
+impl fmt::Display for Unlisted {
+    fn fmt<W: fmt::Write>(&self, f: &mut fmt::Formatter<W>) -> fmt::Result {
+        let number = self.number;
+        write!(f, "refusal {number}")
+    }
+}
+
+// The rows of document 01's table "Refusal numbers" and of document 02, in their order; and any other number but 0.
 #[derive(Clone, Copy, Debug, PartialEq, Eq)]
 pub enum Reason {
     TooLong,
@@ -35,12 +49,51 @@ pub enum Reason {
     NoCharacter,
     BadList,
     NoMeaning,
+    Other(Unlisted),
 }
 
 impl Reason {
-    // The number that document 01 or 02 gives it.
+    ghost use Rattle.std.specs.Prelude.{MatchOption};
+    ghost use Rattle.refusals.specs.Numbers.{number as number_of};
+
+    // The reason that has this number; none has 0.
+    pub fn of(number: u32) -> Option<Reason>
+        ensures { MatchOption result (number ≡ 0) (λ reason. number_of reason ≡ number) }
+    {
+        Some(match number {
+            0 => return None,
+            1 => Reason::TooLong,
+            2 => Reason::DoesNotFit,
+            3 => Reason::FixedDiffers,
+            4 => Reason::Version,
+            5 => Reason::NotBool,
+            6 => Reason::RegionNotFilled,
+            7 => Reason::Limit,
+            8 => Reason::LeafIndex,
+            9 => Reason::Axes,
+            10 => Reason::CellIndex,
+            11 => Reason::BytesLeft,
+            12 => Reason::NodeArea,
+            13 => Reason::CellArea,
+            14 => Reason::Color,
+            15 => Reason::OutputTooShort,
+            18 => Reason::ZeroByte,
+            19 => Reason::NoSuchLeaf,
+            20 => Reason::NoCount,
+            21 => Reason::CaseState,
+            22 => Reason::CaseCode,
+            23 => Reason::CaseEnd,
+            24 => Reason::UnknownPage,
+            25 => Reason::NoCharacter,
+            26 => Reason::BadList,
+            29 => Reason::NoMeaning,
+            _ => Reason::Other(Unlisted { number }),
+        })
+    }
+
+    // The number that document 01 or 02 gives it, or its own.
     pub fn number(self) -> u32
-        ensures { result ≡ number self }
+        ensures { result ≡ number_of self }
     {
         match self {
             Reason::TooLong => 1,
@@ -68,6 +121,7 @@ impl Reason {
             Reason::NoCharacter => 25,
             Reason::BadList => 26,
             Reason::NoMeaning => 29,
+            Reason::Other(unlisted) => unlisted.number,
         }
     }
 }
@@ -103,6 +157,7 @@ impl fmt::Display for Reason {
             Reason::BadList => "a list of more than 64 members, or of an odd number of words",
             Reason::NoMeaning =>
                 "a drawn separator whose style and width have no meaning, or an alignment that has none",
+            Reason::Other(unlisted) => return unlisted.fmt(f),
         })
     }
 }

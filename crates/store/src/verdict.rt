@@ -22,5 +22,5 @@ pub fn known_one(v: u64, a: u64) -> Verdict
 pub fn known_two(v: u64, a: u64, b: u64) -> Verdict
     ensures { code result ≡ verdict (a_version (a ∷ b ∷ [])) v }
 {
-    unless_either(v, a, b, Reason::Version)
+    unless_either(v, a, b, Err(Reason::Version))
 }

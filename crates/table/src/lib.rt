@@ -145,7 +145,7 @@ fn known_kind(v: u64) -> Verdict
     if v == 0 {
         return Ok(());
     }
-    unless_either(v, 0x01_00_00, 0x01_00_01, Reason::FixedDiffers)
+    unless_either(v, 0x01_00_00, 0x01_00_01, Err(Reason::FixedDiffers))
 }
 
 // The three bytes after a category's name, as one field.

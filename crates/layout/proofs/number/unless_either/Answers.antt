@@ -1,18 +1,16 @@
-use Rattle.std.proofs.Common.{◌≡◌, refl, ℕ, Bool, true, false, ◌||◌, eqb, eq-eqb, ne_eqb}
-use Rattle.refusals.specs.Numbers.{number}
+use Rattle.std.proofs.Common.{refl, eq-eqb, ne_eqb}
 use Rattle.sizes.specs.Basics.{among, pick}
 use Rattle.layout.proofs.number.unless_either.Goals as goal
-use Rattle.layout.proofs.number.unless_either.Goals.{then-v-a, else-v-a}
+use Rattle.layout.proofs.number.unless_either.Goals.{then-v-a-via-then-v-a, then-v-a-via-else-v-a+then-v-b}
 
-one : (b : Bool) (n : ℕ) → pick b 0 n ≡ pick (b || false) 0 n
-unfolding pick
-one true n = refl
-one false n = refl
+pub returns-then-v-a : goal.returns-then-v-a
+unfolding among pick
+returns-then-v-a c =
+    elim c.then-v-a.branch [
+      | then-v-a-via-then-v-a w ↦ rw (eq-eqb _ _ w.if-v-a.true) refl
+      | then-v-a-via-else-v-a+then-v-b w ↦ rw (ne_eqb _ _ w.if-v-a.false, eq-eqb _ _ w.if-v-b.true) refl
+    ]
 
 pub returns : goal.returns
 unfolding among pick
-returns c =
-    elim c.if-v-a.branch [
-      | then-v-a w ↦ rw (c.unless.ensures, w.unless-is, eq-eqb _ _ w.if-v-a.true)
-      | else-v-a w ↦ rw (c.unless.ensures, w.unless-is, ne_eqb _ _ w.if-v-a.false) (one (eqb c.args.v c.args.b) (number c.args.reason))
-    ]
+returns c = rw (ne_eqb _ _ c.if-v-a.false, ne_eqb _ _ c.if-v-b.false) refl
