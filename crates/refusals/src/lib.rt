@@ -54,13 +54,13 @@ pub enum Reason {
 
 impl Reason {
     ghost use Rattle.std.specs.Prelude.{MatchOption};
-    ghost use Rattle.refusals.specs.Numbers.{number as number_of};
+    ghost use Rattle.refusals.specs.Numbers.{number};
 
     // The reason that has this number; none has 0.
-    pub fn of(number: u32) -> Option<Reason>
-        ensures { MatchOption result (number ≡ 0) (λ reason. number_of reason ≡ number) }
+    pub fn of(n: u32) -> Option<Reason>
+        ensures { MatchOption result (n ≡ 0) (λ reason. number reason ≡ n) }
     {
-        Some(match number {
+        Some(match n {
             0 => return None,
             1 => Reason::TooLong,
             2 => Reason::DoesNotFit,
@@ -87,13 +87,13 @@ impl Reason {
             25 => Reason::NoCharacter,
             26 => Reason::BadList,
             29 => Reason::NoMeaning,
-            _ => Reason::Other(Unlisted { number }),
+            _ => Reason::Other(Unlisted { number: n }),
         })
     }
 
     // The number that document 01 or 02 gives it, or its own.
     pub fn number(self) -> u32
-        ensures { result ≡ number_of self }
+        ensures { result ≡ number self }
     {
         match self {
             Reason::TooLong => 1,
