@@ -10,7 +10,7 @@ use Rattle.contents.proofs.read_argument.Goals as goal
 pub returns-in_err-readable : goal.returns-in_err-readable
 returns-in_err-readable c =
     let p = err_from_is_err_and c.from_residual.result c.from_residual.ensures.1 in
-    rw (p.1, p.2) (unread_answers _ _ _ _ _ _ c.in_err-readable.ensures)
+    rw (p.1, p.2) (unread_answers _ _ _ _ _ c.in_err-readable.field-0.0 c.in_err-readable.ensures)
 
 pub returns-in_err-length : goal.returns-in_err-length
 returns-in_err-length c =
