@@ -8,7 +8,7 @@ use Rattle.position.proofs.position_of.Goals as goal
 pub returns-in_err-table : goal.returns-in_err-table
 returns-in_err-table c =
     let p = err_from_is_err_and c.from_residual.result c.from_residual.ensures.1 in
-    rw (p.1, p.2) (refused _ _ _ _ _ _ c.in_err-table.ensures (number_not_0 _))
+    rw (p.1, p.2) (refused _ _ _ _ _ _ c.in_err-table.ensures (number_not_0 c.in_err-table.field-0.0))
 
 pub returns-then-places-from : goal.returns-then-places-from
 returns-then-places-from c =
