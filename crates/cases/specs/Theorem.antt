@@ -18,7 +18,7 @@ use Rattle.cases.specs.Steps.{firsts}
 use Rattle.cases.specs.Answers.{Answer, padded, cursor₀, start_ok, elements, fed_of, answered, call_of, Called}
 use Rattle.case_state.proofs.Laws.Valid.{state_parts}
 use Rattle.cases.specs.Laws.Canonical.{view_one}
-use Rattle.cases.specs.Laws.Lasting.{start_lasts, padded_firsts}
+use Rattle.cases.specs.Laws.Lasting.{started_ok, padded_firsts}
 
 module _ (kinds : List ℕ) (count bias : ℕ) where
   abbrev K : List ℕ
@@ -102,6 +102,6 @@ pub means_of : (l : List ℕ) (bias : ℕ) → start_ok l bias ≡ true → {d :
     → Ended (padded (length l) l) (length l) bias cursor₀ s d rest es → out (view d) rest es ≡ out_of l bias 0 (meaning l bias s)
 means_of l bias ok {d} {s} {rest} {es} e =
     let k = padded (length l) l in
-    let fine : state_ok (record { kinds = k; count = length l; bias = bias; cursor = cursor₀ }) ≡ true = start_lasts l bias ok in
+    let fine : state_ok (record { kinds = k; count = length l; bias = bias; cursor = cursor₀ }) ≡ true = started_ok l bias ok in
     let r : run (firsts (length l) k) bias start s ≡ out (view d) rest es = rw at_start at (run_of k (length l) bias fine e) in
     sym (rw padded_firsts at r) ∙ run_means l bias s

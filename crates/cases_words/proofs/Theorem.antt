@@ -184,7 +184,7 @@ unfolding start_of pick
 means_of l bias ok {state} {answer} {state'} room f {ws' = ws'} {rest = rest} {es = es} x =
     let k = padded (length l) l in
     let long = padded_long l (leb-true (length l) 256 (start_parts l bias ok).1) in
-    let fine : state_ok (with_it k (length l) bias cursor₀) ≡ true = start_lasts l bias ok in
+    let fine : state_ok (with_it k (length l) bias cursor₀) ≡ true = (start_lasts l bias ok).1 in
     let words : state' ≡ state_words_of (with_it k (length l) bias cursor₀) ++ drop state_words state = rw (room, ok) at f.settles in
     let is : state_of state' ≡ with_it k (length l) bias cursor₀ = rw words (state_back (with_it k (length l) bias cursor₀) fine (drop state_words state) long) in
     let e = ended_of k (length l) bias long cursor₀ is fine x in

@@ -39,7 +39,8 @@ fn put_front<const N: usize>(area: &mut [u32], words: [u32; N]) -> usize
     N
 }
 
-// The position of the cell with that index: see `digarumbi_position` of `api`.
+// The position of the cell with that index: see `digarumbi_position` of `api`. (The area's length is asked for first, so that nothing is computed
+// for one that is too short.)
 pub fn position_answer(
     ns: &[u32],
     layers: u32,
@@ -51,11 +52,14 @@ pub fn position_answer(
 ) -> usize
     ensures { spec.PositionGiven ns.now layers rows columns order.now index answer.old result answer.new }
 {
+    if answer.len() < POSITION_ANSWER_WORDS {
+        return 0;
+    }
     let position = position_of(ns, layers, rows, columns, order, index);
     put_front(answer, position_words(position))
 }
 
-// The index of the cell at that position: see `digarumbi_index` of `api`.
+// The index of the cell at that position: see `digarumbi_index` of `api`. (The area's length first, as above.)
 pub fn index_answer(
     ns: &[u32],
     layers: u32,
@@ -69,6 +73,9 @@ pub fn index_answer(
 ) -> usize
     ensures { spec.IndexGiven ns.now layers rows columns order.now layer row column answer.old result answer.new }
 {
+    if answer.len() < INDEX_ANSWER_WORDS {
+        return 0;
+    }
     let index = index_of(ns, layers, rows, columns, order, layer, row, column);
     put_front(answer, index_words(index))
 }

@@ -29,10 +29,6 @@ first_ok : (count : ℕ) → ltb 0 count ≡ true → cursor_ok count cursor₀ 
 unfolding cursor_ok gather_ok pick
 first_ok count e = rw e
 
-pub start_is : (l : List ℕ) (bias : ℕ) → start_ok l bias ≡ true → start_of l bias ≡ Ok (started l bias)
-unfolding start_of pick
-start_is l bias e = rw e
-
 rest_zero : (n : ℕ) (l : List ℕ) → ((j : ℕ) → j < n → get_or l (most_kinds - suc j) 0 ≡ 0) → rest_ok n l ≡ true
 unfolding rest_ok pick
 rest_zero zero l h = refl
@@ -53,12 +49,20 @@ padded_rest l h = rest_zero (most_kinds - length l) (padded (length l) l) (λ j 
         let e : most_kinds - suc j ≡ length l + (most_kinds - suc j - length l) = omega arith in
         rw e (beyond (length l) (most_kinds - suc j - length l) l (omega arith) (omega arith))
 
--- a start that is not refused leaves a state
-pub start_lasts : (l : List ℕ) (bias : ℕ) → start_ok l bias ≡ true → state_ok (started l bias) ≡ true
+pub started_ok : (l : List ℕ) (bias : ℕ) → start_ok l bias ≡ true → state_ok (started l bias) ≡ true
 unfolding state_ok pick
-start_lasts l bias e =
+started_ok l bias e =
     let p = start_parts l bias e in
     rw (p.1, p.2, p.3, padded_rest l (leb-true (length l) most_kinds p.1)) (first_ok (length l) p.0)
+
+-- a start that is not refused leaves a state: what it answers, one that passes
+pub start_lasts : (l : List ℕ) (bias : ℕ) → start_ok l bias ≡ true → (start_of l bias ≡ Ok (started l bias)) × (state_ok (started l bias) ≡ true)
+unfolding start_of pick
+start_lasts l bias e = (rw e, started_ok l bias e)
+
+pub start_is : (l : List ℕ) (bias : ℕ) → start_ok l bias ≡ true → start_of l bias ≡ Ok (started l bias)
+unfolding start_of pick
+start_is l bias e = rw e
 
 -- the kinds of a state that was started are those of the list
 pub firsts_of : (l r : List ℕ) → firsts (length l) (l ++ r) ≡ l

@@ -1,5 +1,5 @@
 use native.Mathlib.Omega.{arith}
-use Rattle.std.proofs.Common.{◌≡◌, refl, ◌∙◌, length}
+use Rattle.std.proofs.Common.{◌≡◌, refl, ◌∙◌, ◌<◌, length}
 use Rattle.codepages.specs.Laws.Branches.{first_tally}
 use Rattle.codepages.specs.Laws.Passes.{tally_refused, tally_end}
 use Rattle.codepages.proofs.measure.Goals as goal
@@ -12,7 +12,8 @@ returns-in_default g c =
     let n = rw c.in_default.is at c.find.ensures in
     let t = tally_refused c.loop-i.invariant.0 (n.refused refl) in
     let r = c.refusal.ensures in
-    (r.0, rw r.1 c.loop-i-test.true, r.1 ∙ t.0)
+    let h : c.refusal.result.place < length c.args.input.now = rw r.1 c.loop-i-test.true in
+    (r.0, h, r.1 ∙ t.0)
 
 pub returns : goal.returns
 returns g c =

@@ -8,7 +8,7 @@ pub loop-w-init : goal.loop-w-init
 loop-w-init c = begin (firsts c.args.count c.args.kinds.now) c.args.count c.args.bias _ c.args.start c.args.input.now c.args.output.now c.requires.1
 
 pub give_all-written-requires : goal.give_all-written-requires
-give_all-written-requires c = (c.requires.0, c.loop-w.invariant.good, rw (same_length c.loop-w.invariant) c.loop-w-test.true)
+give_all-written-requires c = (c.requires.0, c.loop-w.invariant.good, omega (arith, same_length c.loop-w.invariant))
 
 pub overflow_add-i : goal.overflow_add-i
 overflow_add-i c = omega (arith, c.in-Some.ensures.inside, c.loop-w.invariant.inside, length-drop c.loop-w.i c.args.input.now, c.well_formed)
