@@ -1,5 +1,6 @@
 // The double of a Value that is a number, and the form that has it, for those who ask for no more: no other form is read.
-ghost use Rattle.std.specs.Prelude.{◌≡◌};
+ghost use Rattle.std.specs.Prelude.{◌≡◌, true, [], ◌∷◌, IfSome};
+ghost use Rattle.sizes.specs.Basics.{among};
 ghost use Rattle.contents.specs.Laws.Answers.{value_answer};
 ghost use Rattle.contents.specs.Laws.Figure as spec;
 
@@ -19,9 +20,10 @@ pub struct Figure {
     pub bits: u64,
 }
 
-// The figure of a form; none after a refusal.
+// The figure of a form; none after a refusal. What is given has form 1 or 2: so there is one answer alone for each Value (here and below).
 fn figure_of(read: Read<RawValue>) -> Option<Figure>
-    ensures { spec.figure_or_none result ≡ spec.figure_said read }
+    ensures value { spec.figure_or_none result ≡ spec.figure_said read }
+    ensures there { IfSome result (λ x. among x.form (1 ∷ 2 ∷ []) ≡ true) }
 {
     let Ok((x, _)) = read else {
         return None;
@@ -39,7 +41,8 @@ fn figure_of(read: Read<RawValue>) -> Option<Figure>
 
 // A figure after the bytes 00 of a Value, by the first byte that follows.
 fn figure_at(s: &[u8], version: u64) -> Option<Figure>
-    ensures { spec.figure_or_none result ≡ spec.figure (value_answer version s.now).raw }
+    ensures value { spec.figure_or_none result ≡ spec.figure (value_answer version s.now).raw }
+    ensures there { IfSome result (λ x. among x.form (1 ∷ 2 ∷ []) ≡ true) }
 {
     if readable(s, version).is_err() {
         return None;
@@ -55,7 +58,8 @@ fn figure_at(s: &[u8], version: u64) -> Option<Figure>
 
 // The figure of the Value in front of the bytes, in a member of that version.
 pub fn read_figure(s: &[u8], version: u64) -> Option<Figure>
-    ensures { spec.figure_or_none result ≡ spec.figure (value_answer version s.now).raw }
+    ensures value { spec.figure_or_none result ≡ spec.figure (value_answer version s.now).raw }
+    ensures there { IfSome result (λ x. among x.form (1 ∷ 2 ∷ []) ≡ true) }
 {
     if is_plain(s, version) {
         Some(Figure {

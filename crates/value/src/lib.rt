@@ -1,7 +1,8 @@
-// The readers of a Value. Those of a value, of a template and of its arguments call each other: the depth that is left falls. A loop ends with its
-// count, or with a refusal: each Value and each argument takes a byte or more. So a count costs no more than the bytes that are there. The two
-// loops stand in that cycle, so they are not calls of regions::production::times: tried, and a call that leads back to this cycle through a trait
-// gets no proof.
+// The readers of a Value. Those of a value, of a template and of its arguments call each other: the depth that is left falls. In a loop the bytes
+// that are left fall: each Value and each argument takes a byte or more, and a refusal ends it. So a count costs no more than the bytes that are
+// there: the loops' invariants say that their turns and the bytes that are left are together no more than the bytes at the start. The two loops
+// stand in that cycle, so they are not calls of regions::production::times: tried, and a call that leads back to this cycle through a trait gets no
+// proof.
 #![tactic(auto)]
 
 ghost use Rattle.std.specs.Prelude.{◌≡◌};
@@ -178,11 +179,11 @@ pub fn argument(s: &[u8], st: Step, depth: usize, version: u64) -> Step
 fn values(s: &[u8], st: Step, n: u64, depth: usize, version: u64) -> Step
     ensures { Reads (times n (grammar.ValueIn version depth)) s.now st result }
 {
-    let mut at = st?;
+    let mut next = st?;
     for _ in 0..n {
-        at = value_in(s, Ok(at), depth, version)?;
+        next = value_in(s, Ok(next), depth, version)?;
     }
-    Ok(at)
+    Ok(next)
 }
 
 // A Value, in a member of that version. The version stays a number, of which any gets an answer (what may not change: the parameter of this function).

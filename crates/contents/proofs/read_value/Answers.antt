@@ -21,8 +21,8 @@ returns-in_err-zeros c =
 
 pub returns-in_err-raw : goal.returns-in_err-raw
 returns-in_err-raw c =
-    let p = err_from_is_err_and c.from_residual-in_err-raw.result c.from_residual-in_err-raw.ensures.1 in
-    rw (p.1, p.2)
+    let q = err_from_is_err_and c.from_residual-in_err-raw.result c.from_residual-in_err-raw.ensures.1 in
+    rw (q.1, q.2)
     (value_answers _ {y = blank} c.in_ok-readable.ensures (bytes_of _ c.type_inv.s) c.cell_zeros.ensures (refused_shows refl c.in_err-raw.ensures)
     c.in_ok-zeros.ensures refl)
 

@@ -6,8 +6,9 @@ use Rattle.std.specs.Prelude.{Ok}
 use Rattle.layout.specs.Reads.{skip}
 use Rattle.layout.specs.Steps.{reads}
 use Rattle.layout.specs.Steps.Chain.{then, from_refused, in_same, times_none, left_more, left_none, left_kept}
+use Rattle.layout.specs.Steps.Onward.{less_room}
 use Rattle.sizes.specs.Basics.{among, pick}
-use Rattle.value.specs.Laws.Forms.{too_deep, after_zeros, form_of, long_form, long_form_left_out, no_form}
+use Rattle.value.specs.Laws.Forms.{value_onward, argument_onward, too_deep, after_zeros, form_of, long_form, long_form_left_out, no_form}
 use Rattle.value.proofs.+argument_arguments_arguments_at_raw_value_template_value_at_value_in_values.Goals as goal
 
 pub argument-returns-then-x-eq0 : goal.argument-returns-then-x-eq0
@@ -32,20 +33,20 @@ arguments-returns t c = rw c.in_ok-at.was (in_same c.whole.ensures c.arguments_a
 pub arguments_at-loop-init : goal.arguments_at-loop-init
 arguments_at-loop-init t c =
     let k : c.args.n - 0 ≡ c.args.n = omega arith in
-    rw k (λ r h. h)
+    (rw k (λ r h. h), omega arith)
 
 pub arguments_at-returns-in_err-at : goal.arguments_at-returns-in_err-at
 arguments_at-returns-in_err-at t c =
     let p = err_from_is_err_and c.from_residual.result c.from_residual.ensures.1 in
-    rw (p.1, p.2) (left_kept (left_more c.loop.invariant (omega arith) c.in_err-at.ensures) refl)
+    rw (p.1, p.2) (left_kept (left_more c.loop.invariant.0 (omega arith) c.in_err-at.ensures) refl)
 
 pub arguments_at-loop-preserved : goal.arguments_at-loop-preserved
 arguments_at-loop-preserved t c =
     let k : c.args.n - (c.loop.counter + 1) ≡ c.args.n - c.loop.counter - 1 = omega arith in
-    rw k (left_more c.loop.invariant (omega arith) c.in_ok-at.ensures)
+    (rw k (left_more c.loop.invariant.0 (omega arith) c.in_ok-at.ensures), omega (arith, less_room (argument_onward _ _) refl c.in_ok-at.ensures))
 
 pub arguments_at-returns : goal.arguments_at-returns
-arguments_at-returns t c = left_none c.loop.invariant (omega arith)
+arguments_at-returns t c = left_none c.loop.invariant.0 (omega arith)
 
 pub raw_value-returns-then-version-eq1 : goal.raw_value-returns-then-version-eq1
 raw_value-returns-then-version-eq1 t c = long_form_left_out _ _ c.in-49.is (eq-eqb _ _ c.if-version-eq1.true) c.peek-x.ensures c.field.ensures
@@ -108,25 +109,25 @@ value_in-returns-in_err-st t c =
 pub value_in-returns : goal.value_in-returns
 value_in-returns t c = rw c.in_ok-st.was c.value_at.ensures
 
-pub values-returns-in_err-at : goal.values-returns-in_err-at
-values-returns-in_err-at t c =
+pub values-returns-in_err-next : goal.values-returns-in_err-next
+values-returns-in_err-next t c =
     let p = err_from_is_err_and c.from_residual.result c.from_residual.ensures.1 in
-    rw (p.1, p.2, c.in_err-at.was) (from_refused refl)
+    rw (p.1, p.2, c.in_err-next.was) (from_refused refl)
 
 pub values-loop-init : goal.values-loop-init
 values-loop-init t c =
     let k : c.args.n - 0 ≡ c.args.n = omega arith in
-    rw k (λ r h. h)
+    (rw k (λ r h. h), omega arith)
 
-pub values-returns-in_err-at-2 : goal.values-returns-in_err-at-2
-values-returns-in_err-at-2 t c =
-    let p = err_from_is_err_and c.from_residual-in_err-at-2.result c.from_residual-in_err-at-2.ensures.1 in
-    rw (p.1, p.2, c.in_ok-at.was) (left_kept (left_more c.loop.invariant (omega arith) c.in_err-at-2.ensures) refl)
+pub values-returns-in_err-next-2 : goal.values-returns-in_err-next-2
+values-returns-in_err-next-2 t c =
+    let p = err_from_is_err_and c.from_residual-in_err-next-2.result c.from_residual-in_err-next-2.ensures.1 in
+    rw (p.1, p.2, c.in_ok-next.was) (left_kept (left_more c.loop.invariant.0 (omega arith) c.in_err-next-2.ensures) refl)
 
 pub values-loop-preserved : goal.values-loop-preserved
 values-loop-preserved t c =
     let k : c.args.n - (c.loop.counter + 1) ≡ c.args.n - c.loop.counter - 1 = omega arith in
-    rw k (left_more c.loop.invariant (omega arith) c.in_ok-at-2.ensures)
+    (rw k (left_more c.loop.invariant.0 (omega arith) c.in_ok-next-2.ensures), omega (arith, less_room (value_onward _ _) refl c.in_ok-next-2.ensures))
 
 pub values-returns : goal.values-returns
-values-returns t c = rw c.in_ok-at.was (left_none c.loop.invariant (omega arith))
+values-returns t c = rw c.in_ok-next.was (left_none c.loop.invariant.0 (omega arith))

@@ -1,8 +1,10 @@
--- The cycle of a value, its template and the loops over arguments and values. The measure is the depth, and who calls whom at one depth.
-use Rattle.std.proofs.Common.{◌+◌, ◌-◌, ◌*◌}
+-- The cycle of a value, its template and the loops over arguments and values. The measure is the depth, and who calls whom at one depth. In a
+-- loop the bytes that are left fall: the turns until now and the room that is left are no more than the room at the start.
+use Rattle.std.proofs.Common.{◌+◌, ◌-◌, ◌*◌, ◌≤◌}
 use Rattle.grammar.specs.Value as grammar
 use Rattle.std.specs.Prelude.{Ok}
 use Rattle.layout.specs.Steps.Chain.{Left}
+use Rattle.layout.specs.Steps.Onward.{room}
 use Rattle.value.proofs.+argument_arguments_arguments_at_raw_value_template_value_at_value_in_values.Given as goal
 
 abbrev pub decreases-value_at : goal.decreases-value_at
@@ -30,7 +32,11 @@ abbrev pub decreases-raw_value : goal.decreases-raw_value
 decreases-raw_value l = 8 * l.depth + 7
 
 abbrev pub invariant-arguments_at-loop : goal.invariant-arguments_at-loop
-invariant-arguments_at-loop l = Left (grammar.Argument l.version l.depth) l.s l.n (Ok l.initial.at) (l.n - l.counter) (Ok l.at)
+invariant-arguments_at-loop l =
+    Left (grammar.Argument l.version l.depth) l.s l.n (Ok l.initial.at) (l.n - l.counter) (Ok l.at)
+    × (l.counter + room l.s (Ok l.at) ≤ room l.s (Ok l.initial.at))
 
 abbrev pub invariant-values-loop : goal.invariant-values-loop
-invariant-values-loop l = Left (grammar.ValueIn l.version l.depth) l.s l.n (Ok l.initial.at) (l.n - l.counter) (Ok l.at)
+invariant-values-loop l =
+    Left (grammar.ValueIn l.version l.depth) l.s l.n (Ok l.initial.next) (l.n - l.counter) (Ok l.next)
+    × (l.counter + room l.s (Ok l.next) ≤ room l.s (Ok l.initial.next))
