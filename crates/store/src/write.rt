@@ -31,10 +31,11 @@ fn raw(buf: &mut [u8], st: Step, text: &[u8], verdict: Verdict) -> Step
         buf[at..at + n].copy_from_slice(text);
         return Ok(at + n);
     }
-    Err(Refusal {
+    let short = Refusal {
         reason: Reason::DoesNotFit,
         place: at,
-    })
+    };
+    Err(short)
 }
 
 // A number of w bytes, which gets the refusal of its verdict.
