@@ -99,10 +99,10 @@ pub fn field(s: &[u8], st: Step, w: usize, verdict: Verdict) -> Step
     let at = st?;
     let inside = w <= left(s, at);
     if inside {
-        return match verdict {
-            Ok(()) => Ok(at + w),
-            Err(reason) => Err(Refusal { reason, place: at }),
-        };
+        match verdict {
+            Ok(()) => return Ok(at + w),
+            Err(reason) => return Err(Refusal { reason, place: at }),
+        }
     }
     Err(Refusal {
         reason: Reason::DoesNotFit,
