@@ -61,7 +61,8 @@ pub fn member_answer(
 ) -> usize
     ensures { spec.MemberRead member.now answer.old nodes.old cells.old result answer.new nodes.new cells.new }
 {
-    if answer.len() < ANSWER_WORDS {
+    let short = answer.len() < ANSWER_WORDS;
+    if short {
         return 0;
     }
     let a = read_member(member, nodes, cells);

@@ -121,7 +121,8 @@ fn argument_words(out: &mut [u32], answer: Result<Argument, Refusal>) -> Step
 pub fn value_answer(version: u32, value: &[u8], answer: &mut [u32]) -> usize
     ensures { spec.ValueRead version value.now answer.old result answer.new }
 {
-    if answer.len() < VALUE_ANSWER_WORDS {
+    let short = answer.len() < VALUE_ANSWER_WORDS;
+    if short {
         return 0;
     }
     let version = u64::from(version);

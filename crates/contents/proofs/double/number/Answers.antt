@@ -22,12 +22,12 @@ a-nan bits h = nan_bits_above binary64 bits ∙ lt-ltb infinity (bits % 2 ^ 63) 
 
 pub float_from_bits-result : goal.float_from_bits-result
 unfolding number_of pick
-float_from_bits-result c = rw (no_nan c.args.bits (le-leb _ _ c.if-magnitude-le9218868437227405312.true)) tt
+float_from_bits-result c = rw (no_nan c.args.bits (le-leb _ _ c.if-magnitude-le-INFINITY.true)) tt
 
-pub returns-then-magnitude-le9218868437227405312 : goal.returns-then-magnitude-le9218868437227405312
+pub returns-then-magnitude-le-INFINITY : goal.returns-then-magnitude-le-INFINITY
 unfolding number_of pick
-returns-then-magnitude-le9218868437227405312 c = rw (no_nan c.args.bits (le-leb _ _ c.if-magnitude-le9218868437227405312.true))
+returns-then-magnitude-le-INFINITY c = rw (no_nan c.args.bits (le-leb _ _ c.if-magnitude-le-INFINITY.true))
 
-pub returns-else-magnitude-le9218868437227405312 : goal.returns-else-magnitude-le9218868437227405312
+pub returns-else-magnitude-le-INFINITY : goal.returns-else-magnitude-le-INFINITY
 unfolding number_of pick
-returns-else-magnitude-le9218868437227405312 c = rw (a-nan c.args.bits (lt-leb _ _ c.if-magnitude-le9218868437227405312.false))
+returns-else-magnitude-le-INFINITY c = rw (a-nan c.args.bits (lt-leb _ _ c.if-magnitude-le-INFINITY.false))
