@@ -6,7 +6,13 @@ use Rattle.answer.specs.Demand3.{Demand3}
 use Rattle.report.specs.Text.{Printed}
 use Rattle.report.specs.Lines.{line_of, line_bytes}
 
--- the line of an answer as demand 3 has it, with areas that suffice for every member
+-- the line of an answer as demand 3 has it, with areas that are lent
+pub record MemberLineIn (s nodes cells nodes' cells' b b' : List ℕ) (r : ℕ) : Type 0 where
+  pub answer : Answer
+  pub demands : Demand3 s nodes cells answer nodes' cells'
+  pub line : Printed line_bytes (line_of answer) b b' r
+
+-- the same with areas of zeros that suffice for every member
 pub record MemberLine (s b b' : List ℕ) (r : ℕ) : Type 0 where
   pub answer : Answer
   pub nodes : List ℕ

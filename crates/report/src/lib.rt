@@ -6,7 +6,7 @@ mod text;
 
 ghost use Rattle.std.specs.Prelude.{◌≡◌, ◌≤◌, length};
 ghost use Rattle.report.specs.Text.{Puts, Printed};
-ghost use Rattle.report.specs.MemberLine.{MemberLine};
+ghost use Rattle.report.specs.MemberLine.{MemberLine, MemberLineIn};
 ghost use Rattle.report.specs.Lines.{refused_of, accepted_of, line_of, line_bytes, shape_of, shape_bytes, records_of, records_bytes};
 
 use crate::rows::{part, row, table};
@@ -86,14 +86,26 @@ pub fn line(a: Answer, out: &mut [u8]) -> usize
     }
 }
 
-// The line of a member, read with areas that suffice for every one.
+// The line of a member, read with areas that are lent: they suffice for every member, and what they held makes no difference.
+pub fn member_line_in(
+    member: &[u8],
+    nodes: &mut [u32; NODE_AREA],
+    cells: &mut [u32; CELL_AREA],
+    out: &mut [u8],
+) -> usize
+    ensures { MemberLineIn member.now nodes.old cells.old nodes.new cells.new out.old out.new result }
+{
+    let a = member::read_member(member, nodes, cells);
+    line(a, out)
+}
+
+// The line of a member, read with areas of its own.
 pub fn member_line(member: &[u8], out: &mut [u8]) -> usize
     ensures { MemberLine member.now out.old out.new result }
 {
     let mut nodes = [0u32; NODE_AREA];
     let mut cells = [0u32; CELL_AREA];
-    let a = member::read_member(member, &mut nodes, &mut cells);
-    line(a, out)
+    member_line_in(member, &mut nodes, &mut cells, out)
 }
 
 // ---- the records of an accepted member, one to a line
