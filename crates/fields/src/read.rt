@@ -41,7 +41,8 @@ pub fn int32_of(s: &[u8], st: Step, n: u64) -> Step
     fixed(s, st, LITTLE, 4, n)
 }
 
-// So many zero bytes.
+// So many zero bytes. (Where it is called their number is known, and so the loop becomes as many tests: reading a look takes a sixth less time.)
+#[inline(always)]
 pub fn zeros(s: &[u8], st: Step, n: usize) -> Step
     ensures { Gives (times n (grammar.fixed 0)) s.now st result (replicate n (0, tt)) }
 {
