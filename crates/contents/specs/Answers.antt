@@ -2,6 +2,7 @@
 use Rattle.std.specs.Prelude.{◌≡◌, false, List, ℕ, Result, Ok, Err, length, leb}
 use Rattle.refusals.specs.declared.Refusal.{Refusal}
 use Rattle.refusals.specs.Numbers.{number}
+use Rattle.refusals.specs.Verdicts.{Refuses}
 use Rattle.sizes.specs.Sizes.{member_bytes, below_value}
 use Rattle.sizes.specs.Basics.{among, pick}
 use Rattle.grammar.specs.Layout.{a_version, Layout, Tree}
@@ -48,7 +49,7 @@ ArgumentAnswers version s x = Answers version (Argument version below_value) (ar
 -- whether the bytes are read: if not, they are refused at 0
 abbrev pub Readable : ℕ → List ℕ → Result Unit Refusal → Type 0
 Readable version s (Ok x) = unread version s ≡ 0
-Readable version s (Err e) = (unread version s ≡ number e.reason) × (e.place ≡ 0)
+Readable version s (Err e) = (unread version s ≡ number e.reason) × (e.place ≡ 0) × Refuses e.reason
 
 abbrev pub contents_of : Result value_said.Contents Refusal → Contents
 contents_of (Ok x) = record { refusal = 0; place = 0; length = x.length; zeros = x.zeros; raw = x.raw }

@@ -1,9 +1,10 @@
 // Numbers: what comes next, and past it.
-ghost use Rattle.std.specs.Prelude.{◌≡◌, [], ◌∷◌, ◌≤◌, ◌-◌, min, length, take, drop};
+ghost use Rattle.std.specs.Prelude.{◌≡◌, [], ◌∷◌, ◌≤◌, ◌-◌, min, length, take, drop, Err, IfErr};
 ghost use Rattle.sizes.specs.Basics.{pick, among};
 ghost use Rattle.grammar.specs.Layout.{little, big, any_number, the_number, a_version, a_bool, at_most, one_of, one_of_but, undigits};
 ghost use Rattle.grammar.specs.Conventions as grammar;
 ghost use Rattle.refusals.specs.Numbers.{number as number_of, by_number};
+ghost use Rattle.refusals.specs.declared.Reason.TheVariants.{Limit};
 ghost use Rattle.refusals.specs.Verdicts.{code};
 ghost use Rattle.layout.specs.Reads as spec;
 ghost use Rattle.layout.specs.Reads.{Reads, order, verdict};
@@ -99,9 +100,9 @@ pub fn field(s: &[u8], st: Step, w: usize, verdict: Verdict) -> Step
     let at = st?;
     let inside = w <= left(s, at);
     if inside {
-        match verdict {
-            Ok(()) => return Ok(at + w),
-            Err(reason) => return Err(Refusal { reason, place: at }),
+        match Reason::why(verdict) {
+            None => return Ok(at + w),
+            Some(reason) => return Err(Refusal { reason, place: at }),
         }
     }
     Err(Refusal {
@@ -114,7 +115,8 @@ pub fn field(s: &[u8], st: Step, w: usize, verdict: Verdict) -> Step
 
 // Fine where a test is passed; else for that reason.
 pub fn unless(passed: bool, reason: Reason) -> Verdict
-    ensures { code result ≡ pick passed 0 (number_of reason) }
+    ensures code { code result ≡ pick passed 0 (number_of reason) }
+    ensures reason { IfErr result (λ r. r ≡ reason) }
 {
     if passed { Ok(()) } else { Err(reason) }
 }
@@ -132,14 +134,16 @@ fn flag(v: u64) -> Verdict
 }
 
 pub fn limit(v: u64, n: u64) -> Verdict
-    ensures { code result ≡ verdict (at_most n) v }
+    ensures code { code result ≡ verdict (at_most n) v }
+    ensures reason { IfErr result (λ r. r ≡ Limit) }
 {
     unless(v <= n, Reason::Limit)
 }
 
 // Fine for one of two numbers, and that verdict for any other.
 pub fn unless_either(v: u64, a: u64, b: u64, otherwise: Verdict) -> Verdict
-    ensures { code result ≡ pick (among v (a ∷ b ∷ [])) 0 (code otherwise) }
+    ensures code { code result ≡ pick (among v (a ∷ b ∷ [])) 0 (code otherwise) }
+    ensures reason { IfErr result (λ r. otherwise ≡ Err r) }
 {
     if v == a || v == b {
         return Ok(());

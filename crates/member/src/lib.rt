@@ -1,11 +1,11 @@
 // The whole member.
 #![tactic(auto)]
 
-ghost use Rattle.std.specs.Prelude.{◌≡◌, ◌≤◌, ◌-◌, length, drop};
+ghost use Rattle.std.specs.Prelude.{◌≡◌, ◌≤◌, ◌-◌, length, drop, IfErr};
 ghost use Rattle.sizes.specs.Sizes.{member_bytes};
 ghost use Rattle.grammar.specs.Part.{part_of};
 ghost use Rattle.refusals.specs.Numbers.{by_number, number};
-ghost use Rattle.refusals.specs.Verdicts.{code};
+ghost use Rattle.refusals.specs.Verdicts.{code, Refuses};
 ghost use Rattle.layout.specs.Keeps.{Keeps};
 ghost use Rattle.grammar.specs.Laws.Layout.Check.{check};
 ghost use Rattle.grammar.specs.Rules.{cells_rule};
@@ -81,7 +81,8 @@ fn deliver(
     nodes: &mut [u32],
     cells: &mut [u32],
 ) -> Verdict
-    ensures { whole.Filled node_records.now cell_records.now nodes.old cells.old (code result) nodes.new cells.new }
+    ensures filled { whole.Filled node_records.now cell_records.now nodes.old cells.old (code result) nodes.new cells.new }
+    ensures reason { IfErr result Refuses }
 {
     let node_words = node_records.len();
     let cell_words = cell_records.len();

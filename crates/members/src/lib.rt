@@ -1,7 +1,8 @@
 // A night's members in one call: the members of a list, each read with its share of two areas (document 02, T-09).
 #![tactic(auto)]
 
-ghost use Rattle.std.specs.Prelude.{◌≡◌, ◌+◌, ◌*◌, ◌/◌, ◌<◌, ◌≤◌};
+ghost use Rattle.std.specs.Prelude.{◌≡◌, ◌+◌, ◌*◌, ◌/◌, ◌<◌, ◌≤◌, IfErr};
+ghost use Rattle.refusals.specs.declared.Reason.TheVariants.{BadList};
 ghost use Rattle.refusals.specs.Verdicts.{code};
 ghost use Rattle.grammar.specs.Laws.Member.Checked.{checked};
 ghost use Rattle.members.specs.Members.{members, list_refusal, member_at, InShare};
@@ -34,7 +35,8 @@ fn read_in_share(member: &[u8], n: usize, i: usize, nodes: &mut [u32], cells: &m
 
 // Why a whole list is refused, if it is: it has an odd number of words, or too many members.
 pub fn list_refusal(list: &[u32]) -> Verdict
-    ensures { code result ≡ list_refusal list.now }
+    ensures code { code result ≡ list_refusal list.now }
+    ensures reason { IfErr result (λ r. r ≡ BadList) }
 {
     let few = list.len() <= 2 * MOST_MEMBERS;
     let even = list.len() % 2 == 0;

@@ -2,9 +2,10 @@
 // the last of a slice counts as 0.
 #![tactic(auto)]
 
-ghost use Rattle.std.specs.Prelude.{◌≡◌, [], ◌∷◌, ◌+◌, ◌≤◌, min, length, MatchResult};
+ghost use Rattle.std.specs.Prelude.{◌≡◌, [], ◌∷◌, ◌+◌, ◌≤◌, min, length, IfErr, MatchResult};
 ghost use Rattle.sizes.specs.Sizes.{most_dimensions, most_places};
 ghost use Rattle.refusals.specs.Numbers.{number};
+ghost use Rattle.refusals.specs.Verdicts.{Refuses};
 ghost use Rattle.grammar.specs.RecordWords.{word};
 ghost use Rattle.grammar.specs.Index.{product, coordinate};
 ghost use Rattle.position.specs.Axes as axes;
@@ -140,7 +141,7 @@ impl<'a> Table<'a> {
     ) -> Result<Table<'a>, Reason>
         ensures { MatchResult result
             (λ t. (t.ns.now ≡ ns.now) × (t.layers ≡ layers) × (t.rows ≡ rows) × (t.columns ≡ columns) × (t.order.now ≡ order.now))
-            (λ r. number r ≡ answers.refusal ns.now layers rows columns order.now) }
+            (λ r. (number r ≡ answers.refusal ns.now layers rows columns order.now) × Refuses r) }
     {
         let d = ns.len();
         if MOST_DIMENSIONS < d || MOST_PLACES < places(ns) {
@@ -208,7 +209,8 @@ pub fn position_of(
     order: &[u32],
     k: u32,
 ) -> Result<Position, Reason>
-    ensures { position_view result ≡ answers.position ns.now layers rows columns order.now k }
+    ensures answer { position_view result ≡ answers.position ns.now layers rows columns order.now k }
+    ensures reason { IfErr result Refuses }
 {
     let table = Table::accept(ns, layers, rows, columns, order)?;
     if places(ns) <= u64::from(k) {
@@ -233,7 +235,8 @@ pub fn index_of(
     row: u32,
     column: u32,
 ) -> Result<u32, Reason>
-    ensures { index_view result ≡ answers.index_of ns.now layers rows columns order.now layer row column }
+    ensures answer { index_view result ≡ answers.index_of ns.now layers rows columns order.now layer row column }
+    ensures reason { IfErr result Refuses }
 {
     let table = Table::accept(ns, layers, rows, columns, order)?;
     if span(ns, table.layers()) <= u64::from(layer)

@@ -2,7 +2,7 @@
 use Rattle.std.specs.Prelude.{ℕ, Result, Ok, Err}
 use Rattle.refusals.specs.declared.Refusal.{Refusal}
 use Rattle.refusals.specs.declared.Reason.{Reason}
-use Rattle.refusals.specs.declared.Reason.TheVariants.{TooLong, DoesNotFit, FixedDiffers, Version, NotBool, RegionNotFilled, Limit, LeafIndex, Axes, CellIndex, BytesLeft, NodeArea, CellArea, Color, OutputTooShort, ZeroByte, NoSuchLeaf, NoCount, CaseState, CaseCode, CaseEnd, UnknownPage, NoCharacter, BadList, NoMeaning, Other}
+use Rattle.refusals.specs.declared.Reason.TheVariants.{TooLong, DoesNotFit, FixedDiffers, Version, NotBool, RegionNotFilled, Limit, LeafIndex, Axes, CellIndex, BytesLeft, NodeArea, CellArea, Color, OutputTooShort, ZeroByte, NoSuchLeaf, NoCount, CaseState, CaseCode, CaseEnd, UnknownPage, NoCharacter, BadList, NoMeaning, Other, NoRefusal}
 
 abbrev pub number : Reason → ℕ
 number TooLong = 1
@@ -31,6 +31,7 @@ number NoCharacter = 25
 number BadList = 26
 number NoMeaning = 29
 number (Other u) = u.number
+number NoRefusal = 0
 
 -- an answer with its refusal by number and place, as definitions have it
 abbrev pub by_number : {A : Type 0} → Result A Refusal → Result A (ℕ × ℕ)

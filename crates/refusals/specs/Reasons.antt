@@ -5,11 +5,11 @@ use Rattle.std.proofs.Props.{props}
 use Rattle.refusals.specs.Listed.{listed}
 use Rattle.refusals.specs.declared.Unlisted.{Unlisted}
 use Rattle.refusals.specs.declared.Reason.{Reason}
-use Rattle.refusals.specs.declared.Reason.TheVariants.{TooLong, DoesNotFit, FixedDiffers, Version, NotBool, RegionNotFilled, Limit, LeafIndex, Axes, CellIndex, BytesLeft, NodeArea, CellArea, Color, OutputTooShort, ZeroByte, NoSuchLeaf, NoCount, CaseState, CaseCode, CaseEnd, UnknownPage, NoCharacter, BadList, NoMeaning, Other}
+use Rattle.refusals.specs.declared.Reason.TheVariants.{TooLong, DoesNotFit, FixedDiffers, Version, NotBool, RegionNotFilled, Limit, LeafIndex, Axes, CellIndex, BytesLeft, NodeArea, CellArea, Color, OutputTooShort, ZeroByte, NoSuchLeaf, NoCount, CaseState, CaseCode, CaseEnd, UnknownPage, NoCharacter, BadList, NoMeaning, Other, NoRefusal}
 use Rattle.refusals.specs.Numbers.{number}
 
 reasons : List Reason
-reasons = TooLong ∷ DoesNotFit ∷ FixedDiffers ∷ Version ∷ NotBool ∷ RegionNotFilled ∷ Limit ∷ LeafIndex ∷ Axes ∷ CellIndex ∷ BytesLeft ∷ NodeArea ∷ CellArea ∷ Color ∷ OutputTooShort ∷ ZeroByte ∷ NoSuchLeaf ∷ NoCount ∷ CaseState ∷ CaseCode ∷ CaseEnd ∷ UnknownPage ∷ NoCharacter ∷ BadList ∷ NoMeaning ∷ []
+reasons = TooLong ∷ DoesNotFit ∷ FixedDiffers ∷ Version ∷ NotBool ∷ RegionNotFilled ∷ Limit ∷ LeafIndex ∷ Axes ∷ CellIndex ∷ BytesLeft ∷ NodeArea ∷ CellArea ∷ Color ∷ OutputTooShort ∷ ZeroByte ∷ NoSuchLeaf ∷ NoCount ∷ CaseState ∷ CaseCode ∷ CaseEnd ∷ UnknownPage ∷ NoCharacter ∷ BadList ∷ NoMeaning ∷ NoRefusal ∷ []
 
 -- the first of these with that number
 abbrev first : ℕ → List Reason → Reason
@@ -48,6 +48,7 @@ shown NoCharacter = inl (refl, refl)
 shown BadList = inl (refl, refl)
 shown NoMeaning = inl (refl, refl)
 shown (Other u) = inr (u, refl)
+shown NoRefusal = inl (refl, refl)
 
 apart : (n m : ℕ) → n ≡ m → listed n ≡ true → listed m ≡ false → ⊥
 apart n m e t f = cc

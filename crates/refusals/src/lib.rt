@@ -21,7 +21,8 @@ impl fmt::Display for Unlisted {
     }
 }
 
-// The rows of document 01's table "Refusal numbers" and of document 02, in their order; and any other number but 0.
+// The rows of document 01's table "Refusal numbers" and of document 02, in their order; any other number; and 0, which refuses nothing: no
+// answer here gives it, but a step that a caller hands in may have it.
 #[derive(Clone, Copy, Debug, PartialEq, Eq)]
 pub enum Reason {
     TooLong,
@@ -50,13 +51,15 @@ pub enum Reason {
     BadList,
     NoMeaning,
     Other(Unlisted),
+    NoRefusal,
 }
 
 impl Reason {
-    ghost use Rattle.std.specs.Prelude.{MatchOption};
+    ghost use Rattle.std.specs.Prelude.{MatchOption, not, eqb};
     ghost use Rattle.refusals.specs.Numbers.{number};
+    ghost use Rattle.refusals.specs.Verdicts.{code, Refuses};
 
-    // The reason that has this number; none has 0.
+    // The reason that this number gives a refusal; 0 gives none.
     pub fn of(n: u32) -> Option<Reason>
         ensures { MatchOption result (n ≡ 0) (λ reason. number reason ≡ n) }
     {
@@ -122,6 +125,29 @@ impl Reason {
             Reason::BadList => 26,
             Reason::NoMeaning => 29,
             Reason::Other(unlisted) => unlisted.number,
+            Reason::NoRefusal => 0,
+        }
+    }
+
+    // Whether it refuses at all.
+    #[inline(always)]
+    pub fn refuses(self) -> bool
+        ensures { eqb (number self) 0 ≡ not result }
+    {
+        match self {
+            Reason::NoRefusal => false,
+            _ => true,
+        }
+    }
+
+    // Why a verdict refuses, if it does: a test that gives `NoRefusal` is passed.
+    #[inline(always)]
+    pub fn why(verdict: Verdict) -> Option<Reason>
+        ensures { MatchOption result (code verdict ≡ 0) (λ reason. (number reason ≡ code verdict) × Refuses reason) }
+    {
+        match verdict {
+            Err(reason) if reason.refuses() => Some(reason),
+            _ => None,
         }
     }
 }
@@ -158,6 +184,7 @@ impl fmt::Display for Reason {
             Reason::NoMeaning =>
                 "a drawn separator whose style and width have no meaning, or an alignment that has none",
             Reason::Other(unlisted) => return unlisted.fmt(f),
+            Reason::NoRefusal => "no refusal",
         })
     }
 }

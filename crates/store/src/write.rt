@@ -23,7 +23,7 @@ fn raw(buf: &mut [u8], st: Step, text: &[u8], verdict: Verdict) -> Step
     ensures { Stores (code verdict) text.now buf.old st buf.new result }
 {
     let at = st?;
-    if let Err(reason) = verdict {
+    if let Some(reason) = Reason::why(verdict) {
         return Err(Refusal { reason, place: at });
     }
     if at <= buf.len() && text.len() <= buf.len() - at {
@@ -77,7 +77,7 @@ fn string_field(
     ensures { Stores (code verdict) (digits (order high) (min w 8) (length text.now) ++ text.now) buf.old st buf.new result }
 {
     let at = st?;
-    if let Err(reason) = verdict {
+    if let Some(reason) = Reason::why(verdict) {
         return Err(Refusal { reason, place: at });
     }
     if fits(buf.len(), at, width(w), text.len()) {

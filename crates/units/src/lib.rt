@@ -1,7 +1,8 @@
 // Points, pixels, and the height of a font. Points and pixels are types of their own: only the two conversions go from one to the other.
 #![tactic(auto)]
 
-ghost use Rattle.std.specs.Prelude.{◌≡◌};
+ghost use Rattle.std.specs.Prelude.{◌≡◌, IfErr};
+ghost use Rattle.refusals.specs.Verdicts.{Refuses};
 ghost use Rattle.units.specs.Units as spec;
 
 use refusals::{Reason, Refusal};
@@ -19,7 +20,8 @@ const NO_NUMBER: Refusal = Refusal {
 };
 
 pub fn pt_to_px(points: Pt) -> Result<Px, Refusal>
-    ensures { spec.pixels_of result ≡ spec.in_pixels points }
+    ensures answer { spec.pixels_of result ≡ spec.in_pixels points }
+    ensures reason { IfErr result (λ e. Refuses e.reason) }
 {
     let n = points.0;
     if n <= 1000000 {
@@ -30,7 +32,8 @@ pub fn pt_to_px(points: Pt) -> Result<Px, Refusal>
 }
 
 pub fn px_to_pt(pixels: Px) -> Result<Pt, Refusal>
-    ensures { spec.points_of result ≡ spec.in_points pixels }
+    ensures answer { spec.points_of result ≡ spec.in_points pixels }
+    ensures reason { IfErr result (λ e. Refuses e.reason) }
 {
     let n = pixels.0;
     if n <= 1330000 {
@@ -42,7 +45,8 @@ pub fn px_to_pt(pixels: Px) -> Result<Pt, Refusal>
 
 // The height of a font, in 96ths of an inch: its size is the negative of that.
 pub fn font_height(size: i32) -> Result<u32, Refusal>
-    ensures { spec.height_of result ≡ spec.height size }
+    ensures answer { spec.height_of result ≡ spec.height size }
+    ensures reason { IfErr result (λ e. Refuses e.reason) }
 {
     if size < 0 {
         Ok(size.unsigned_abs())

@@ -8,7 +8,7 @@ use Rattle.contents.proofs.readable.Goals.{then-version-eq1, else-version-eq1}
 
 pub returns-then-s-gt-MEMBER_BYTES : goal.returns-then-s-gt-MEMBER_BYTES
 unfolding unread pick among refusal
-returns-then-s-gt-MEMBER_BYTES c = (rw (lt-leb _ _ c.if-s-gt-MEMBER_BYTES.true), refl)
+returns-then-s-gt-MEMBER_BYTES c = (rw (lt-leb _ _ c.if-s-gt-MEMBER_BYTES.true), refl, refl)
 
 last : (b : Bool) → b ≡ b || false
 last true = refl
@@ -30,4 +30,4 @@ returns-else-known c =
       | then-version-eq1 w ↦ rw (w.known-is, eq-eqb _ _ w.if-version-eq1.true)
       | else-version-eq1 w ↦ rw (w.known-is, ne_eqb _ _ w.if-version-eq1.false) (last _)
     ] in
-    (rw (le-leb _ _ c.if-s-gt-MEMBER_BYTES.false, ← among, c.if-known.false), refl)
+    (rw (le-leb _ _ c.if-s-gt-MEMBER_BYTES.false, ← among, c.if-known.false), refl, refl)

@@ -9,6 +9,6 @@ pub returns : goal.returns
 unfolding PTTable_look_name
 returns c =
     plain c.section-st.ensures
-    ⟫ switch_puts (λ version. grammar.settings ▸ grammar.sections grammar.V2Styles) (omega arith) c.known_one.ensures c.number-st.ensures
+    ⟫ switch_puts (λ version. grammar.settings ▸ grammar.sections grammar.V2Styles) (omega arith) c.known_one.ensures.code c.number-st.ensures
     (plain c.settings-st.ensures
     ⟫ (plain c.separator_style-st.ensures ⟫ plain c.cell_style-st.ensures ⟫ c.text_style-st.ensures ⟫ c.v2_styles.ensures))

@@ -1,6 +1,5 @@
 use Rattle.std.proofs.Common.{sym, length-take-le}
 use Rattle.std.proofs.Math.Path.{refl}
-use Rattle.refusals.specs.Verdicts.{number_not_0}
 use Rattle.member.specs.Laws.Whole.{stored_room, all_delivered, none_delivered}
 use Rattle.member.proofs.read_with_lists.Goals as goal
 
@@ -17,7 +16,7 @@ pub slice_bounds-deliver-end-4 : goal.slice_bounds-deliver-end-4
 slice_bounds-deliver-end-4 c = sym (length-take-le _ _ (stored_room c.read_body-a.ensures).1)
 
 pub returns-in-Err : goal.returns-in-Err
-returns-in-Err c = rw (c.refused-a.ensures, c.number.ensures) (none_delivered c.read_body-a.ensures (rw c.in-Err.is at c.deliver.ensures) (number_not_0 c.in-Err.reason))
+returns-in-Err c = rw (c.refused-a.ensures, c.number.ensures) (none_delivered c.read_body-a.ensures (rw c.in-Err.is at c.deliver.ensures.filled) (rw c.in-Err.is at c.deliver.ensures.reason))
 
 pub returns-in_default : goal.returns-in_default
-returns-in_default c = all_delivered c.read_body-a.ensures (rw c.in_default.is at c.deliver.ensures) refl
+returns-in_default c = all_delivered c.read_body-a.ensures (rw c.in_default.is at c.deliver.ensures.filled) refl

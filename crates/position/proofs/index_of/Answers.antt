@@ -1,18 +1,23 @@
 -- Each way out gives the answer that the specification gives there.
 use Rattle.std.proofs.Common.{arith}
 use Rattle.std.proofs.lemmas.Result.{err_from_is_err_and}
-use Rattle.refusals.specs.Verdicts.{number_not_0}
 use Rattle.position.proofs.Answering.{spanned, no_cell, layer_outside, row_outside, column_outside, fit, cell_at}
 use Rattle.position.proofs.index_of.Goals as goal
 use Rattle.position.proofs.index_of.Goals.{then-span-from-via-then-span-from, then-span-from-via-else-span-from+then-span-from-2, then-span-from-via-else-span-from+else-span-from-2+then-span-from-3}
 
-pub returns-in_err-table : goal.returns-in_err-table
-returns-in_err-table c =
+pub returns-in_err-table-clause-answer : goal.returns-in_err-table-clause-answer
+returns-in_err-table-clause-answer c =
     let p = err_from_is_err_and c.from_residual.result c.from_residual.ensures.1 in
-    rw (p.1, p.2) (no_cell _ _ _ _ _ _ _ _ c.in_err-table.ensures (number_not_0 c.in_err-table.field-0.0))
+    let e = c.in_err-table.ensures in
+    rw (p.1, p.2) (no_cell _ _ _ _ _ _ _ _ e.0 e.1)
 
-pub returns-then-span-from : goal.returns-then-span-from
-returns-then-span-from c =
+pub returns-in_err-table-clause-reason : goal.returns-in_err-table-clause-reason
+returns-in_err-table-clause-reason c =
+    let p = err_from_is_err_and c.from_residual.result c.from_residual.ensures.1 in
+    rw (p.1, p.2) c.in_err-table.ensures.1
+
+pub returns-then-span-from-clause-answer : goal.returns-then-span-from-clause-answer
+returns-then-span-from-clause-answer c =
     let a = c.args in
     let e = c.in_ok-table.ensures in
     let none = rw (e.0, e.1, e.2, e.3, e.4) at c.in_ok-table.table.accepted in
@@ -38,8 +43,8 @@ index_at-requires c =
     let s = spanned a.ns.now a.layers a.rows a.columns a.order.now _ _ c.span-else-span-from-2.ensures (rw (e.1, e.2, e.3, e.4) at c.columns.ensures) in
     rw (e.0, e.1, e.2, e.3, e.4) (fit _ _ _ _ _ _ _ _ none p (omega arith) q (omega arith) s (omega arith))
 
-pub returns : goal.returns
-returns c =
+pub returns-clause-answer : goal.returns-clause-answer
+returns-clause-answer c =
     let a = c.args in
     let e = c.in_ok-table.ensures in
     let none = rw (e.0, e.1, e.2, e.3, e.4) at c.in_ok-table.table.accepted in

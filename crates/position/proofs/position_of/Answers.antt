@@ -1,17 +1,22 @@
 -- Each way out gives the answer that the specification gives there.
 use Rattle.std.proofs.Common.{arith}
 use Rattle.std.proofs.lemmas.Result.{err_from_is_err_and}
-use Rattle.refusals.specs.Verdicts.{number_not_0}
 use Rattle.position.proofs.Answering.{refused, outside, on_layers, on_rows, on_columns, stands}
 use Rattle.position.proofs.position_of.Goals as goal
 
-pub returns-in_err-table : goal.returns-in_err-table
-returns-in_err-table c =
+pub returns-in_err-table-clause-answer : goal.returns-in_err-table-clause-answer
+returns-in_err-table-clause-answer c =
     let p = err_from_is_err_and c.from_residual.result c.from_residual.ensures.1 in
-    rw (p.1, p.2) (refused _ _ _ _ _ _ c.in_err-table.ensures (number_not_0 c.in_err-table.field-0.0))
+    let e = c.in_err-table.ensures in
+    rw (p.1, p.2) (refused _ _ _ _ _ _ e.0 e.1)
 
-pub returns-then-places-from : goal.returns-then-places-from
-returns-then-places-from c =
+pub returns-in_err-table-clause-reason : goal.returns-in_err-table-clause-reason
+returns-in_err-table-clause-reason c =
+    let p = err_from_is_err_and c.from_residual.result c.from_residual.ensures.1 in
+    rw (p.1, p.2) c.in_err-table.ensures.1
+
+pub returns-then-places-from-clause-answer : goal.returns-then-places-from-clause-answer
+returns-then-places-from-clause-answer c =
     let e = c.in_ok-table.ensures in
     let none = rw (e.0, e.1, e.2, e.3, e.4) at c.in_ok-table.table.accepted in
     outside _ _ _ _ _ _ none c.places.ensures (omega arith) (omega arith)
@@ -34,8 +39,8 @@ along-requires-3 c =
     let none = rw (e.0, e.1, e.2, e.3, e.4) at c.in_ok-table.table.accepted in
     on_columns _ _ _ _ _ _ none c.places.ensures (omega arith) (rw (e.1, e.2, e.3, e.4) at c.columns.ensures)
 
-pub returns : goal.returns
-returns c =
+pub returns-clause-answer : goal.returns-clause-answer
+returns-clause-answer c =
     let e = c.in_ok-table.ensures in
     let none = rw (e.0, e.1, e.2, e.3, e.4) at c.in_ok-table.table.accepted in
     stands _ _ _ _ _ _ none c.places.ensures (omega arith) (rw (e.1, e.4) at c.layers.ensures) (rw (e.1, e.2, e.4) at c.rows.ensures) (rw (e.1, e.2, e.3, e.4) at c.columns.ensures)

@@ -11,4 +11,4 @@ returns-then-v-eq0 c = simp c.if-v-eq0.true
 
 pub returns : goal.returns
 unfolding verdict passes among refusal pick
-returns c = rw (c.unless_either.ensures, ne_eqb c.args.v 0 c.if-v-eq0.false)
+returns c = rw (c.unless_either.ensures.code, ne_eqb c.args.v 0 c.if-v-eq0.false)

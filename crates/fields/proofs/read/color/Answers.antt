@@ -8,10 +8,10 @@ use Rattle.fields.proofs.read.color.Goals as goal
 pub returns-in_err-at : goal.returns-in_err-at
 returns-in_err-at c =
     let p = err_from_is_err_and c.from_residual.result c.from_residual.ensures.1 in
-    rw (p.1, p.2) (tested_of c.in_err-at.ensures c.high_byte.ensures c.peek-v.ensures)
+    rw (p.1, p.2) (tested_of c.in_err-at.ensures c.high_byte.ensures.code c.peek-v.ensures)
 
 pub overflow_cast-result : goal.overflow_cast-result
 overflow_cast-result c = record { fits = peek_fits little 4 _ c.type_inv.s _ c.peek-v.ensures }
 
 pub returns : goal.returns
-returns c = number_gives (tested_of c.in_ok-at.ensures c.high_byte.ensures c.peek-v.ensures) c.peek-v.ensures
+returns c = number_gives (tested_of c.in_ok-at.ensures c.high_byte.ensures.code c.peek-v.ensures) c.peek-v.ensures

@@ -5,4 +5,4 @@ use Rattle.layout.proofs.number.either.Goals as goal
 
 pub returns : goal.returns
 unfolding verdict passes refusal
-returns c = c.unless_either.ensures
+returns c = c.unless_either.ensures.code

@@ -22,7 +22,7 @@ others true v a b n = rw (ne_eqb v a n) (one (eqb v b))
 others false v a b n = rw (ne_eqb v a n) (one (eqb v b))
 
 pub returns-then-v-a : goal.returns-then-v-a
-returns-then-v-a c = c.unless.ensures ∙ left_out _ _ _ _ c.if-v-a.true
+returns-then-v-a c = c.unless.ensures.code ∙ left_out _ _ _ _ c.if-v-a.true
 
 pub returns : goal.returns
-returns c = c.unless-2.ensures ∙ others _ _ _ _ c.if-v-a.false
+returns c = c.unless-2.ensures.code ∙ others _ _ _ _ c.if-v-a.false

@@ -5,4 +5,4 @@ use Rattle.layout.proofs.number.flag.Goals as goal
 
 pub returns : goal.returns
 unfolding verdict passes refusal
-returns c = c.unless.ensures
+returns c = c.unless.ensures.code

@@ -3,6 +3,6 @@ use Rattle.grammar.specs.Laws.Layout.Read.{refusal}
 use Rattle.layout.specs.Reads.{verdict}
 use Rattle.layout.proofs.number.limit.Goals as goal
 
-pub returns : goal.returns
+pub returns-clause-code : goal.returns-clause-code
 unfolding verdict passes refusal
-returns c = c.unless.ensures
+returns-clause-code c = c.unless.ensures.code

@@ -11,5 +11,5 @@ unfolding PTTable_look_name style_rule
 returns c =
     of_reads c.section-st.ensures.reads
     ⟩ switch_of (λ version. plain settings ▹ sections_rule (V2StylesIfRule (eqb version 2))) c.peek-v.ensures
-    (tested_of c.field-st.ensures c.known_two.ensures c.peek-v.ensures)
+    (tested_of c.field-st.ensures c.known_two.ensures.code c.peek-v.ensures)
     (of_reads (past_reads _ _ _ c.settings.ensures c.past-st.ensures) ⟩ c.sections.ensures)

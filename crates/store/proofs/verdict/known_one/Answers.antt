@@ -10,6 +10,6 @@ unfolding pick
 one true n = refl
 one false n = refl
 
-pub returns : goal.returns
+pub returns-clause-code : goal.returns-clause-code
 unfolding verdict passes refusal among
-returns c = c.unless.ensures ∙ one (eqb c.args.v c.args.a) 4
+returns-clause-code c = c.unless.ensures.code ∙ one (eqb c.args.v c.args.a) 4

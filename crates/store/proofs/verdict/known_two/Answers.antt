@@ -3,6 +3,6 @@ use Rattle.grammar.specs.Laws.Layout.Read.{refusal}
 use Rattle.layout.specs.Reads.{verdict}
 use Rattle.store.proofs.verdict.known_two.Goals as goal
 
-pub returns : goal.returns
+pub returns-clause-code : goal.returns-clause-code
 unfolding verdict passes refusal
-returns c = c.unless_either.ensures
+returns-clause-code c = c.unless_either.ensures.code

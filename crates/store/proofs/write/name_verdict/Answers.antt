@@ -20,4 +20,4 @@ returns-then-not-says c = long_of _ c.args.names.now c.args.n c.says.ensures c.i
 
 pub returns : goal.returns
 unfolding pick
-returns c = c.unless.ensures ∙ rw c.if-not-says.false at (verdict_of _ c.args.names.now c.args.n c.says.ensures c.fits.ensures)
+returns c = c.unless.ensures.code ∙ rw c.if-not-says.false at (verdict_of _ c.args.names.now c.args.n c.says.ensures c.fits.ensures)

@@ -2,8 +2,6 @@
 use Rattle.std.proofs.Common.{◌≡◌, refl, sym, ◌∙◌, Bool, true, false, List, ◌++◌, ℕ, ◌+◌, ◌≤◌, ◌<◌, length, length-append, leb, leb-true, leb-false, arith}
 use Rattle.std.specs.Prelude.{min}
 use Rattle.std.proofs.lemmas.Result.{err_from_is_err_and}
-use Rattle.refusals.specs.Numbers.{number}
-use Rattle.refusals.specs.Verdicts.{number_not_0}
 use Rattle.grammar.specs.Layout.{Order, digits}
 use Rattle.layout.specs.Reads.{order}
 use Rattle.grammar.specs.Laws.Layout.{digits_length}
@@ -22,18 +20,20 @@ returns-in_err-at c =
     let p = err_from_is_err_and c.from_residual.result c.from_residual.ensures.1 in
     rw (p.1, p.2, c.in_err-at.was) (stores_kept _ _ _ refl)
 
-pub returns-in-Err : goal.returns-in-Err
-returns-in-Err c = rw (c.in-Err.is, c.in_ok-at.was) (stores_refused _ _ (number c.in-Err.reason) (number_not_0 c.in-Err.reason) refl)
+pub returns-in-Some : goal.returns-in-Some
+returns-in-Some c =
+    let e = c.in-Some.ensures in
+    rw (c.in_ok-at.was, e.0) (stores_refused _ _ _ (rw e.0 at e.1) refl)
 
 pub returns-then-fits : goal.returns-then-fits
 returns-then-fits c =
     let a = c.args in
-    rw (c.in_default.is, c.in_ok-at.was) (stores_both c.in_ok-at.at refl
+    rw (c.in_default.ensures, c.in_ok-at.was) (stores_both c.in_ok-at.at refl
     (full (order a.high) a.w a.text.now a.buf.now c.in_ok-at.at c.width.result c.width.ensures c.fits.ensures c.if-fits.true)
     (rw c.in_ok-at.was at c.number-next.ensures) c.raw.ensures)
 
 pub returns : goal.returns
 returns c =
     let a = c.args in
-    rw (c.in_default.is, c.in_ok-at.was) (stores_short _ _ _ refl refl
+    rw (c.in_default.ensures, c.in_ok-at.was) (stores_short _ _ _ refl refl
     (too_long (order a.high) a.w a.text.now a.buf.now c.in_ok-at.at c.width.result c.width.ensures c.fits.ensures c.if-fits.false))

@@ -16,5 +16,5 @@ unfolding text_of
 returns c =
     let xs = c.args.text.now in
     record {
-      any = λ s. text_puts (bytes_of xs c.type_inv.text) (c.unless-verdict.ensures ∙ verdict_of _ s xs c.says.ensures) (λ z. refl) c.string_field.ensures;
+      any = λ s. text_puts (bytes_of xs c.type_inv.text) (c.unless-verdict.ensures.code ∙ verdict_of _ s xs c.says.ensures) (λ z. refl) c.string_field.ensures;
     }

@@ -12,4 +12,4 @@ float_to_bits-result c = rw c.nearest_u32_to_f32.ensures (whole_number binary32 
 
 pub returns : goal.returns
 unfolding size
-returns c = rw (c.nearest_u32_to_f32.ensures, c.unwrap_or-height.ensures, height_or c.font_height.result, c.font_height.ensures, to_z-of_z w32 c.args.font_size c.ranges.font_size, height_same c.args.font_size c.ranges.font_size)
+returns c = rw (c.nearest_u32_to_f32.ensures, c.unwrap_or-height.ensures, height_or c.font_height.result, c.font_height.ensures.answer, to_z-of_z w32 c.args.font_size c.ranges.font_size, height_same c.args.font_size c.ranges.font_size)
