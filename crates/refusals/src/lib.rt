@@ -21,8 +21,8 @@ impl fmt::Display for Unlisted {
     }
 }
 
-// The rows of document 01's table "Refusal numbers" and of document 02, in their order; any other number; and 0, which refuses nothing: no
-// answer here gives it, but a step that a caller hands in may have it.
+// The rows of document 01's table "Refusal numbers" and of document 02, in their order; any other number; and 0, which refuses nothing: it
+// arises nowhere here, but a step that a caller hands in may have it.
 #[derive(Clone, Copy, Debug, PartialEq, Eq)]
 pub enum Reason {
     TooLong,
@@ -61,7 +61,7 @@ impl Reason {
 
     // The reason that this number gives a refusal; 0 gives none.
     pub fn of(n: u32) -> Option<Reason>
-        ensures { MatchOption result (n ≡ 0) (λ reason. number reason ≡ n) }
+        ensures { MatchOption result (n ≡ 0) (λ reason. (number reason ≡ n) × Refuses reason) }
     {
         Some(match n {
             0 => return None,
