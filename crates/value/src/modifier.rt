@@ -119,10 +119,14 @@ pub fn modifiers(s: &[u8], st: Step) -> Step
     modifiers_at(whole(s), st?)
 }
 
+// Most Values have a 58 alone: that is seen first, and the test of the byte is left out where the compiler knows it.
 pub fn value_mod(s: &[u8], st: Step, version: u64) -> Step
     ensures { Reads (value.ValueMod version) s.now st result }
 {
     let x = peek(s, st, LITTLE, 1);
+    if x == 0x58 {
+        return one_of_two_but(s, st, 0x31, 0x58, version == 1);
+    }
     let at = one_of_two_but(s, st, 0x31, 0x58, version == 1);
     if x == 0x31 {
         modifiers_at(whole(s), at?)

@@ -1,5 +1,4 @@
-use mathlib.Core.Path.{ap}
-use borrow.Author.Tests.{eq-eqb, ne_eqb}
+use Rattle.std.proofs.Common.{◌≡◌, false, ap, eqb, eq-eqb, ne_eqb}
 use Rattle.std.proofs.lemmas.Result.{err_from_is_err_and}
 use Rattle.grammar.specs.Value.{ValueMod, Modifiers}
 use Rattle.refusals.specs.Numbers.{by_number}
@@ -7,6 +6,10 @@ use Rattle.layout.specs.Reads.{ReadsTo}
 use Rattle.layout.specs.Steps.{reads}
 use Rattle.layout.specs.Steps.Chain.{from_next, from_refused, in_same}
 use Rattle.value.proofs.modifier.value_mod.Goals as goal
+
+pub returns-then-x-eq88 : goal.returns-then-x-eq88
+unfolding ValueMod
+returns-then-x-eq88 c = let e : eqb c.peek-x.result 0x31 ≡ false = ap (λ x. eqb x 0x31) c.if-x-eq88.true in search reads depth 20
 
 pub returns-in_ok-at : goal.returns-in_ok-at
 unfolding ValueMod
