@@ -3,9 +3,9 @@ ghost use Rattle.look_words.specs.LookWords as spec;
 ghost use Rattle.store.specs.Puts.{PutsWords};
 
 use crate::word;
+use crate::words::put;
 use layout::Step;
 use look::{Alignment, Area, AreaColor, Font, MostAreas, Typeface};
-use store::words::put;
 use store::write::to_bits;
 
 fn area_color(out: &mut [u32], st: Step, x: AreaColor) -> Step

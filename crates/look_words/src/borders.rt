@@ -3,9 +3,9 @@ ghost use Rattle.grammar.specs.Layout.{spell_all};
 ghost use Rattle.look_words.specs.LookWords as spec;
 ghost use Rattle.store.specs.Puts.{PutsWords};
 
+use crate::words::put;
 use layout::Step;
 use look::{Frame, Frames, Lines, Separator};
-use store::words::put;
 
 fn separator(out: &mut [u32], st: Step, x: Separator) -> Step
     ensures { PutsWords (spec.separator x) out.old st out.new result }

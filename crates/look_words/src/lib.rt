@@ -3,6 +3,7 @@
 
 mod areas; // colors and styles
 mod borders; // separators
+mod words; // runs of words
 
 ghost use Rattle.std.specs.Prelude.{◌≡◌};
 ghost use Rattle.sizes.specs.Sizes.{look_answer_words};
@@ -17,11 +18,11 @@ ghost use Rattle.store.specs.Puts.{PutsWords, AtFront};
 
 use crate::areas::{area, most_areas};
 use crate::borders::{frames, lines};
+use crate::words::put;
 use layout::Step;
 use look::read::read_look;
 use look::{Continuation, Look, V2Styles};
 use sizes::{LOOK_ANSWER_WORDS, LOOK_WORDS, NO_PLACE};
-use store::words::put;
 
 // A place or a length as a word.
 fn word(n: usize) -> u32
