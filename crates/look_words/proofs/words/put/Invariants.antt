@@ -1,5 +1,5 @@
 -- The invariant: what is left to put, from here on, leads to what all the words lead to.
-use Rattle.std.proofs.Common.{◌≡◌, ◌≤◌, length, drop, Ok}
+use Rattle.std.proofs.Common.{◌≡◌, length, drop, Ok}
 use Rattle.store.specs.Put.{State, put_words}
 use Rattle.look_words.proofs.words.put.Given as goal
 
